@@ -1,0 +1,8 @@
+// Where a piece of a text stands.
+
+/// The bytes of a text from `start` up to, and not with, `end`; both count bytes from 0.
+#[derive(Clone, Copy, Debug, PartialEq, Eq)]
+pub struct Span {
+    pub start: usize,
+    pub end: usize,
+}
