@@ -1,10 +1,35 @@
 // The words that every crate speaks: numbers of a stated width, names, events and what a handler sends out.
 // Each type keeps its bounds as a fact of the type, and each operation equals its formula in specs/.
-// Stands on std alone. Nothing here but the making of a name takes memory.
+// Stands on std and a library of list types alone. Nothing here but the making of a name takes memory.
 #![tactic(auto)]
 
+mod args;
+mod array;
+mod bits;
+mod event;
+mod hash;
+mod id;
 mod memory;
+mod memory_alu;
+mod ops;
+mod outs;
 mod span;
+mod steps;
+#[cfg(test)]
+mod tests;
+mod width;
 
+pub use args::Args;
+pub use array::{ArrayDef, ArrayName};
+pub use bits::Bits;
+pub use event::{Event, Out, Target};
+pub use hash::hash_bits;
+pub use id::Id;
 pub use memory::Memory;
+pub use memory_alu::{MemAlu, MemArg, MemSide};
+pub use ops::{BinOp, CmpOp, UnOp, apply_bin, apply_un, cast, compare};
+pub use outs::Outs;
 pub use span::Span;
+pub use sqlite_items::{Boxed, Items};
+pub use steps::Steps;
+pub use width::Width;

@@ -1,0 +1,4 @@
+pub mod Folds
+pub mod Laws
+pub mod Small
+pub mod Widths
