@@ -1,0 +1,3 @@
+pub mod FilesInMemory
+pub mod Faults
+pub mod FileCalls

@@ -1,0 +1,63 @@
+// Named files that are read from their start, one at a time. Every reader above goes by these clauses alone.
+ghost use Rattle.std.specs.Prelude.{◌≡◌, ℕ, List, IsSome, MatchResult, Option, OnOk, OnErr};
+ghost use Rattle.std.specs.Io.{ReadsAtMost};
+ghost use Rattle.std.specs.Io.KnownBytes.{ReadConsumes};
+ghost use Rattle.lucid_io.specs.Counts.{plus_capped, Rose, NoneFell, SameCounts, AllRose, OthersKept};
+ghost use Rattle.lucid_io.specs.Contents.{SameHeld, Tells};
+
+/// A call on a file or a sink failed. Which count of faults rose says why.
+#[derive(Clone, Copy, Debug, PartialEq, Eq)]
+pub struct Failed;
+
+/// Files by name. `begin` turns to the first byte of one, and `read` gives the next bytes of the one begun.
+///
+/// What is told is `Some` of it; a type that leaves content to the machine tells `None`, and then nothing is claimed of it.
+pub trait Files {
+    /// The bytes of a name, where they are told. No call changes them.
+    ghost held: { Self → List ℕ → Option (List ℕ) };
+
+    /// Whether the file that was begun has this name.
+    ghost begun: { Self → List ℕ → Type 0 };
+
+    /// The bytes of the begun file that are still unread, where they are told.
+    ghost left: { Self → Option (List ℕ) };
+
+    /// How many bytes the begun file gave since its `begin`. It stops at the last u64.
+    ghost given: { Self → ℕ };
+
+    /// How many faults each name has met. A count never falls, and stands still at the last u64.
+    ghost faults: { Self → List ℕ → ℕ };
+
+    /// Begins the file of this name anew. `Failed` comes only where the name's count rose in this call.
+    fn begin(&mut self, name: &str) -> Result<(), Failed>
+        ensures held { SameHeld (held self.old) (held self.new) }
+        ensures begun { OnOk result (begun self.new name.now) }
+
+        // Two names may mean one begun file only where one of them isn't told. So a reader can say that it leaves the
+        // counts of all other told names alone.
+        ensures one { OnOk result ((other : List ℕ) → begun self.new other → IsSome (held self.old other) → other ≡ name.now) }
+        ensures left { OnOk result (Tells (held self.old name.now) (left self.new)) }
+        ensures given { given self.new ≡ 0 }
+
+        // the counts
+        ensures later { NoneFell (faults self.old) (faults self.new) }
+        ensures quiet { OnOk result (SameCounts (faults self.old) (faults self.new)) }
+        ensures cause { OnErr result (Rose (faults self.old name.now) (faults self.new name.now)) }
+        ensures others { OthersKept (λ other. other ≡ name.now) (held self.old) (faults self.old) (faults self.new) };
+
+    /// Moves the next unread bytes into the front of the room, and answers how many. None, for a room that isn't empty, means
+    /// the end of the file. `Failed` comes only where the count rose of every name that the begun file has.
+    fn read(&mut self, room: &mut [u8]) -> Result<usize, Failed>
+        ensures held { SameHeld (held self.old) (held self.new) }
+        ensures begun { (name : List ℕ) → begun self.old name → begun self.new name }
+        ensures no_other { (name : List ℕ) → begun self.new name → begun self.old name }
+        ensures bound { ReadsAtMost result room.new }
+        ensures bytes { ReadConsumes (left self.old) (left self.new) result room.new }
+        ensures given { MatchResult result (λ n. given self.new ≡ plus_capped (given self.old) n) (λ _. given self.new ≡ given self.old) }
+
+        // the counts
+        ensures later { NoneFell (faults self.old) (faults self.new) }
+        ensures quiet { OnOk result (SameCounts (faults self.old) (faults self.new)) }
+        ensures cause { OnErr result (AllRose (begun self.old) (faults self.old) (faults self.new)) }
+        ensures others { OthersKept (begun self.old) (held self.old) (faults self.old) (faults self.new) };
+}

@@ -1,0 +1,273 @@
+// Files in memory, which fail at the calls that their maker chooses. They tell everything.
+ghost use Rattle.std.specs.Prelude.{◌≡◌, ◌↔◌, ℕ, ◌+◌, ◌-◌, ◌^◌, ◌<◌, ◌≤◌, ◌++◌, List, [], Option, Some, length, map, min, take, drop, IsTrue, IsErr, IsSome, IfOk, OnOk, OnErr, MatchResult, unwrap_or};
+ghost use Rattle.std.specs.Option.{ForSome};
+ghost use Rattle.std.specs.Io.{ReadsAtMost};
+ghost use Rattle.std.specs.Io.KnownBytes.{ReadConsumes};
+ghost use Rattle.lucid_io.specs.Contents.{SameHeld, Tells};
+ghost use Rattle.lucid_io.specs.Counts.{plus_capped, Rose, NoneFell, SameCounts, AllRose, OthersKept, is_failing};
+ghost use Rattle.lucid_io.specs.MemFiles.{bytes_of, IsBegun, left_of, unread, faults_of, begin_fails, after_begin, after_failed_begin, after_read, after_failed_read, place_of, blamed_files, blamed_absent, left_at};
+
+use crate::counts::{next_fails, raise};
+use crate::files::{Failed, Files};
+use lucid_base::Memory;
+use std::alloc::{AllocError, Global};
+use std::marker::Model;
+
+/// A file in memory: its name and its bytes.
+#[derive(Drop)]
+pub struct MemFile {
+    pub name: String,
+    pub bytes: Vec<u8>,
+}
+
+// A file, and how many faults it has met.
+#[derive(Drop)]
+struct CountedFile {
+    file: MemFile,
+    faults: u64,
+}
+
+/// Files by name. Of two with one name the first counts. One count of faults is kept for each file, and one for all names
+/// that aren't there; a read that fails with nothing begun raises the latter.
+///
+/// Contracts see a `MemFilesView` of specs/MemFiles, which also says what each call makes of it.
+#[derive(Drop)]
+pub struct MemFiles {
+    files: Vec<CountedFile>,
+    absent: u64,
+    fails: Vec<u64>,
+    calls: u64,
+    begun: Option<usize>,
+    given: usize,
+}
+
+impl Model for MemFiles {
+    ghost use Rattle.std.specs.Prelude.{map};
+    ghost use Rattle.lucid_io.specs.MemFiles.{MemFilesView};
+
+    ghost Value = { MemFilesView };
+
+    ghost use Rattle.lucid_io.specs.MemFilesFields.{file_view, IsThere, IsWithin};
+
+    ghost view = { λ s. record { files = map file_view s.files.items; absent = s.absent; fails = s.fails.items; calls = s.calls; begun = s.begun; given = s.given } };
+
+    ghost invariant = { λ s. IsThere (map file_view s.files.items) s.begun × IsWithin (map file_view s.files.items) s.begun s.given };
+}
+
+impl MemFiles {
+    ghost use Rattle.lucid_io.specs.MemFilesFields.{new_files};
+
+    /// These files, with nothing begun and no count above 0. The calls of `begin` and `read` whose numbers stand in `fails`
+    /// fail; they are numbered together from 0, and the number stays at the last u64.
+    pub fn new(alloc: Global, files: Vec<MemFile>, fails: Vec<u64>) -> Result<MemFiles, Memory>
+        ensures { IfOk result (λ s. s ≡ new_files files.items fails.items) }
+    {
+        Ok(MemFiles {
+            files: counted(alloc, files)?,
+            absent: 0,
+            fails,
+            calls: 0,
+            begun: None,
+            given: 0,
+        })
+    }
+
+    // `begin`, in exact terms.
+    fn turn_to(&mut self, name: &str) -> Result<(), Failed>
+        ensures fails { IsErr result ↔ IsTrue (begin_fails self.old name.now) }
+        ensures ok { OnOk result (self.new ≡ after_begin self.old name.now) }
+        ensures err { OnErr result (self.new ≡ after_failed_begin self.old name.now) }
+    {
+        let place = place(&self.files, name);
+        let fails = next_fails(&self.fails, &mut self.calls);
+        self.given = 0;
+        if fails || place.is_none() {
+            self.begun = None;
+            blame(&mut self.files, &mut self.absent, place);
+            return Err(Failed);
+        }
+        self.begun = place;
+        Ok(())
+    }
+
+    // `read`, in exact terms.
+    fn give(&mut self, room: &mut [u8]) -> Result<usize, Failed>
+        ensures fails { IsErr result ↔ IsTrue (is_failing self.old.fails self.old.calls) }
+        ensures count { IfOk result (λ n. n ≡ min (length room.old) (length (unread self.old))) }
+        ensures room { IfOk result (λ n. room.new ≡ take n (unread self.old) ++ drop n room.old) }
+        ensures ok { IfOk result (λ n. self.new ≡ after_read self.old n) }
+        ensures err { OnErr result (self.new ≡ after_failed_read self.old) }
+        ensures small { self.new.given < 2 ^ 64 }
+    {
+        if next_fails(&self.fails, &mut self.calls) {
+            blame(&mut self.files, &mut self.absent, self.begun);
+            return Err(Failed);
+        }
+        let count = copy_rest(&self.files, self.begun, self.given, room);
+        self.given += count;
+        Ok(count)
+    }
+}
+
+impl Files for MemFiles {
+    ghost held = { bytes_of };
+
+    ghost begun = { IsBegun };
+
+    ghost left = { left_of };
+
+    ghost given = { λ s. s.given };
+
+    ghost faults = { faults_of };
+
+    /// Fails exactly where the call's number stands in `fails`, or no file has the name; then nothing is begun.
+    fn begin(&mut self, name: &str) -> Result<(), Failed>
+        // exactly
+        ensures fails { IsErr result ↔ IsTrue (begin_fails self.old name.now) }
+        ensures ok { OnOk result (self.new ≡ after_begin self.old name.now) }
+        ensures err { OnErr result (self.new ≡ after_failed_begin self.old name.now) }
+
+        // as all files
+        ensures held { SameHeld (bytes_of self.old) (bytes_of self.new) }
+        ensures begun { OnOk result (IsBegun self.new name.now) }
+        ensures one { OnOk result ((other : List ℕ) → IsBegun self.new other → IsSome (bytes_of self.old other) → other ≡ name.now) }
+        ensures left { OnOk result (Tells (bytes_of self.old name.now) (left_of self.new)) }
+        ensures given { self.new.given ≡ 0 }
+        ensures later { NoneFell (faults_of self.old) (faults_of self.new) }
+        ensures quiet { OnOk result (SameCounts (faults_of self.old) (faults_of self.new)) }
+        ensures cause { OnErr result (Rose (faults_of self.old name.now) (faults_of self.new name.now)) }
+        ensures others { OthersKept (λ other. other ≡ name.now) (bytes_of self.old) (faults_of self.old) (faults_of self.new) }
+    {
+        self.turn_to(name)
+    }
+
+    /// Fails exactly where the call's number stands in `fails`; else gives as many bytes as are left and fit the room.
+    fn read(&mut self, room: &mut [u8]) -> Result<usize, Failed>
+        // exactly
+        ensures fails { IsErr result ↔ IsTrue (is_failing self.old.fails self.old.calls) }
+        ensures count { IfOk result (λ n. n ≡ min (length room.old) (length (unread self.old))) }
+        ensures room { IfOk result (λ n. room.new ≡ take n (unread self.old) ++ drop n room.old) }
+        ensures ok { IfOk result (λ n. self.new ≡ after_read self.old n) }
+        ensures err { OnErr result (self.new ≡ after_failed_read self.old) }
+
+        // as all files
+        ensures held { SameHeld (bytes_of self.old) (bytes_of self.new) }
+        ensures begun { (name : List ℕ) → IsBegun self.old name → IsBegun self.new name }
+        ensures no_other { (name : List ℕ) → IsBegun self.new name → IsBegun self.old name }
+        ensures bound { ReadsAtMost result room.new }
+        ensures bytes { ReadConsumes (left_of self.old) (left_of self.new) result room.new }
+        ensures given { MatchResult result (λ n. self.new.given ≡ plus_capped self.old.given n) (λ _. self.new.given ≡ self.old.given) }
+        ensures later { NoneFell (faults_of self.old) (faults_of self.new) }
+        ensures quiet { OnOk result (SameCounts (faults_of self.old) (faults_of self.new)) }
+        ensures cause { OnErr result (AllRose (IsBegun self.old) (faults_of self.old) (faults_of self.new)) }
+        ensures others { OthersKept (IsBegun self.old) (bytes_of self.old) (faults_of self.old) (faults_of self.new) }
+    {
+        self.give(room)
+    }
+}
+
+ghost use Rattle.lucid_io.specs.MemFilesFields.{file_view, unfaulted, IsThere, IsWithin};
+
+// The files, with no fault met.
+fn counted(alloc: Global, files: Vec<MemFile>) -> Result<Vec<CountedFile>, AllocError>
+    ensures { IfOk result (λ v. v.items ≡ map unfaulted files.items) }
+{
+    files
+        .into_iter()
+        .map(|file| CountedFile { file, faults: 0 })
+        .collect(alloc)
+}
+
+// The place of the first file of this name.
+fn place(files: &Vec<CountedFile>, name: &str) -> Option<usize>
+    ensures first { result ≡ place_of (map file_view files.now.items) name.now }
+    ensures there { IsThere (map file_view files.now.items) result }
+{
+    for (place, counted) in files.iter().enumerate() {
+        if counted.file.name.as_str() == name {
+            return Some(place);
+        }
+    }
+    None
+}
+
+// Raises the count of the file at this place, or, with no place, that of all names that aren't there.
+fn blame(files: &mut Vec<CountedFile>, absent: &mut u64, place: Option<usize>)
+    requires { IsThere (map file_view files.old.items) place }
+    ensures files { map file_view files.new.items ≡ blamed_files (map file_view files.old.items) place }
+    ensures absent { absent.new ≡ blamed_absent absent.old place }
+{
+    match place {
+        Some(place) => raise(&mut files[place].faults),
+        None => raise(absent),
+    }
+}
+
+// Copies what the begun file has left into the front of the room, as much as fits, and answers how much.
+fn copy_rest(files: &Vec<CountedFile>, begun: Option<usize>, given: usize, room: &mut [u8]) -> usize
+    requires there { IsThere (map file_view files.now.items) begun }
+    requires within { IsWithin (map file_view files.now.items) begun given }
+    ensures count { result ≡ min (length room.old) (length (unwrap_or (left_at (map file_view files.now.items) begun given) [])) }
+    ensures room { room.new ≡ take result (unwrap_or (left_at (map file_view files.now.items) begun given) []) ++ drop result room.old }
+    ensures still { IsWithin (map file_view files.now.items) begun (given + result) }
+    ensures small { given + result < 2 ^ 64 }
+{
+    match begun {
+        Some(place) => copy(&files[place].file.bytes, given, room),
+        None => 0,
+    }
+}
+
+// Copies the bytes from a place on into the front of the room, as many as fit, and answers how many.
+fn copy(bytes: &Vec<u8>, from: usize, room: &mut [u8]) -> usize
+    requires { from ≤ length bytes.now.items }
+    ensures count { result ≡ min (length room.old) (length bytes.now.items - from) }
+    ensures room { room.new ≡ take result (drop from bytes.now.items) ++ drop result room.old }
+    ensures small { from + result < 2 ^ 64 }
+{
+    let left = &bytes[from..];
+    let count = room.len().min(left.len());
+    room[..count].copy_from_slice(&left[..count]);
+    count
+}
+
+#[cfg(test)]
+mod tests {
+    use super::{MemFile, MemFiles};
+    use crate::{Take, read_all};
+    use std::test::Fail;
+
+    #[test]
+    fn reads_files_in_memory(rt: HostRuntime) -> Result<(), Fail> {
+        let alloc = rt.alloc();
+        let mut held = Vec::new(alloc);
+        for (name, bytes) in [
+            ("a", b"event".as_slice()),
+            ("a", b"second".as_slice()),
+            ("b", b"".as_slice()),
+        ] {
+            let name = String::from_str(alloc, name)?;
+            let bytes = bytes.to_vec(alloc)?;
+            held.push(MemFile { name, bytes })?;
+        }
+
+        // A small file takes three calls: `begin`, a read of its bytes and one at its end. Call 11 reads for the third `a`.
+        let mut files = MemFiles::new(alloc, held, [11].to_vec(alloc)?)?;
+        for (name, limit, want) in [
+            ("a", 5, Ok(b"event".as_slice())),
+            ("a", 4, Err(Take::TooLong)),
+            ("c", 5, Err(Take::ReadFault)),
+            ("b", 0, Ok(b"".as_slice())),
+            ("b", 5, Ok(b"".as_slice())),
+            ("a", 5, Err(Take::ReadFault)),
+            ("a", 5, Ok(b"event".as_slice())),
+        ] {
+            match (read_all(alloc, &mut files, name, limit), want) {
+                (Ok(bytes), Ok(want)) => assert_eq!(rt; bytes.as_slice(), want, "{name} {limit}"),
+                (Err(error), Err(want)) => assert_eq!(rt; error, want, "{name} {limit}"),
+                _ => assert!(rt; false, "{name} {limit}"),
+            }
+        }
+        Ok(())
+    }
+}

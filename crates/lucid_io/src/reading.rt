@@ -1,0 +1,82 @@
+// A whole file, up to a limit.
+ghost use Rattle.std.specs.Prelude.{◌≡◌, ◌⊎◌, ℕ, ◌+◌, ◌^◌, ◌<◌, ◌≤◌, length, IfSome, IfOk, OnOk};
+ghost use Rattle.lucid_io.specs.Counts.{Rose, NoneFell, SameCounts, OthersKept};
+ghost use Rattle.lucid_io.specs.Contents.{SameHeld};
+
+use crate::files::Files;
+use std::alloc::{AllocError, Global};
+
+/// Why a file was not taken whole.
+#[derive(Clone, Copy, Debug, PartialEq, Eq)]
+pub enum Take {
+    /// A call on the file failed.
+    ReadFault,
+    /// The file has more bytes than the limit.
+    TooLong,
+    /// Memory ran out.
+    Memory,
+}
+
+impl From<AllocError> for Take {
+    ghost use Rattle.std.specs.Prelude.{◌≡◌};
+    ghost use Rattle.lucid_io.specs.declared.reading.Take.TheVariants.{Memory};
+
+    ghost from_gives = { λ _ e. e ≡ Memory };
+
+    fn from(_error: AllocError) -> Take {
+        Take::Memory
+    }
+}
+
+// How many bytes one read may give.
+const CHUNK: usize = 4096;
+
+/// The bytes of a file, from its start to its end, which are at most `limit`.
+///
+/// `ReadFault` comes only where the name's count of faults rose in this call. `TooLong` comes exactly where the file gave
+/// `limit + 1` bytes, unless memory ran out. So where no count of the name rose and the file tells at most `limit` bytes,
+/// the answer is those bytes, or want of memory. No more than `limit + 1` bytes are ever taken.
+///
+/// Each turn of the loop makes one read, and each but the last takes a byte of the `limit + 1`: this is the loop's measure.
+/// So there are at most `limit + 2` reads.
+pub fn read_all<F: Files>(
+    alloc: Global,
+    files: &mut F,
+    name: &str,
+    limit: usize,
+) -> Result<Vec<u8>, Take>
+    requires { limit < 2 ^ 32 }
+
+    // the bytes
+    ensures bytes { IfOk result (λ v. IfSome (F.held files.old name.now) (λ bytes. v.items ≡ bytes)) }
+    ensures within { IfOk result (λ v. length v.items ≤ limit) }
+    ensures given { IfOk result (λ v. F.given files.new ≡ length v.items) }
+    ensures no_more { F.given files.new ≤ limit + 1 }
+
+    // when each error comes
+    ensures read_fault { result ≡ Err Take.ReadFault → Rose (F.faults files.old name.now) (F.faults files.new name.now) }
+    ensures too_long { result ≡ Err Take.TooLong → F.given files.new ≡ limit + 1 }
+    ensures gave_more { F.given files.new ≡ limit + 1 → (result ≡ Err Take.TooLong) ⊎ (result ≡ Err Take.Memory) }
+    ensures longer { result ≡ Err Take.TooLong → IfSome (F.held files.old name.now) (λ bytes. limit < length bytes) }
+
+    // what stays the same
+    ensures held { SameHeld (F.held files.old) (F.held files.new) }
+    ensures later { NoneFell (F.faults files.old) (F.faults files.new) }
+    ensures quiet { OnOk result (SameCounts (F.faults files.old) (F.faults files.new)) }
+    ensures others { OthersKept (λ other. other ≡ name.now) (F.held files.old) (F.faults files.old) (F.faults files.new) }
+{
+    let mut bytes = Vec::new(alloc);
+    if files.begin(name).is_err() {
+        return Err(Take::ReadFault);
+    }
+    let mut room = [0u8; CHUNK];
+    'fill: while bytes.len() <= limit {
+        let wanted = CHUNK.min(limit + 1 - bytes.len());
+        match files.read(&mut room[..wanted]) {
+            Ok(0) => return Ok(bytes),
+            Ok(count) => bytes.extend_from_slice(&room[..count])?,
+            Err(_) => return Err(Take::ReadFault),
+        }
+    }
+    Err(Take::TooLong)
+}

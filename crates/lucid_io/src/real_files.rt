@@ -1,0 +1,123 @@
+// The machine's files. No content is told, and every error is counted.
+ghost use Rattle.std.specs.Prelude.{◌≡◌, ℕ, List};
+ghost use Rattle.std.specs.Io.{ReadsAtMost};
+ghost use Rattle.lucid_io.specs.Counts.{raised};
+
+use crate::counts::raise;
+use crate::files::{Failed, Files};
+use std::fs;
+use std::io::Read;
+
+/// Files by path, opened for reading. One count of faults serves all names, and what is begun has every name.
+#[derive(Drop)]
+pub struct RealFiles<R: fs::Files + Drop> {
+    rt: R,
+    file: Option<R::File>,
+    given: u64,
+    faults: u64,
+}
+
+impl<R: fs::Files + Drop> RealFiles<R> {
+    /// The files of this runtime, with nothing given and no fault met.
+    pub fn new(rt: R) -> RealFiles<R>
+        ensures given { ⟦<RealFiles<R> as Files>⟧.given result ≡ 0 }
+        ensures faults { (name : List ℕ) → ⟦<RealFiles<R> as Files>⟧.faults result name ≡ 0 }
+    {
+        RealFiles {
+            rt,
+            file: None,
+            given: 0,
+            faults: 0,
+        }
+    }
+
+    // Counts a fault.
+    fn fail(&mut self) -> Failed
+        ensures faults { self.new.faults ≡ raised self.old.faults }
+        ensures given { self.new.given ≡ self.old.given }
+    {
+        raise(&mut self.faults);
+        Failed
+    }
+}
+
+impl<R: fs::Files + Drop> Files for RealFiles<R> {
+    ghost use Rattle.std.specs.Prelude.{None};
+
+    ghost held = { λ _ name. None };
+
+    ghost begun = { λ _ name. Unit {0} };
+
+    ghost left = { λ _. None };
+
+    ghost given = { λ s. s.given };
+
+    ghost faults = { λ s name. s.faults };
+
+    /// Opens the file. One that was begun before is closed. Want of memory that the machine meets here is a fault too.
+    fn begin(&mut self, name: &str) -> Result<(), Failed> {
+        self.given = 0;
+        self.file = None;
+        match fs::open(&self.rt, name) {
+            Ok(file) => {
+                self.file = Some(file);
+                Ok(())
+            }
+            Err(_) => Err(self.fail()),
+        }
+    }
+
+    /// Reads on. It fails with no file open.
+    fn read(&mut self, room: &mut [u8]) -> Result<usize, Failed> {
+        match read_some(&mut self.file, room) {
+            Ok(count) => {
+                self.given = self.given.saturating_add(count as u64);
+                Ok(count)
+            }
+            Err(_) => Err(self.fail()),
+        }
+    }
+}
+
+// A read of the open file, if there is one.
+fn read_some<F: Read>(file: &mut Option<F>, room: &mut [u8]) -> Result<usize, Failed>
+    ensures { ReadsAtMost result room.new }
+{
+    match file {
+        Some(file) => match file.read(room) {
+            Ok(count) => Ok(count),
+            Err(_) => Err(Failed),
+        },
+        None => Err(Failed),
+    }
+}
+
+#[cfg(test)]
+mod tests {
+    use crate::{RealFiles, Take, read_all};
+    use std::fs;
+    use std::test::Fail;
+
+    const PATH: &str = "lucid_io_real_files.txt";
+
+    #[test]
+    fn reads_a_file_of_the_machine(rt: HostRuntime) -> Result<(), Fail> {
+        fs::write(&rt, PATH, "event e();\n")?;
+        let mut files = RealFiles::new(rt.clone()?);
+        let whole = read_all(rt.alloc(), &mut files, PATH, 11)?;
+        assert_eq!(rt; whole.as_slice(), b"event e();\n".as_slice());
+        assert_eq!(rt;
+            read_all(rt.alloc(), &mut files, PATH, 10).err(),
+            Some(Take::TooLong)
+        );
+        fs::remove_file(&rt, PATH)?;
+        for name in [PATH, "."] {
+            assert_eq!(rt;
+                read_all(rt.alloc(), &mut files, name, 11).err(),
+                Some(Take::ReadFault),
+                "{name}"
+            );
+        }
+        Ok(())
+    }
+}
