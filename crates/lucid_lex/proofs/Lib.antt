@@ -1,0 +1,11 @@
+pub mod Ascii
+pub mod Classes
+pub mod Comments
+pub mod Numerals
+pub mod Runs
+pub mod Spellings
+pub mod Shapes
+pub mod Fronts
+pub mod Longest
+pub mod Readings
+pub mod Quotes

@@ -1,0 +1,20 @@
+// The tokens of a text. `lex` answers exactly how a text is read, or the first offset at which nothing can be; the rest
+// gives the bytes of a token. What "read" means is said in specs/: Piece.antt has the pieces of a text, each by the bytes
+// that write it, and Reading.antt has whole texts. Stands on std, and on lucid_base for places in a text.
+#![tactic(auto)]
+
+mod byte;
+mod front;
+mod lexer;
+mod reader;
+mod sign;
+#[cfg(test)]
+mod tests;
+mod token;
+mod word;
+
+pub use lexer::lex;
+pub use reader::{quoted, text_of, tokens_stand};
+pub use sign::Sign;
+pub use token::{Kind, LexError, Token};
+pub use word::Word;

@@ -1,0 +1,47 @@
+// What a text is cut into, and what a refusal says.
+ghost use Rattle.std.specs.Prelude.{◌≡◌};
+ghost use Rattle.lucid_lex.specs.declared.token.LexError.TheVariants.{Memory};
+
+use crate::sign::Sign;
+use crate::word::Word;
+use lucid_base::Span;
+use std::alloc::AllocFailed;
+
+/// What a token is. Two names, and two texts, differ by their bytes alone, which stand in the text at the span.
+#[derive(Clone, Copy, Debug, PartialEq, Eq)]
+pub enum Kind {
+    /// A name, which is no reserved word.
+    Name,
+    /// A number below 2 ^ 64, written in decimal or, after `0x`, in hexadecimal digits.
+    Number(u64),
+    /// A text between quotes.
+    Text,
+    /// A reserved word.
+    Word(Word),
+    /// A sign.
+    Sign(Sign),
+}
+
+/// A token and where it stands. The span of a text has both its quotes.
+#[derive(Clone, Copy, Debug, PartialEq, Eq)]
+pub struct Token {
+    pub kind: Kind,
+    pub span: Span,
+}
+
+/// Why a text has no tokens.
+#[derive(Clone, Copy, Debug, PartialEq, Eq)]
+pub enum LexError {
+    /// No token, blank or comment begins at this byte, counted from 0.
+    NoToken(usize),
+    /// Memory ran out.
+    Memory,
+}
+
+impl<T: Drop> From<AllocFailed<T>> for LexError {
+    ghost from_gives = { λ _ e. e ≡ Memory };
+
+    fn from(_error: AllocFailed<T>) -> LexError {
+        LexError::Memory
+    }
+}

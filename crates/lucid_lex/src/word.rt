@@ -1,0 +1,106 @@
+// The reserved words. A word is added here, in WORDS and in specs/Word.antt, and nowhere else.
+ghost use Rattle.std.specs.Prelude.{◌≡◌, find, bytes_eq};
+ghost use Rattle.lucid_lex.specs.Word.{word_text, word_in};
+
+/// A reserved word, which is never a name.
+#[derive(Clone, Copy, Debug, PartialEq, Eq)]
+pub enum Word {
+    Const,
+    Global,
+    Memop,
+    Event,
+    Handle,
+    Fun,
+    If,
+    Else,
+    Return,
+    Generate,
+    Printf,
+    Int,
+    Bool,
+    Void,
+    True,
+    False,
+    Hash,
+    /// `SELF`, the switch's own number.
+    Me,
+    /// `Array`, before the calls on arrays.
+    ArrayCalls,
+    /// `Event`, before the calls on events.
+    EventCalls,
+    /// `Sys`, before the calls on the switch.
+    SysCalls,
+    Match,
+    With,
+    Group,
+}
+
+/// Every reserved word.
+const WORDS: [Word; 24] = [
+    Word::Const,
+    Word::Global,
+    Word::Memop,
+    Word::Event,
+    Word::Handle,
+    Word::Fun,
+    Word::If,
+    Word::Else,
+    Word::Return,
+    Word::Generate,
+    Word::Printf,
+    Word::Int,
+    Word::Bool,
+    Word::Void,
+    Word::True,
+    Word::False,
+    Word::Hash,
+    Word::Me,
+    Word::ArrayCalls,
+    Word::EventCalls,
+    Word::SysCalls,
+    Word::Match,
+    Word::With,
+    Word::Group,
+];
+
+impl Word {
+    /// How the word is written.
+    pub fn text(self) -> &'static [u8]
+        ensures { result.now ≡ word_text self }
+    {
+        match self {
+            Word::Const => b"const",
+            Word::Global => b"global",
+            Word::Memop => b"memop",
+            Word::Event => b"event",
+            Word::Handle => b"handle",
+            Word::Fun => b"fun",
+            Word::If => b"if",
+            Word::Else => b"else",
+            Word::Return => b"return",
+            Word::Generate => b"generate",
+            Word::Printf => b"printf",
+            Word::Int => b"int",
+            Word::Bool => b"bool",
+            Word::Void => b"void",
+            Word::True => b"true",
+            Word::False => b"false",
+            Word::Hash => b"hash",
+            Word::Me => b"SELF",
+            Word::ArrayCalls => b"Array",
+            Word::EventCalls => b"Event",
+            Word::SysCalls => b"Sys",
+            Word::Match => b"match",
+            Word::With => b"with",
+            Word::Group => b"group",
+        }
+    }
+}
+
+/// The reserved word that is written so, if one is.
+#[tactic(auto, unfolding(crate::specs::Word::word_in))]
+pub(crate) fn word_in(bytes: &[u8]) -> Option<Word>
+    ensures { result ≡ word_in bytes.now }
+{
+    WORDS.iter().copied().find(|word| word.text() == bytes)
+}
