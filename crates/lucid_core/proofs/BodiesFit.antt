@@ -1,0 +1,177 @@
+-- In a sound program each body keeps the state fine, so all that a handler sends out fits.
+use Rattle.std.proofs.Common.{◌≡◌, ℕ, ◌≤◌, List, [], ◌∷◌, ◌++◌, true, false, ◌&&◌, ◌||◌, not, map, length, Option, None, Some, refl, sym, ap, subst, arith, append_assoc, append-nil, All, IsTrue, is_some, nat_le, slice_get, option_and_then}
+use Rattle.std.specs.List.{list_all}
+use Rattle.std.proofs.lemmas.Bool.{and_parts, leb-true}
+use Rattle.std.proofs.lemmas.List.Sums.{AllPass-from_list_all}
+use Rattle.lucid_base.specs.declared.bits.Bits.{Bits}
+use Rattle.lucid_base.specs.declared.event.Event.{Event}
+use Rattle.lucid_base.specs.declared.event.Out.{Out}
+use Rattle.lucid_core.specs.declared.body.Expr.{Expr}
+use Rattle.lucid_core.specs.declared.body.Stmt.{Stmt}
+use Rattle.lucid_core.specs.declared.body.Touch.{Touch}
+use Rattle.lucid_core.specs.declared.body.Expr.TheOpen.{Expr-F, Stmt-F, Touch-F}
+use Rattle.lucid_core.specs.declared.body.Expr.TheViews.{roll-Expr, roll-Stmt, roll-Touch}
+use Rattle.lucid_core.specs.declared.body.Expr.TheFolds.{fold-roll-Expr, fold-roll-Stmt, fold-roll-Touch, ind-Stmt}
+use Rattle.lucid_core.specs.declared.defs.FunDef.{FunDef}
+use Rattle.lucid_core.specs.declared.defs.HandlerDef.{HandlerDef}
+use Rattle.lucid_core.specs.Acts.{Act, Effect, Frame, Fun, State, begun_with}
+use Rattle.lucid_core.specs.Fits.{out_fits}
+use Rattle.lucid_core.specs.Meaning as m
+use Rattle.lucid_core.specs.Meaning.{value_of, effect_of, touch_of, fun_of, funs_from}
+use Rattle.lucid_core.specs.OutCount.{body_outs, funs_outs}
+use Rattle.lucid_core.specs.Parts.{Parts}
+use Rattle.lucid_core.specs.Returns as r
+use Rattle.lucid_core.specs.Returns.{Returns, expr_returns, stmt_returns, touch_returns, body_returns}
+use Rattle.lucid_core.specs.Scope.{Scope, fun_scope, handler_scope, funs_pass}
+use Rattle.lucid_core.specs.Step.{handled, started, step, taken_at}
+use Rattle.lucid_core.specs.Texts as x
+use Rattle.lucid_core.specs.Texts.{Printed, stmt_texts, body_fills_texts}
+use Rattle.lucid_core.specs.Typing as t
+use Rattle.lucid_core.specs.Typing.{Answer, Typed, answer_of, returns_of, touch_answer, body_gives_only}
+use Rattle.lucid_core.specs.Valid.{IsSound}
+use Rattle.lucid_core.specs.Values.{nothing}
+use Rattle.lucid_core.proofs.Fine.{IsFine, FunFits, Stands, answer_given, once}
+use Rattle.lucid_core.proofs.Pairwise.{Pairwise, one_more}
+use Rattle.lucid_core.proofs.SentCount.{handler_keeps}
+use Rattle.lucid_core.proofs.SentFit.{BodyFits, E, S, T, ExprFits, StmtFits, expr_texts, touch_texts, expr_tree, touch_tree, stmt_tree, stmts, block_fits, expr_level, touch_level, stmt_level}
+use Rattle.lucid_core.proofs.TypingRules.{body_rule}
+use Rattle.lucid_core.proofs.WidthLists.{passes_at, widths-begun, widths-taken}
+
+-- Where four folds are opened at a node.
+opened : {A B C D : Type 0} (P : A → B → C → D → Type 0) {a x : A} {b y : B} {c z : C} {d w : D} → a ≡ x → b ≡ y → c ≡ z → d ≡ w → P x y z w → P a b c d
+opened P {a} {x} {b} {y} {c} {z} {d} {w} e f g h is =
+    subst (λ v. P v b c d) (sym e) (subst (λ v. P x v c d) (sym f) (subst (λ v. P x y v d) (sym g) (subst (λ v. P x y z v) (sym h) is)))
+
+module _ (core : Parts) (s : Scope) (p : Frame) (stands : Stands core s p) where
+  abbrev ExprHolds : Expr → Type 0
+  ExprHolds e = ExprFits core s p stands (value_of e) (answer_of e) (expr_texts e) (expr_returns e)
+
+  abbrev StmtHolds : Stmt → Type 0
+  StmtHolds e = StmtFits core s p stands (effect_of e) (returns_of e) (stmt_texts e) (stmt_returns e)
+
+  abbrev TouchHolds : Touch → Type 0
+  TouchHolds e = ExprFits core s p stands (touch_of e) (touch_answer e) (touch_texts e) (touch_returns e)
+
+  of_expr : (y : Expr-F (E core s p stands) (S core s p stands) (T core s p stands)) → ExprHolds (roll-Expr (expr_tree core s p stands y))
+  of_expr y = let tree = expr_tree core s p stands y in opened (ExprFits core s p stands)
+      (fold-roll-Expr (Act Bits) Effect (Act Bits) m.expr_step m.stmt_step m.touch_step tree)
+      (fold-roll-Expr (Typed Answer) (Typed (List Answer)) (Typed Answer) t.expr_step t.stmt_step t.touch_step tree)
+      (fold-roll-Expr Printed Printed Printed x.expr_step x.stmt_step x.touch_step tree)
+      (fold-roll-Expr Returns Returns Returns r.expr_step r.stmt_step r.touch_step tree)
+      (expr_level core s p stands y)
+
+  of_touch : (y : Touch-F (E core s p stands) (S core s p stands) (T core s p stands)) → TouchHolds (roll-Touch (touch_tree core s p stands y))
+  of_touch y = let tree = touch_tree core s p stands y in opened (ExprFits core s p stands)
+      (fold-roll-Touch (Act Bits) Effect (Act Bits) m.expr_step m.stmt_step m.touch_step tree)
+      (fold-roll-Touch (Typed Answer) (Typed (List Answer)) (Typed Answer) t.expr_step t.stmt_step t.touch_step tree)
+      (fold-roll-Touch Printed Printed Printed x.expr_step x.stmt_step x.touch_step tree)
+      (fold-roll-Touch Returns Returns Returns r.expr_step r.stmt_step r.touch_step tree)
+      (touch_level core s p stands y)
+
+  of_stmt : (y : Stmt-F (E core s p stands) (S core s p stands) (T core s p stands)) → StmtHolds (roll-Stmt (stmt_tree core s p stands y))
+  of_stmt y = let tree = stmt_tree core s p stands y in opened (StmtFits core s p stands)
+      (fold-roll-Stmt (Act Bits) Effect (Act Bits) m.expr_step m.stmt_step m.touch_step tree)
+      (fold-roll-Stmt (Typed Answer) (Typed (List Answer)) (Typed Answer) t.expr_step t.stmt_step t.touch_step tree)
+      (fold-roll-Stmt Printed Printed Printed x.expr_step x.stmt_step x.touch_step tree)
+      (fold-roll-Stmt Returns Returns Returns r.expr_step r.stmt_step r.touch_step tree)
+      (stmt_level core s p stands y)
+
+  -- By induction on all three.
+  stmt_holds : (e : Stmt) → StmtHolds e
+  stmt_holds = ind-Stmt ExprHolds StmtHolds TouchHolds
+      (λ e y is. subst (λ z. ExprHolds (roll-Expr z)) is (of_expr y))
+      (λ e y is. subst (λ z. StmtHolds (roll-Stmt z)) is (of_stmt y))
+      (λ e y is. subst (λ z. TouchHolds (roll-Touch z)) is (of_touch y))
+
+  -- With their proofs.
+  proved : List Stmt → List (S core s p stands)
+  proved ss = map (λ e. (e, stmt_holds e)) ss
+
+  stmts-proved : (ss : List Stmt) → stmts core s p stands (proved ss) ≡ ss
+  unfolding proved
+  stmts-proved [] = refl
+  stmts-proved (e ∷ es) = ap (λ (q : List Stmt). e ∷ q) (stmts-proved es)
+
+  body_fits : (ss : List Stmt) → BodyFits core s p stands ss
+  body_fits ss = subst (BodyFits core s p stands) (stmts-proved ss) (block_fits core s p stands (proved ss))
+
+-- The rules for a function, behind those before it.
+record IsSoundFun (parts : Parts) (before : List FunDef) (f : FunDef) : Type 0 where
+  widths : body_gives_only f.answer f.body (fun_scope parts before f) ≡ true
+  texts : body_fills_texts f.body parts.forms ≡ true
+  returns : ((body_returns f.body).last && (not (is_some f.answer) || (body_returns f.body).always)) ≡ true
+
+-- A sound function gives a value of its answer's width.
+fun_fits : (parts : Parts) (now me : ℕ) (before : List FunDef) (known : List Fun) (f : FunDef) → Pairwise (FunFits parts) before known → IsSoundFun parts before f →
+    FunFits parts f (fun_of now me known f)
+fun_fits parts now me before known f pairs sound arrays vs width ws a s fine =
+    let place : Frame = record { now = now; me = me; arrays = arrays; funs = known } in
+    let rule = body_rule (fun_scope parts before f) f.answer (map returns_of f.body) sound.widths in
+    let own : State = record s { locals = begun_with vs f.locals; answer = nothing } in
+    let begun : IsFine parts f.locals (once false f.answer) own = record { locals = widths-begun vs f.params f.locals width; answer = tt; outs = fine.outs } in
+    let ends = and_parts _ _ sound.returns in
+    let done = body_fits parts (fun_scope parts before f) place (record { events = refl; funs = pairs }) f.body sound.texts ends.0 rule.0 rule.1 f.answer rule.2 false own begun in
+    record {
+      gives = answer_given parts f.locals f.answer (is_some f.answer) (body_returns f.body).always _ (λ w e. ap is_some e) ends.1 done;
+      fine = record { locals = fine.locals; answer = fine.answer; outs = done.outs };
+    }
+
+-- Behind sound functions, each function is sound.
+funs_fit : (parts : Parts) (now me : ℕ) (before : List FunDef) (known : List Fun) (fs : List FunDef) → Pairwise (FunFits parts) before known →
+    funs_pass (λ earlier f. body_gives_only f.answer f.body (fun_scope parts earlier f)) before fs ≡ true →
+    list_all (λ f. body_fills_texts f.body parts.forms) fs ≡ true →
+    list_all (λ f. (body_returns f.body).last && (not (is_some f.answer) || (body_returns f.body).always)) fs ≡ true →
+    Pairwise (FunFits parts) (before ++ fs) (funs_from now me known fs)
+funs_fit parts now me before known [] pairs widths texts returns = subst (λ (q : List FunDef). Pairwise (FunFits parts) q known) (sym (append-nil before)) pairs
+funs_fit parts now me before known (f ∷ fs) pairs widths texts returns =
+    let width = and_parts _ _ widths in
+    let text = and_parts _ _ texts in
+    let return = and_parts _ _ returns in
+    let one = fun_fits parts now me before known f pairs (record { widths = width.0; texts = text.0; returns = return.0 }) in
+    let more = one_more (FunFits parts) before known f (fun_of now me known f) pairs one in
+    let all = funs_fit parts now me (before ++ f ∷ []) (known ++ fun_of now me known f ∷ []) fs more width.1 text.1 return.1 in
+    subst (λ (q : List FunDef). Pairwise (FunFits parts) q (funs_from now me (known ++ fun_of now me known f ∷ []) fs)) (append_assoc before (f ∷ []) fs) all
+
+-- What is sent out fits, and is at most 8 outs.
+abbrev OutsFit : Parts → List Out → Type 0
+OutsFit parts outs = (list_all (out_fits parts) outs ≡ true) × (length outs ≤ 8)
+
+module _ (parts : Parts) (sound : IsSound parts) (cells : List (List ℕ)) (now me : ℕ) (args : List ℕ) where
+  few_counted : (k : ℕ) (h : HandlerDef) → slice_get parts.handlers k ≡ Some h → body_outs h.body (funs_outs [] parts.funs) ≤ 8
+  few_counted k h is = leb-true _ _ (passes_at (λ g. nat_le (body_outs g.body (funs_outs [] parts.funs)) 8) parts.handlers k h (and_parts _ _ sound.outs).1 is)
+
+  -- Whatever its arguments are, a handler begins with locals of their widths.
+  started_fine : (h : HandlerDef) → IsFine parts h.locals (once false None) (started h cells args)
+  started_fine h = record { locals = widths-begun (taken_at h.locals args) (length args) h.locals (widths-taken h.locals args); answer = tt; outs = refl }
+
+  handler_fits : (k : ℕ) (h : HandlerDef) → slice_get parts.handlers k ≡ Some h → OutsFit parts (handled (Some h) parts cells now me args).after.outs
+  handler_fits k h is =
+      let widths = and_parts _ _ sound.widths in
+      let texts = and_parts _ _ sound.texts in
+      let returns = and_parts _ _ sound.returns in
+      let pairs = funs_fit parts now me [] [] parts.funs tt widths.0 texts.0 returns.0 in
+      let place : Frame = record { now = now; me = me; arrays = []; funs = funs_from now me [] parts.funs } in
+      let rule = body_rule (handler_scope parts h) None (map returns_of h.body) (passes_at _ parts.handlers k h widths.1 is) in
+      let begun = started_fine h in
+      let text = passes_at _ parts.handlers k h texts.1 is in
+      let return = passes_at _ parts.handlers k h returns.1 is in
+      let done = body_fits parts (handler_scope parts h) place (record { events = refl; funs = pairs }) h.body text return rule.0 rule.1 None rule.2 false (started h cells args) begun in
+      let few = few_counted k h is in
+      let counted = handler_keeps h parts cells now me args in
+      (done.outs, omega arith)
+
+  -- An event without a handler sends nothing.
+  at_handler : (k : ℕ) (found : Option HandlerDef) → slice_get parts.handlers k ≡ found → OutsFit parts (handled found parts cells now me args).after.outs
+  at_handler k None is = (refl, omega arith)
+  at_handler k (Some h) is = handler_fits k h is
+
+  handled_fits : (k : Option ℕ) → OutsFit parts (handled (option_and_then (slice_get parts.handlers) k) parts cells now me args).after.outs
+  handled_fits None = (refl, omega arith)
+  handled_fits (Some k) = at_handler k (slice_get parts.handlers k) refl
+
+-- In a sound program, what an event's handler sends out fits.
+pub outs_fit : (parts : Parts) → IsSound parts → (cells : List (List ℕ)) (now me : ℕ) (event : Event) →
+    All (λ out. IsTrue (out_fits parts out)) (step parts cells now me event).outs × (length (step parts cells now me event).outs ≤ 8)
+outs_fit parts sound cells now me event =
+    let fit = handled_fits parts sound cells now me event.args (option_and_then (λ e. e.handler) (slice_get parts.events event.id)) in
+    (AllPass-from_list_all (out_fits parts) _ fit.0, fit.1)

@@ -1,0 +1,13 @@
+pub mod BitsLemmas
+pub mod BodiesFit
+pub mod CellsLemmas
+pub mod ExampleProofs
+pub mod Fine
+pub mod Folds
+pub mod Funs
+pub mod MeaningLemmas
+pub mod Pairwise
+pub mod SentCount
+pub mod SentFit
+pub mod TypingRules
+pub mod WidthLists

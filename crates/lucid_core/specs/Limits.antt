@@ -1,0 +1,87 @@
+-- The limits on numbers of things, and the fixed numbers of memops.
+use Rattle.std.specs.Prelude.{ℕ, ◌^◌, List, Option, None, Some, Bool, true, ◌&&◌, length, map, nat_lt, nat_le}
+use Rattle.std.specs.List.{list_all}
+use Rattle.lucid_core.specs.declared.body.Expr.{Expr}
+use Rattle.lucid_core.specs.declared.body.Stmt.{Stmt}
+use Rattle.lucid_core.specs.declared.body.Touch.{Touch}
+use Rattle.lucid_core.specs.declared.body.Expr.TheOpen.{Expr-F, Stmt-F, Touch-F}
+use Rattle.lucid_core.specs.declared.body.Expr.TheFolds.{fold-Expr, fold-Stmt, fold-Touch}
+use Rattle.lucid_core.specs.declared.defs.FunDef.{FunDef}
+use Rattle.lucid_core.specs.Children.{expr_children, stmt_children, touch_children}
+use Rattle.lucid_core.specs.Parts.{Parts}
+use Rattle.lucid_base.specs.declared.ops.CmpOp.{CmpOp}
+use Rattle.lucid_base.specs.declared.memory_alu.MemAlu.{MemAlu}
+use Rattle.lucid_base.specs.declared.memory_alu.MemArg.{MemArg}
+use Rattle.lucid_base.specs.declared.memory_alu.MemArg.TheVariants.{Stored, Arg, Fixed}
+use Rattle.lucid_base.specs.declared.memory_alu.MemSide.{MemSide}
+use Rattle.lucid_base.specs.declared.memory_alu.MemSide.TheVariants.{One, Two}
+use Rattle.lucid_core.specs.Numbers.{are_distinct}
+
+abbrev pub is_between : ℕ → ℕ → ℕ → Bool
+is_between least most n = nat_le least n && nat_le n most
+
+-- A memop's fixed numbers fit its width.
+abbrev pub operand_fits : ℕ → MemArg → Bool
+operand_fits w Stored = true
+operand_fits w Arg = true
+operand_fits w (Fixed n) = nat_lt n (2 ^ w)
+
+abbrev pub side_fits : ℕ → MemSide → Bool
+side_fits w (One a) = operand_fits w a
+side_fits w (Two op a b) = operand_fits w a && operand_fits w b
+
+abbrev pub test_fits : ℕ → Option (CmpOp × MemArg × MemArg) → Bool
+test_fits w None = true
+test_fits w (Some test) = operand_fits w test.1 && operand_fits w test.2
+
+abbrev pub memop_fits : MemAlu → Bool
+memop_fits m = test_fits m.width m.test && side_fits m.width m.yes && side_fits m.width m.no
+
+abbrev pub are_members : List ℕ → Bool
+are_members members = is_between 1 8 (length members) && list_all (λ m. nat_lt m 64) members && are_distinct members
+
+abbrev pub all : List Bool → Bool
+all tests = list_all (λ test. test) tests
+
+-- A hash has 1 to 9 operands, its seed among them.
+abbrev pub expr_step : Expr-F Bool Bool Bool → Bool
+expr_step (Expr-F.Hash w xs) = is_between 1 9 (length xs) && all xs
+expr_step e = all (expr_children e)
+
+abbrev pub touch_step : Touch-F Bool Bool Bool → Bool
+touch_step t = memop_fits t.get && memop_fits t.set && all (touch_children t)
+
+-- Events and prints have at most 8 arguments. A group has 1 to 8 members, each a switch, none twice.
+abbrev pub stmt_step : Stmt-F Bool Bool Bool → Bool
+stmt_step (Stmt-F.Gen event xs delay to delay_first) = nat_le (length xs) 8 && all (stmt_children (Stmt-F.Gen event xs delay to delay_first))
+stmt_step (Stmt-F.Multi event xs delay members) =
+    nat_le (length xs) 8 && are_members members && all (stmt_children (Stmt-F.Multi event xs delay members))
+stmt_step (Stmt-F.Say form xs) = nat_le (length xs) 8 && all xs
+stmt_step s = all (stmt_children s)
+
+abbrev pub expr_limits : Expr → Bool
+expr_limits = fold-Expr Bool Bool Bool expr_step stmt_step touch_step
+
+abbrev pub stmt_limits : Stmt → Bool
+stmt_limits = fold-Stmt Bool Bool Bool expr_step stmt_step touch_step
+
+abbrev pub touch_limits : Touch → Bool
+touch_limits = fold-Touch Bool Bool Bool expr_step stmt_step touch_step
+
+abbrev pub body_keeps_limits : List Stmt → Bool
+body_keeps_limits ss = all (map stmt_limits ss)
+
+-- At most 64 arrays of 1 to 65,536 cells; at most 8 array parameters and 8 value parameters.
+abbrev pub declarations_keep_limits : Parts → Bool
+declarations_keep_limits parts =
+    nat_le (length parts.arrays) 64
+    && list_all (λ a. is_between 1 65536 a.size) parts.arrays
+    && list_all (λ m. memop_fits m.alu) parts.memops
+    && list_all (λ e. nat_le (length e.params) 8) parts.events
+    && list_all (λ f. nat_le (length f.arrays) 8 && nat_le f.params 8) parts.funs
+
+abbrev pub funs_keep_limits : List FunDef → Bool
+funs_keep_limits funs = list_all (λ f. body_keeps_limits f.body) funs
+
+abbrev pub bodies_keep_limits : Parts → Bool
+bodies_keep_limits parts = funs_keep_limits parts.funs && list_all (λ h. body_keeps_limits h.body) parts.handlers

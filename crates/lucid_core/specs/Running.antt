@@ -1,0 +1,24 @@
+-- A run in progress: the state so far, and the cells that it began with.
+use Rattle.std.specs.Prelude.{◌≡◌, ℕ, List, [], ◌∷◌, Ok, Err}
+use Rattle.std.specs.Prelude.{Result}
+use Rattle.lucid_base.specs.declared.memory.Memory.{Memory}
+use Rattle.lucid_core.specs.declared.run.Write.{Write}
+use Rattle.lucid_core.specs.Acts.{State, Ran}
+use Rattle.lucid_core.specs.Cells.{with_cell}
+
+pub record Running : Type 0 where
+  pub state : State
+  pub start : List (List ℕ)
+
+abbrev pub with_state : Running → State → Running
+with_state run s = record run { state = s }
+
+-- The cells before these writes, the last taken back first.
+abbrev pub rewound : List Write → List (List ℕ) → List (List ℕ)
+rewound [] cells = cells
+rewound (w ∷ ws) cells = with_cell (rewound ws cells) w.array w.cell w.old
+
+-- A call does the act, unless memory runs out; either way it keeps the cells that the run began with.
+abbrev pub Does : {A : Type 0} → (State → Ran A) → Running → Running → Result A Memory → Type 0
+Does act old new (Ok x) = (x ≡ (act old.state).gives) × (new ≡ with_state old (act old.state).after)
+Does act old new (Err e) = new.start ≡ old.start

@@ -1,0 +1,38 @@
+-- Which parts are a valid core, and which a valid flat core. Each rule is a test of its own, in the file of its name.
+use Rattle.std.specs.Prelude.{◌≡◌, [], IsTrue}
+use Rattle.lucid_core.specs.Parts.{Parts}
+use Rattle.lucid_core.specs.Assigned.{reads_follow_assignments}
+use Rattle.lucid_core.specs.Events.{events_and_handlers_agree}
+use Rattle.lucid_core.specs.Forms.{has_core_forms, has_flat_forms}
+use Rattle.lucid_core.specs.Limits.{declarations_keep_limits, bodies_keep_limits}
+use Rattle.lucid_core.specs.Names.{names_are_there}
+use Rattle.lucid_core.specs.OutCount.{outs_are_few}
+use Rattle.lucid_core.specs.Returns.{returns_stand_last}
+use Rattle.lucid_core.specs.Texts.{texts_are_filled}
+use Rattle.lucid_core.specs.Typing.{widths_agree}
+use Rattle.lucid_core.specs.Uses.{locals_are_assigned, inlined_keep_to_themselves}
+
+-- The rules for both.
+pub record IsSound (parts : Parts) : Type 0 where
+  pub names : IsTrue (names_are_there parts)
+  pub events : IsTrue (events_and_handlers_agree parts)
+  pub widths : IsTrue (widths_agree parts)
+  pub returns : IsTrue (returns_stand_last parts)
+  pub outs : IsTrue (outs_are_few parts)
+  pub assigned : IsTrue (locals_are_assigned parts)
+  pub reads : IsTrue (reads_follow_assignments parts)
+  pub declarations : IsTrue (declarations_keep_limits parts)
+  pub bodies : IsTrue (bodies_keep_limits parts)
+  pub texts : IsTrue (texts_are_filled parts)
+
+-- A valid core.
+pub record IsValid (parts : Parts) : Type 0 where
+  pub sound : IsSound parts
+  pub forms : IsTrue (has_core_forms parts)
+
+-- A valid flat core.
+pub record IsValidFlat (parts : Parts) : Type 0 where
+  pub sound : IsSound parts
+  pub forms : IsTrue (has_flat_forms parts)
+  pub no_functions : parts.funs ≡ []
+  pub inlined : IsTrue (inlined_keep_to_themselves parts)

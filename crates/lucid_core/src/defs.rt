@@ -1,0 +1,43 @@
+// What a program declares besides its arrays.
+use crate::Stmt;
+use lucid_base::{Id, Items, MemAlu, Width};
+
+/// A memop of the source.
+#[derive(Drop)]
+pub struct MemopDef {
+    pub name: Id,
+    pub alu: MemAlu,
+}
+
+/// An event: the widths of its parameters, and the number of its handler, if it has one.
+#[derive(Drop)]
+pub struct EventDef {
+    pub name: Id,
+    pub params: Items<Width>,
+    pub handler: Option<u32>,
+}
+
+/// A function: the cell widths of its array parameters, the widths of its locals, of which the first `params` are its value parameters,
+/// and the width of its value, if it gives one. It is declaration `decl` of the program, from 1, and begins on line `line`, from 1.
+#[derive(Drop)]
+pub struct FunDef {
+    pub name: Id,
+    pub arrays: Items<Width>,
+    pub params: u32,
+    pub locals: Items<Width>,
+    pub answer: Option<Width>,
+    pub body: Items<Stmt>,
+    pub decl: u32,
+    pub line: u32,
+}
+
+/// A handler of an event: the widths of its locals, of which the first are the event's parameters.
+/// It is declaration `decl` of the program, from 1, and begins on line `line`, from 1.
+#[derive(Drop)]
+pub struct HandlerDef {
+    pub event: u32,
+    pub locals: Items<Width>,
+    pub body: Items<Stmt>,
+    pub decl: u32,
+    pub line: u32,
+}

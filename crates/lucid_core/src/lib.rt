@@ -1,0 +1,28 @@
+// The elaborated program (a core) and its meaning: what an event does when its handler runs whole.
+// A `Core` and a `Flat` are valid by their types. `run_whole` is the definition of the step, changes no cell where memory runs out,
+// and gives outs that fit the program.
+// The rules of validity are in specs/Valid.antt, each in a file of its own; the meaning is in specs/Step.antt, Meaning.antt and Acts.antt.
+// Stands on lucid_base alone.
+#![tactic(auto)]
+
+mod body;
+mod cells;
+mod defs;
+mod examples;
+mod fits;
+mod interpret;
+mod laws;
+mod moment;
+mod operate;
+mod program;
+mod run;
+#[cfg(test)]
+mod tests;
+mod whole;
+
+pub use body::{Expr, Stmt, Touch};
+pub use cells::Cells;
+pub use defs::{EventDef, FunDef, HandlerDef, MemopDef};
+pub use laws::{flat_outs_fit, outs_fit};
+pub use program::{Core, Flat};
+pub use whole::run_whole;

@@ -1,0 +1,141 @@
+// Operations on values, each equal to its definition. Unlike those below them they take any operands.
+ghost use Rattle.std.specs.Prelude.{◌≡◌, IfOk, IsTrue};
+ghost use Rattle.lucid_base.specs.Bits.{bits_of};
+ghost use Rattle.lucid_base.specs.Memop.{FixedFit, OperandFits, SideFits, TestFits};
+ghost use Rattle.lucid_core.specs.Values.{unary as unary_of, binary as binary_of, comparison as comparison_of, hashed as hash_of_values, memop as memop_of, numbers as numbers_of, nothing as no_value};
+
+use crate::fits::number_fits;
+use lucid_base::{
+    Args, BinOp, Bits, CmpOp, Items, MemAlu, MemArg, MemSide, Memory, UnOp, Width, apply_bin,
+    apply_un, cast, compare, hash_bits,
+};
+use std::alloc::Global;
+
+/// The low bits of a number.
+pub fn low_bits(width: Width, n: u64) -> Bits
+    ensures { result ≡ bits_of width n }
+{
+    cast(word(n), width)
+}
+
+/// A number in 64 bits.
+fn word(n: u64) -> Bits
+    ensures { result.value ≡ n }
+{
+    Bits {
+        width: Width::new(64).unwrap(),
+        value: n,
+    }
+}
+
+/// What stands where no value is given.
+pub fn nothing() -> Bits
+    ensures { result ≡ no_value }
+{
+    Bits {
+        width: Width::bool(),
+        value: 0,
+    }
+}
+
+pub fn unary(op: UnOp, a: Bits) -> Bits
+    ensures { result ≡ unary_of op a }
+{
+    apply_un(op, a)
+}
+
+pub fn binary(op: BinOp, a: Bits, b: Bits) -> Bits
+    ensures { result ≡ binary_of op a b }
+{
+    apply_bin(op, a, cast(b, a.width))
+}
+
+pub fn comparison(op: CmpOp, a: Bits, b: Bits) -> Bits
+    ensures { result ≡ comparison_of op a b }
+{
+    Bits::from_bool(compare(op, a, cast(b, a.width)))
+}
+
+pub fn narrowed(a: Bits, width: Width) -> Bits
+    ensures { result ≡ bits_of width a.value }
+{
+    cast(a, width)
+}
+
+pub fn hashed(alloc: Global, width: Width, values: &[Bits]) -> Result<Bits, Memory>
+    ensures { IfOk result (λ v. v ≡ hash_of_values width values.now) }
+{
+    let words = numbers(alloc, values)?;
+    Ok(hash_bits(width, words.as_slice()))
+}
+
+pub fn numbers(alloc: Global, values: &[Bits]) -> Result<Items<u64>, Memory>
+    ensures { IfOk result (λ ns. ns ≡ numbers_of values.now) }
+{
+    let mut all = Items::new(alloc);
+    for value in values {
+        all.push(value.value)?;
+    }
+    Ok(all)
+}
+
+/// The numbers of these values, which in a valid core are at most 8.
+pub fn arguments(values: &[Bits]) -> Result<Args, Memory>
+    ensures { IfOk result (λ args. args ≡ numbers_of values.now) }
+{
+    if values.len() > 8 {
+        return Err(Memory);
+    }
+    let mut args = Args::new();
+    for value in values {
+        args.push(value.value);
+    }
+    Ok(args)
+}
+
+/// Whether the memop's fixed numbers fit its width.
+pub fn memop_fits(m: &MemAlu) -> bool
+    ensures { IsTrue result → FixedFit m.now }
+{
+    test_fits(m) && side_fits(m.width, m.yes) && side_fits(m.width, m.no)
+}
+
+fn test_fits(m: &MemAlu) -> bool
+    ensures { IsTrue result → TestFits m.now.width m.now.test }
+{
+    match m.test {
+        None => true,
+        Some((_, a, b)) => operand_fits(m.width, a) && operand_fits(m.width, b),
+    }
+}
+
+fn side_fits(width: Width, side: MemSide) -> bool
+    ensures { IsTrue result → SideFits width side }
+{
+    match side {
+        MemSide::One(a) => operand_fits(width, a),
+        MemSide::Two(_, a, b) => operand_fits(width, a) && operand_fits(width, b),
+    }
+}
+
+fn operand_fits(width: Width, operand: MemArg) -> bool
+    ensures { IsTrue result → OperandFits width operand }
+{
+    match operand {
+        MemArg::Stored => true,
+        MemArg::Arg => true,
+        MemArg::Fixed(n) => number_fits(width, n),
+    }
+}
+
+pub fn memop(m: &MemAlu, stored: u64, arg: Bits) -> Bits
+    requires { FixedFit m.now }
+    ensures { result ≡ memop_of m.now stored arg }
+{
+    let stored = low_bits(m.width, stored).value;
+    let arg = cast(arg, m.width).value;
+    Bits {
+        width: m.width,
+        value: m.apply(stored, arg),
+    }
+}

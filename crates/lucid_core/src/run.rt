@@ -1,0 +1,195 @@
+// The state of a body that runs, and the way back to the cells that it began with.
+// Only this file writes cells during a run: it notes what a cell held before it writes, so that want of memory can be undone.
+ghost use Rattle.std.specs.Prelude.{◌≡◌, ◌≤◌, ◌++◌, [], ◌∷◌, IfOk, OnOk, OnErr, length, slice_index_or, slice_set};
+ghost use Rattle.lucid_base.specs.Memop.{FixedFit};
+ghost use Rattle.lucid_core.specs.Acts.{State, holding};
+ghost use Rattle.lucid_core.specs.Cells.{cell_at, with_cell};
+ghost use Rattle.lucid_core.specs.Running.{Running, rewound, with_state};
+ghost use Rattle.lucid_core.specs.Values.{memop as memop_of, nothing as no_value};
+
+use crate::Cells;
+use crate::operate::{memop, nothing};
+use lucid_base::{Bits, Items, MemAlu, Memory, Out, Outs};
+use std::alloc::Global;
+use std::marker::Model;
+use std::mem;
+
+/// What a cell held before a write.
+#[derive(Clone, Copy)]
+pub struct Write {
+    array: u32,
+    cell: u64,
+    old: u64,
+}
+
+/// Contracts see the state so far and the cells that the run began with.
+#[derive(Drop)]
+pub struct Run {
+    cells: Cells,
+    writes: Vec<Write>,
+    outs: Vec<Out>,
+    locals: Items<Bits>,
+    answer: Bits,
+}
+
+impl Model for Run {
+    ghost use Rattle.lucid_core.specs.Running.{Running, rewound};
+
+    ghost Value = { Running };
+
+    ghost view = { λ r. record { state = record { cells = r.cells; outs = r.outs.items; locals = r.locals; answer = r.answer }; start = rewound r.writes.items r.cells } };
+}
+
+impl Run {
+    /// No outs yet, and no answer.
+    pub fn begin(alloc: Global, cells: Cells, locals: Items<Bits>) -> Run
+        ensures state { result.state ≡ record { cells = cells; outs = []; locals = locals; answer = no_value } }
+        ensures start { result.start ≡ cells }
+    {
+        Run {
+            cells,
+            writes: Vec::new(alloc),
+            outs: Vec::new(alloc),
+            locals,
+            answer: nothing(),
+        }
+    }
+
+    /// The cells as they are now.
+    pub fn finish(self) -> Cells
+        ensures { result ≡ self.state.cells }
+    {
+        let Run {
+            cells,
+            writes: _,
+            outs: _,
+            locals: _,
+            answer: _,
+        } = self;
+        cells
+    }
+
+    /// What was sent out, which in a valid core is at most 8 outs.
+    pub fn sent(&self) -> Outs
+        requires { length self.now.state.outs ≤ 8 }
+        ensures { result ≡ self.now.state.outs }
+    {
+        let mut outs = Outs::new();
+        for out in self.outs.as_slice() {
+            outs.push(*out);
+        }
+        outs
+    }
+
+    /// The cells that the run began with.
+    pub fn undo(self) -> Cells
+        ensures { result ≡ self.start }
+    {
+        let Run {
+            cells,
+            writes,
+            outs: _,
+            locals: _,
+            answer: _,
+        } = self;
+        rewind(cells, writes)
+    }
+
+    pub fn local(&self, i: u32) -> Bits
+        ensures { result ≡ slice_index_or self.now.state.locals i no_value }
+    {
+        match self.locals.as_slice().get(i as usize) {
+            None => nothing(),
+            Some(value) => *value,
+        }
+    }
+
+    pub fn assign(&mut self, i: u32, value: Bits)
+        ensures { self.new ≡ with_state self.old (record self.old.state { locals = slice_set self.old.state.locals i value }) }
+    {
+        if (i as usize) < self.locals.len() {
+            self.locals.set(i as usize, value);
+        }
+    }
+
+    /// Lets each of these locals hold its value.
+    pub fn hold(&mut self, held: &[(u32, Bits)])
+        ensures { self.new ≡ with_state self.old (record self.old.state { locals = holding self.old.state.locals held.now }) }
+    {
+        for (i, value) in held {
+            self.assign(*i, *value);
+        }
+    }
+
+    pub fn answer(&self) -> Bits
+        ensures { result ≡ self.now.state.answer }
+    {
+        self.answer
+    }
+
+    pub fn set_answer(&mut self, value: Bits)
+        ensures { self.new ≡ with_state self.old (record self.old.state { answer = value }) }
+    {
+        self.answer = value;
+    }
+
+    pub fn send(&mut self, out: Out) -> Result<(), Memory>
+        ensures sent { OnOk result (self.new ≡ with_state self.old (record self.old.state { outs = self.old.state.outs ++ out ∷ [] })) }
+        ensures start { OnErr result (self.new.start ≡ self.old.start) }
+    {
+        self.outs.push(out)?;
+        Ok(())
+    }
+
+    /// Puts these locals in the place of those that it gives back.
+    pub fn enter(&mut self, locals: Items<Bits>) -> Items<Bits>
+        ensures given { result ≡ self.old.state.locals }
+        ensures entered { self.new ≡ with_state self.old (record self.old.state { locals = locals }) }
+    {
+        mem::replace(&mut self.locals, locals)
+    }
+
+    pub fn copy_locals(&self, alloc: Global) -> Result<Items<Bits>, Memory>
+        ensures { IfOk result (λ locals. locals ≡ self.now.state.locals) }
+    {
+        Ok(Items::from_slice(alloc, self.locals.as_slice())?)
+    }
+
+    /// A call of an array: it answers by the memop `get` and stores by the memop `set`, both of what the cell held.
+    pub fn touch(
+        &mut self,
+        array: u32,
+        index: u64,
+        get: MemAlu,
+        get_arg: Bits,
+        set: MemAlu,
+        set_arg: Bits,
+    ) -> Result<Bits, Memory>
+        requires get { FixedFit get }
+        requires set { FixedFit set }
+        ensures gives { IfOk result (λ v. v ≡ memop_of get (cell_at self.old.state.cells array index) get_arg) }
+        ensures stored { OnOk result (self.new ≡ with_state self.old (record self.old.state { cells = with_cell self.old.state.cells array index (memop_of set (cell_at self.old.state.cells array index) set_arg).value })) }
+        ensures start { OnErr result (self.new.start ≡ self.old.start) }
+    {
+        let old = self.cells.get(array, index);
+        self.writes.push(Write {
+            array,
+            cell: index,
+            old,
+        })?;
+        self.cells
+            .set(array, index, memop(&set, old, set_arg).value);
+        Ok(memop(&get, old, get_arg))
+    }
+}
+
+/// The cells before the writes.
+fn rewind(mut cells: Cells, writes: Vec<Write>) -> Cells
+    ensures { result ≡ rewound writes.items cells }
+{
+    let mut left = writes;
+    while let Some(write) = left.pop() {
+        cells.set(write.array, write.cell, write.old);
+    }
+    cells
+}

@@ -1,0 +1,123 @@
+// The whole step: an event's handler runs whole, or runs out of memory and changes nothing.
+ghost use Rattle.std.specs.Prelude.{◌≡◌, ◌≤◌, [], All, IfOk, IsTrue, OnOk, OnErr, length, map};
+ghost use Rattle.std.specs.Option.{option_map};
+ghost use Rattle.lucid_core.specs.Acts.{block};
+ghost use Rattle.lucid_core.specs.Fits.{out_fits};
+ghost use Rattle.lucid_core.specs.Meaning.{effect_of, frame};
+ghost use Rattle.lucid_core.specs.Running.{with_state};
+ghost use Rattle.lucid_core.specs.Step.{handled, handler_of as handler_in, step, taken_at};
+
+use crate::interpret::{effects, with_zeros};
+use crate::laws::outs_fit;
+use crate::moment::Moment;
+use crate::operate::low_bits;
+use crate::run::Run;
+use crate::{Cells, Core, HandlerDef};
+use lucid_base::{Bits, Event, Items, Memory, Outs, Width};
+use std::alloc::Global;
+use std::mem;
+
+/// Runs the handler of an event that enters switch `me` at tick `now`, and gives what it sends out.
+/// An event without a handler changes nothing. What it sends out fits the program. It takes memory for locals and arguments, and copies no arrays.
+pub fn run_whole(
+    alloc: Global,
+    core: &Core,
+    cells: &mut Cells,
+    now: u64,
+    me: u32,
+    event: &Event,
+) -> Result<Outs, Memory>
+    ensures outs { IfOk result (λ outs. outs ≡ (step core.now cells.old now me event.now).outs) }
+    ensures fits { IfOk result (λ outs. All (λ out. IsTrue (out_fits core.now out)) outs) }
+    ensures cells { OnOk result (cells.new ≡ (step core.now cells.old now me event.now).cells) }
+    ensures unchanged { OnErr result (cells.new ≡ cells.old) }
+{
+    outs_fit(core, cells, now, me, event);
+    match handler_of(core, event.id) {
+        None => Ok(Outs::new()),
+        Some(handler) => handle(
+            alloc,
+            core,
+            cells,
+            Moment { now, me },
+            event.args.as_slice(),
+            handler,
+        ),
+    }
+}
+
+/// The handler of an event, if it has one.
+fn handler_of(core: &Core, id: u32) -> Option<&HandlerDef>
+    ensures { option_map (λ h. h.now) result ≡ handler_in core.now id }
+{
+    let event = core.events().get(id as usize)?;
+    let handler = event.handler?;
+    core.handlers().get(handler as usize)
+}
+
+fn handle(
+    alloc: Global,
+    core: &Core,
+    cells: &mut Cells,
+    moment: Moment,
+    args: &[u64],
+    handler: &HandlerDef,
+) -> Result<Outs, Memory>
+    requires { length (handled (Some handler.now) core.now cells.old moment.now moment.me args.now).after.outs ≤ 8 }
+    ensures outs { IfOk result (λ outs. outs ≡ (handled (Some handler.now) core.now cells.old moment.now moment.me args.now).after.outs) }
+    ensures cells { OnOk result (cells.new ≡ (handled (Some handler.now) core.now cells.old moment.now moment.me args.now).after.cells) }
+    ensures unchanged { OnErr result (cells.new ≡ cells.old) }
+{
+    let widths = handler.locals.as_slice();
+    let locals = with_zeros(taken(alloc, widths, args)?, widths)?;
+    let mut run = Run::begin(alloc, mem::replace(cells, Cells::none(alloc)), locals);
+    match run_body(alloc, core, moment, &mut run, handler) {
+        Ok(outs) => {
+            *cells = run.finish();
+            Ok(outs)
+        }
+        Err(error) => {
+            *cells = run.undo();
+            Err(error)
+        }
+    }
+}
+
+/// Runs the handler's body, and gives what was sent out.
+fn run_body(
+    alloc: Global,
+    core: &Core,
+    moment: Moment,
+    run: &mut Run,
+    handler: &HandlerDef,
+) -> Result<Outs, Memory>
+    requires { length (block (map effect_of handler.now.body) (frame moment [] core.now.funs) run.old.state).after.outs ≤ 8 }
+    ensures outs { IfOk result (λ outs. outs ≡ (block (map effect_of handler.now.body) (frame moment [] core.now.funs) run.old.state).after.outs) }
+    ensures state { OnOk result (run.new ≡ with_state run.old (block (map effect_of handler.now.body) (frame moment [] core.now.funs) run.old.state).after) }
+    ensures start { OnErr result (run.new.start ≡ run.old.start) }
+{
+    let none: [u32; 0] = [];
+    effects(
+        alloc,
+        core.funs(),
+        &none,
+        moment,
+        run,
+        handler.body.as_slice(),
+    )?;
+    Ok(run.sent())
+}
+
+/// Arguments as values of these widths.
+fn taken(alloc: Global, widths: &[Width], args: &[u64]) -> Result<Items<Bits>, Memory>
+    ensures { IfOk result (λ values. values ≡ taken_at widths.now args.now) }
+{
+    let mut values = Items::new(alloc);
+    for i in 0..widths.len() {
+        if i >= args.len() {
+            return Ok(values);
+        }
+        values.push(low_bits(widths[i], args[i]))?;
+    }
+    Ok(values)
+}
