@@ -1,3 +1,7 @@
+pub mod Answer
+pub mod Cells
+pub mod Once
 pub mod Refused
 pub mod Said
+pub mod Source
 pub mod Words

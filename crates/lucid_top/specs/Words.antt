@@ -3,8 +3,7 @@ use Rattle.std.specs.Prelude.{ℕ, ◌^◌, ◌&&◌, List, [], ◌∷◌, Optio
 use Rattle.std.specs.Str.{bytes_eq}
 use Rattle.std.specs.Str.Parse.{digits_value}
 use Rattle.std.specs.Fmt.{decimal}
-use Rattle.lucid_top.specs.declared.command.Command.{Command}
-use Rattle.lucid_top.specs.declared.command.Command.TheVariants.{Once}
+use Rattle.lucid_top.specs.declared.command.Once.{Once}
 
 -- What the words ask for: `once`, a program file, an event's name, its arguments.
 pub data Form : Type 0 where
@@ -23,6 +22,6 @@ abbrev pub form_of : List (List ℕ) → Option Form
 form_of (verb ∷ program ∷ name ∷ arguments) = if bytes_eq verb (codes "once") then option_map (OnceForm program name) (numbers_of arguments) else None
 form_of words = None
 
--- What a command stands for.
-abbrev pub form_view : Command → Form
-form_view (Once program name arguments) = OnceForm program.now name.now arguments.items
+-- What was read of the words, as a form.
+abbrev pub form_view : Once → Form
+form_view asked = OnceForm asked.program.now asked.name.now asked.arguments.items

@@ -5,23 +5,21 @@ ghost use Rattle.lucid_top.specs.Words.{form_of, form_view, number_of, numbers_o
 use itoa::Buffer;
 use std::alloc::{AllocError, Global};
 
-/// What the words ask for.
+/// What the words `once P NAME ARG..` ask for, the one form that there is.
 #[derive(Debug, Drop)]
-pub enum Command<'a> {
-    Once {
-        program: &'a str,
-        name: &'a str,
-        arguments: Vec<u64>,
-    },
+pub struct Once<'a> {
+    pub program: &'a str,
+    pub name: &'a str,
+    pub arguments: Vec<u64>,
 }
 
-/// The command that the words spell; None where they are none of the forms.
-pub fn read_words<'a>(alloc: Global, words: &'a [String]) -> Result<Option<Command<'a>>, AllocError>
-    ensures { IfOk result (λ c. option_map form_view c ≡ form_of (map string_bytes words.now)) }
+/// What the words ask for; None where they are none of the forms.
+pub fn read_words<'a>(alloc: Global, words: &'a [String]) -> Result<Option<Once<'a>>, AllocError>
+    ensures { IfOk result (λ asked. option_map form_view asked ≡ form_of (map string_bytes words.now)) }
 {
     match words {
         [verb, program, name, rest @ ..] if verb.as_str() == "once" => {
-            Ok(numbers(alloc, rest)?.map(|arguments| Command::Once {
+            Ok(numbers(alloc, rest)?.map(|arguments| Once {
                 program: program.as_str(),
                 name: name.as_str(),
                 arguments,

@@ -21,9 +21,24 @@ handle pkt(int i) {
 }
 ";
 
+const TWO: &str = "event a(int x);
+event b();
+event go(int x);
+handle go(int x) { generate a(x); generate b(); }
+";
+
+const EARLY: &str = "handle go() { generate go(); }
+event go();
+";
+
 const FIRST_OUT: &str = "[0] s0 pkt(5)
   generate seen(5,7) delay 0 here
 s0 last[1] = 7
+";
+
+const TWO_OUT: &str = "[0] s0 go(9)
+  generate a(9) delay 0 here
+  generate b() delay 0 here
 ";
 
 /// What a call left.
@@ -85,6 +100,17 @@ fn answers_of_once(rt: HostRuntime) -> Result<(), Fail> {
             "read fault: none\n",
         ),
         ("once p pkt 5", COUNTER, Status::Syntax, "", "syntax\n"),
+        ("once p go 9", TWO, Status::Ok, TWO_OUT, ""),
+        ("once p a 9", TWO, Status::Ok, "[0] s0 a(9)\n", ""),
+        ("once p b", TWO, Status::Ok, "[0] s0 b()\n", ""),
+        ("once p go", EARLY, Status::Syntax, "", "syntax\n"),
+        (
+            "once p go",
+            "event #",
+            Status::Syntax,
+            "",
+            "syntax: byte 6\n",
+        ),
     ];
     for (line, text, status, out, err) in cases {
         let ran = run(alloc, line, text.as_bytes(), Vec::new(alloc))?;
