@@ -1,5 +1,5 @@
 // The top call: all that the program does, over words, files and two sinks.
-ghost use Rattle.std.specs.Prelude.{◌≡◌, ◌≢◌, ◌⊎◌, ◌+◌, IsSome, IfErr, OnOk, map, string_bytes};
+ghost use Rattle.std.specs.Prelude.{◌≡◌, ◌≢◌, ◌⊎◌, ◌+◌, ℕ, List, IsSome, IfErr, OnOk, map, string_bytes};
 ghost use Rattle.std.specs.Io.KnownBytes.{Keeps};
 ghost use Rattle.lucid_io.specs.Counts.{Rose};
 ghost use Rattle.lucid_top.specs.Answer.{Answers, IsTold, IsDetermined, outcome_status};
@@ -34,6 +34,9 @@ pub fn lucid<F: Files, W: Sink, E: Sink>(
     ensures too_long { result ≡ Status.TooLong → F.given files.new ≡ PROGRAM_BYTES + 1 }
     ensures gave_more { IsSome (form_of (map string_bytes words.now)) → F.given files.new ≡ PROGRAM_BYTES + 1 → (result ≡ Status.TooLong) ⊎ (result ≡ Status.Memory) }
     ensures write_fault { result ≡ Status.WriteFault → Rose (W.faults out.old) (W.faults out.new) }
+
+    // Where there is a text to write and no count rose, it is written, unless memory ran out.
+    ensures complete { (text : List ℕ) → Answers (map string_bytes words.now) (F.held files.old) (Ok text) → ¬ Rose (F.faults files.old (program_of (map string_bytes words.now))) (F.faults files.new (program_of (map string_bytes words.now))) → ¬ Rose (W.faults out.old) (W.faults out.new) → (result ≡ Status.Ok) ⊎ (result ≡ Status.Memory) }
 
     // what was written: at a write fault a proper prefix, at every other refusal nothing
     ensures cut { result ≡ Status.WriteFault → (o : Outcome) → Answers (map string_bytes words.now) (F.held files.old) o → PutsCut W.written W.faults out.old out.new o }
