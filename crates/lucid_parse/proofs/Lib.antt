@@ -1,0 +1,15 @@
+pub mod Declarations
+pub mod Equations
+pub mod ExpressionComplete
+pub mod ExpressionSound
+pub mod Growth
+pub mod Induction
+pub mod Programs
+pub mod Repeats
+pub mod StatementComplete
+pub mod StatementEquations
+pub mod StatementGrowth
+pub mod StatementInduction
+pub mod StatementSound
+pub mod Steps
+pub mod Turns

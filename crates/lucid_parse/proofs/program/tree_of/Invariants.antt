@@ -1,0 +1,16 @@
+use Rattle.std.proofs.Common.{◌≡◌, ◌-◌, ◌≤◌, length, drop}
+use Rattle.lucid_parse.specs.Program.{Progress, Rising, line_at}
+use Rattle.lucid_parse.proofs.program.tree_of.Given as goal
+
+abbrev pub invariant-each : goal.invariant-each
+invariant-each l = record {
+  so_far : Progress l.text l.tokens l.lexemes l.decls l.rest;
+  shorter : length l.rest ≤ length l.lexemes;
+  line : l.line ≡ line_at l.text l.from;
+  within : l.from ≤ length l.text;
+  order : Rising l.from (drop (length l.lexemes - length l.rest) l.tokens);
+}
+
+-- each declaration has a token
+abbrev pub decreases-each : goal.decreases-each
+decreases-each l = length l.rest

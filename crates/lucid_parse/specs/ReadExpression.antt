@@ -1,0 +1,230 @@
+-- How expressions are read: an operand, and then, for as long as a sign follows that binds tightly enough, that sign with
+-- its right operand. `inner` reads an expression of at least a level that stands within.
+use Rattle.std.specs.Prelude.{ℕ, zero, suc, ◌+◌, true, false, ◌&&◌, nat_le, if◌then◌else◌, List, [], ◌∷◌, length, codes, Option, Some, None, option_map, bytes_eq}
+use Rattle.lucid_lex.specs.declared.sign.Sign.{Sign}
+use Rattle.lucid_lex.specs.declared.sign.Sign.TheVariants as signs
+use Rattle.lucid_lex.specs.declared.word.Word.TheVariants as words
+use Rattle.lucid_parse.specs.declared.lexeme.Lexeme.TheVariants as lexemes
+use Rattle.lucid_parse.specs.declared.tree.E.{E}
+use Rattle.lucid_parse.specs.declared.tree.E.TheVariants as e
+use Rattle.lucid_parse.specs.declared.tree.A.{A}
+use Rattle.lucid_parse.specs.declared.tree.A.TheVariants as a
+use Rattle.lucid_parse.specs.declared.tree.Pre.{Pre}
+use Rattle.lucid_parse.specs.declared.tree.Pre.TheVariants as pres
+use Rattle.lucid_parse.specs.declared.tree.Infix.{Infix}
+use Rattle.lucid_parse.specs.declared.tree.Infix.TheVariants as infixes
+use Rattle.lucid_parse.specs.declared.operator.Next.{Next}
+use Rattle.lucid_parse.specs.declared.operator.Next.TheVariants as nexts
+use Rattle.lucid_parse.specs.declared.expression.Method.{Method}
+use Rattle.lucid_parse.specs.declared.expression.Method.TheVariants as methods
+use Rattle.lucid_parse.specs.Operators.{level, left_level}
+use Rattle.lucid_parse.specs.Reader.{Text, Outcome, Parser, ◌>>=◌, after, after_name, name, width, width_if, separated}
+
+-- ---- signs between operands
+
+abbrev pub infix_of : Sign → Option Infix
+infix_of signs.OrOr = Some infixes.OrOr
+infix_of signs.AndAnd = Some infixes.AndAnd
+infix_of signs.EqualEqual = Some infixes.EqualEqual
+infix_of signs.NotEqual = Some infixes.NotEqual
+infix_of signs.Less = Some infixes.Less
+infix_of signs.Greater = Some infixes.Greater
+infix_of signs.LessEqual = Some infixes.LessEqual
+infix_of signs.GreaterEqual = Some infixes.GreaterEqual
+infix_of signs.Or = Some infixes.Or
+infix_of signs.Caret = Some infixes.Caret
+infix_of signs.And = Some infixes.And
+infix_of signs.Plus = Some infixes.Plus
+infix_of signs.Minus = Some infixes.Minus
+infix_of signs.SatAdd = Some infixes.SatAdd
+infix_of signs.SatSub = Some infixes.SatSub
+infix_of _ = None
+
+-- what may follow an operand: an infix sign, or a whole shift
+unfoldable pub next_of : Text → Option (Next × Text)
+next_of (lexemes.Sign signs.ShiftLeft ∷ lexemes.Number n ∷ ts) = Some (nexts.Shift true n, ts)
+next_of (lexemes.Sign signs.ShiftRight ∷ lexemes.Number n ∷ ts) = Some (nexts.Shift false n, ts)
+next_of (lexemes.Sign s ∷ ts) = option_map (λ op. (nexts.Infix op, ts)) (infix_of s)
+next_of _ = None
+
+abbrev pub next_level : Next → ℕ
+next_level (nexts.Infix op) = level op
+next_level (nexts.Shift up n) = 7
+
+abbrev pub next_left : Next → ℕ
+next_left (nexts.Infix op) = left_level op
+next_left (nexts.Shift up n) = 7
+
+-- only where it binds at least this tightly, and lets an operand of this level stand on its left
+abbrev pub within : ℕ → ℕ → Option (Next × Text) → Option (Next × Text)
+within least tight None = None
+within least tight (Some p) = if nat_le least (next_level p.0) && nat_le (next_left p.0) tight then Some p else None
+
+unfoldable pub next_within : ℕ → ℕ → Text → Option (Next × Text)
+next_within least tight ts = within least tight (next_of ts)
+
+-- the left operand with what follows it
+abbrev pub grown : (ℕ → Parser E) → E → Next → Parser E
+grown inner left (nexts.Infix op) ts = do
+  x ← inner (level op + 1) ts
+  Some (e.Infix op left x.0, x.1)
+grown inner left (nexts.Shift up n) ts = Some (e.Shift left up n, ts)
+
+abbrev pub climb_on : (ℕ → Parser E) → (ℕ → E → Parser E) → E → Text → Option (Next × Text) → Outcome E
+climb_on inner next left ts None = Some (left, ts)
+climb_on inner next left ts (Some p) = do
+  x ← grown inner left p.0 p.1
+  next (next_level p.0) x.0 x.1
+
+-- the left operand, of level `tight`, with all that follows it, in at most so many turns
+unfoldable pub climb : (ℕ → Parser E) → ℕ → ℕ → ℕ → E → Parser E
+climb inner least zero tight left ts = Some (left, ts)
+climb inner least (suc n) tight left ts = climb_on inner (climb inner least n) left ts (next_within least tight ts)
+
+-- ---- operands
+
+abbrev pub arguments_on : Parser (List E) → Text → Option Text → Outcome (List E)
+arguments_on some ts (Some r) = Some ([], r)
+arguments_on some ts None = do
+  xs ← some ts
+  r ← after signs.CloseParen xs.1
+  Some (xs.0, r)
+
+-- what a call is given, behind its open parenthesis
+unfoldable pub arguments : (ℕ → Parser E) → Parser (List E)
+arguments inner ts = arguments_on (separated (inner 1)) ts (after signs.CloseParen ts)
+
+abbrev pub named_on : (ℕ → Parser E) → List ℕ → Text → Option Text → Outcome E
+named_on inner n ts None = Some (e.Name n, ts)
+named_on inner n ts (Some r) = do
+  xs ← arguments inner r
+  Some (e.Call n xs.0, xs.1)
+
+-- what begins with a name
+unfoldable pub named : (ℕ → Parser E) → List ℕ → Parser E
+named inner n ts = named_on inner n ts (after signs.OpenParen ts)
+
+-- behind `Sys`
+unfoldable pub after_time : Text → Option Text
+after_time ts = do
+  r ← after signs.Dot ts
+  s ← after_name (codes "time") r
+  t ← after signs.OpenParen s
+  after signs.CloseParen t
+
+-- behind `hash`
+unfoldable pub hash : (ℕ → Parser E) → Parser E
+hash inner ts = do
+  w ← width ts
+  r ← after signs.OpenParen w.1
+  xs ← separated (inner 1) r
+  s ← after signs.CloseParen xs.1
+  Some (e.Hash w.0 xs.0, s)
+
+-- behind a prefix sign
+unfoldable pub prefixed : (ℕ → Parser E) → Pre → Parser E
+prefixed inner p ts = do
+  x ← inner 9 ts
+  Some (e.Prefix p x.0, x.1)
+
+-- behind an open parenthesis: the type of a cast and its operand, or an expression
+unfoldable pub in_parens : (ℕ → Parser E) → Parser E
+in_parens inner (lexemes.Word words.Int ∷ ts) = do
+  w ← width_if ts
+  r ← after signs.CloseParen w.1
+  x ← inner 9 r
+  Some (e.Cast w.0 x.0, x.1)
+in_parens inner ts = do
+  x ← inner 1 ts
+  r ← after signs.CloseParen x.1
+  Some (e.Paren x.0, r)
+
+-- ---- calls of arrays
+
+abbrev pub method_of : List ℕ → Option Method
+method_of bytes =
+    if bytes_eq bytes (codes "get") then Some methods.Get
+    else (if bytes_eq bytes (codes "set") then Some methods.Set
+    else (if bytes_eq bytes (codes "getm") then Some methods.Getm
+    else (if bytes_eq bytes (codes "setm") then Some methods.Setm
+    else (if bytes_eq bytes (codes "update") then Some methods.Update
+    else None))))
+
+-- a memop and its argument
+unfoldable pub memop_part : (ℕ → Parser E) → Parser (List ℕ × E)
+memop_part inner ts = do
+  r ← after signs.Comma ts
+  n ← name r
+  s ← after signs.Comma n.1
+  x ← inner 1 s
+  Some ((n.0, x.0), x.1)
+
+-- what follows the array's name and the index
+unfoldable pub array_rest : (ℕ → Parser E) → List ℕ → E → Method → Parser A
+array_rest inner n i methods.Get ts = Some (a.Get n i, ts)
+array_rest inner n i methods.Set ts = do
+  r ← after signs.Comma ts
+  x ← inner 1 r
+  Some (a.Set n i x.0, x.1)
+array_rest inner n i methods.Getm ts = do
+  x ← memop_part inner ts
+  Some (a.Getm n i x.0.0 x.0.1, x.1)
+array_rest inner n i methods.Setm ts = do
+  x ← memop_part inner ts
+  Some (a.Setm n i x.0.0 x.0.1, x.1)
+array_rest inner n i methods.Update ts = do
+  x ← memop_part inner ts
+  y ← memop_part inner x.1
+  Some (a.Update n i x.0.0 x.0.1 y.0.0 y.0.1, y.1)
+
+-- behind `Array`, up to the open parenthesis
+unfoldable pub array_method : Parser Method
+array_method ts = do
+  r ← after signs.Dot ts
+  n ← name r
+  m ← method_of n.0
+  s ← after signs.OpenParen n.1
+  Some (m, s)
+
+-- behind `Array`
+unfoldable pub array_call : (ℕ → Parser E) → Parser A
+array_call inner ts = do
+  m ← array_method ts
+  n ← name m.1
+  r ← after signs.Comma n.1
+  i ← inner 1 r
+  x ← array_rest inner n.0 i.0 m.0 i.1
+  s ← after signs.CloseParen x.1
+  Some (x.0, s)
+
+-- ---- expressions
+
+unfoldable pub operand : (ℕ → Parser E) → Parser E
+operand inner (lexemes.Number n ∷ ts) = Some (e.Number n, ts)
+operand inner (lexemes.Name n ∷ ts) = named inner n ts
+operand inner (lexemes.Word words.True ∷ ts) = Some (e.Truth true, ts)
+operand inner (lexemes.Word words.False ∷ ts) = Some (e.Truth false, ts)
+operand inner (lexemes.Word words.Me ∷ ts) = Some (e.Me, ts)
+operand inner (lexemes.Word words.SysCalls ∷ ts) = do
+  r ← after_time ts
+  Some (e.Time, r)
+operand inner (lexemes.Word words.Hash ∷ ts) = hash inner ts
+operand inner (lexemes.Word words.ArrayCalls ∷ ts) = do
+  x ← array_call inner ts
+  Some (e.Array x.0, x.1)
+operand inner (lexemes.Sign signs.Minus ∷ ts) = prefixed inner pres.Minus ts
+operand inner (lexemes.Sign signs.Tilde ∷ ts) = prefixed inner pres.Tilde ts
+operand inner (lexemes.Sign signs.Not ∷ ts) = prefixed inner pres.Not ts
+operand inner (lexemes.Sign signs.OpenParen ∷ ts) = in_parens inner ts
+operand inner _ = None
+
+-- an expression of at least this level, with at most so many expressions round one another
+unfoldable pub expression_at : ℕ → ℕ → Parser E
+expression_at zero least ts = None
+expression_at (suc d) least ts = do
+  x ← operand (expression_at d) ts
+  climb (expression_at d) least (length x.1) 9 x.0 x.1
+
+-- an expression; it has no more expressions round one another than tokens
+unfoldable pub expression : Parser E
+expression ts = expression_at (length ts) 1 ts
