@@ -7,7 +7,7 @@ use Rattle.lucid_base.specs.declared.ops.BinOp.{BinOp}
 use Rattle.lucid_base.specs.declared.ops.BinOp.TheVariants.{Add, Sub, And, Or, Xor, SatAdd, SatSub}
 use Rattle.lucid_base.specs.Ops.{un_of, bin_of, low_of, IsShiftBy}
 use Rattle.lucid_base.specs.Hash.{fnv_1a, bytes_of, hash_of}
-use Rattle.lucid_base.specs.Memop.{operand_of, side_of, test_of, apply_of, OperandFits, SideFits, FixedFit}
+use Rattle.lucid_base.specs.Memop.{operand_of, side_of, test_of, apply_of}
 use Rattle.lucid_base.specs.declared.memory_alu.MemArg.{MemArg}
 use Rattle.lucid_base.specs.declared.memory_alu.MemArg.TheVariants.{Stored, Arg, Fixed}
 use Rattle.lucid_base.specs.declared.memory_alu.MemSide.{MemSide}
@@ -43,18 +43,15 @@ low_of-fits w n = mod_below n (2 ^ w) (pow_pos w)
 pub hash_of-fits : (w : ℕ) (words : List ℕ) → hash_of w words < 2 ^ w
 hash_of-fits w words = low_of-fits w (fnv_1a (bytes_of words))
 
-operand_of-fits : (operand : MemArg) (w stored arg : ℕ) → stored < 2 ^ w → arg < 2 ^ w → OperandFits w operand →
-    operand_of operand stored arg < 2 ^ w
-operand_of-fits Stored w stored arg below also fixed = below
-operand_of-fits Arg w stored arg below also fixed = also
-operand_of-fits (Fixed n) w stored arg below also fixed = fixed
+operand_of-fits : (operand : MemArg) (w stored arg : ℕ) → stored < 2 ^ w → arg < 2 ^ w → operand_of operand w stored arg < 2 ^ w
+operand_of-fits Stored w stored arg below also = below
+operand_of-fits Arg w stored arg below also = also
+operand_of-fits (Fixed n) w stored arg below also = low_of-fits w n
 
-side_of-fits : (side : MemSide) (w stored arg : ℕ) → stored < 2 ^ w → arg < 2 ^ w → SideFits w side →
-    side_of side w stored arg < 2 ^ w
-side_of-fits (One a) w stored arg below also fixed = operand_of-fits a w stored arg below also fixed
-side_of-fits (Two op a b) w stored arg below also fixed =
-    bin_of-fits op w (operand_of a stored arg) (operand_of b stored arg)
-    (operand_of-fits a w stored arg below also fixed.0) (operand_of-fits b w stored arg below also fixed.1)
+side_of-fits : (side : MemSide) (w stored arg : ℕ) → stored < 2 ^ w → arg < 2 ^ w → side_of side w stored arg < 2 ^ w
+side_of-fits (One a) w stored arg below also = operand_of-fits a w stored arg below also
+side_of-fits (Two op a b) w stored arg below also =
+    bin_of-fits op w (operand_of a w stored arg) (operand_of b w stored arg) (operand_of-fits a w stored arg below also) (operand_of-fits b w stored arg below also)
 
 -- one of two sides fits where both do
 either_side-fits : (takes_first : Bool) (first second : MemSide) (w stored arg : ℕ) →
@@ -63,9 +60,7 @@ either_side-fits : (takes_first : Bool) (first second : MemSide) (w stored arg :
 either_side-fits true first second w stored arg this that = this
 either_side-fits false first second w stored arg this that = that
 
-pub apply_of-fits : (alu : MemAlu) (stored arg : ℕ) → stored < 2 ^ alu.width → arg < 2 ^ alu.width → FixedFit alu →
-    apply_of alu stored arg < 2 ^ alu.width
-apply_of-fits alu stored arg below also fixed =
-    either_side-fits (test_of alu.test stored arg) alu.yes alu.no alu.width stored arg
-    (side_of-fits alu.yes alu.width stored arg below also fixed.yes)
-    (side_of-fits alu.no alu.width stored arg below also fixed.no)
+pub apply_of-fits : (alu : MemAlu) (stored arg : ℕ) → stored < 2 ^ alu.width → arg < 2 ^ alu.width → apply_of alu stored arg < 2 ^ alu.width
+apply_of-fits alu stored arg below also =
+    either_side-fits (test_of alu.test alu.width stored arg) alu.yes alu.no alu.width stored arg
+    (side_of-fits alu.yes alu.width stored arg below also) (side_of-fits alu.no alu.width stored arg below also)

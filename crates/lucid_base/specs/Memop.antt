@@ -1,52 +1,48 @@
--- What a memop gives of the stored number and an argument.
-use Rattle.std.specs.Prelude.{ℕ, ◌^◌, ◌<◌, Bool, true, if◌then◌else◌, Option, None, Some}
+-- What a memop gives of the stored number and an argument, and whether its fixed numbers fit.
+use Rattle.std.specs.Prelude.{ℕ, ◌^◌, Bool, true, ◌&&◌, nat_lt, if◌then◌else◌, Option, None, Some}
 use Rattle.lucid_base.specs.declared.ops.CmpOp.{CmpOp}
 use Rattle.lucid_base.specs.declared.memory_alu.MemArg.{MemArg}
 use Rattle.lucid_base.specs.declared.memory_alu.MemArg.TheVariants.{Stored, Arg, Fixed}
 use Rattle.lucid_base.specs.declared.memory_alu.MemSide.{MemSide}
 use Rattle.lucid_base.specs.declared.memory_alu.MemSide.TheVariants.{One, Two}
 use Rattle.lucid_base.specs.declared.memory_alu.MemAlu.{MemAlu}
-use Rattle.lucid_base.specs.Ops.{bin_of, cmp_of}
+use Rattle.lucid_base.specs.Ops.{bin_of, cmp_of, low_of}
 
--- the number that an operand stands for
-abbrev pub operand_of : MemArg → ℕ → ℕ → ℕ
-operand_of Stored stored arg = stored
-operand_of Arg stored arg = arg
-operand_of (Fixed n) stored arg = n
+-- the number that an operand stands for, at width w
+abbrev pub operand_of : MemArg → ℕ → ℕ → ℕ → ℕ
+operand_of Stored w stored arg = stored
+operand_of Arg w stored arg = arg
+operand_of (Fixed n) w stored arg = low_of w n
 
--- what one side gives, at width w
+-- what one side gives
 abbrev pub side_of : MemSide → ℕ → ℕ → ℕ → ℕ
-side_of (One a) w stored arg = operand_of a stored arg
-side_of (Two op a b) w stored arg = bin_of op w (operand_of a stored arg) (operand_of b stored arg)
+side_of (One a) w stored arg = operand_of a w stored arg
+side_of (Two op a b) w stored arg = bin_of op w (operand_of a w stored arg) (operand_of b w stored arg)
 
 -- whether the test holds; a memop without one takes its yes side
-abbrev pub test_of : Option (CmpOp × MemArg × MemArg) → ℕ → ℕ → Bool
-test_of None stored arg = true
-test_of (Some test) stored arg = cmp_of test.0 (operand_of test.1 stored arg) (operand_of test.2 stored arg)
+abbrev pub test_of : Option (CmpOp × MemArg × MemArg) → ℕ → ℕ → ℕ → Bool
+test_of None w stored arg = true
+test_of (Some test) w stored arg = cmp_of test.0 (operand_of test.1 w stored arg) (operand_of test.2 w stored arg)
 
 -- what the memop gives
 abbrev pub apply_of : MemAlu → ℕ → ℕ → ℕ
 apply_of alu stored arg =
-    side_of (if test_of alu.test stored arg then alu.yes else alu.no) alu.width stored arg
+    side_of (if test_of alu.test alu.width stored arg then alu.yes else alu.no) alu.width stored arg
 
--- a fixed number fits the width; what is stored and the argument are spoken of elsewhere
-abbrev pub OperandFits : ℕ → MemArg → Type 0
-OperandFits w (Fixed n) = n < 2 ^ w
-OperandFits w Stored = Unit {0}
-OperandFits w Arg = Unit {0}
+-- whether a fixed number fits the width
+abbrev pub operand_fits : ℕ → MemArg → Bool
+operand_fits w Stored = true
+operand_fits w Arg = true
+operand_fits w (Fixed n) = nat_lt n (2 ^ w)
 
--- so do the fixed numbers of a side
-abbrev pub SideFits : ℕ → MemSide → Type 0
-SideFits w (One a) = OperandFits w a
-SideFits w (Two op a b) = OperandFits w a × OperandFits w b
+abbrev pub side_fits : ℕ → MemSide → Bool
+side_fits w (One a) = operand_fits w a
+side_fits w (Two op a b) = operand_fits w a && operand_fits w b
 
--- and those of a test
-abbrev pub TestFits : ℕ → Option (CmpOp × MemArg × MemArg) → Type 0
-TestFits w None = Unit {0}
-TestFits w (Some test) = OperandFits w test.1 × OperandFits w test.2
+abbrev pub test_fits : ℕ → Option (CmpOp × MemArg × MemArg) → Bool
+test_fits w None = true
+test_fits w (Some test) = operand_fits w test.1 && operand_fits w test.2
 
--- every fixed number of the memop fits its width
-pub record FixedFit (alu : MemAlu) : Type 0 where
-  pub test : TestFits alu.width alu.test
-  pub yes : SideFits alu.width alu.yes
-  pub no : SideFits alu.width alu.no
+-- whether every fixed number of the memop fits its width
+abbrev pub memop_fits : MemAlu → Bool
+memop_fits m = test_fits m.width m.test && side_fits m.width m.yes && side_fits m.width m.no

@@ -1,10 +1,10 @@
 // A memop as plain values: what the memory of one stage can compute of a cell and an argument, by the table in specs/Memop.
 ghost use Rattle.std.specs.Prelude.{◌≡◌, ◌<◌, ◌^◌};
-ghost use Rattle.lucid_base.specs.Memop.{OperandFits, SideFits, FixedFit, operand_of, side_of, apply_of};
+ghost use Rattle.lucid_base.specs.Memop.{operand_of, side_of, apply_of};
 
 use crate::{BinOp, Bits, CmpOp, Width, apply_bin, compare};
 
-/// An operand of a memop: the stored number, the argument, or a number of the program.
+/// An operand of a memop: the stored number, the argument, or a number of the program, which counts by its low bits.
 #[derive(Clone, Copy, Debug, PartialEq, Eq)]
 pub enum MemArg {
     Stored,
@@ -29,11 +29,10 @@ pub struct MemAlu {
 }
 
 impl MemAlu {
-    /// What the memop gives of the stored number and an argument. Both, and its fixed numbers, fit its width, and so does what it gives.
+    /// What the memop gives of the stored number and an argument. Both fit its width, and so does what it gives.
     pub fn apply(&self, stored: u64, arg: u64) -> u64
         requires stored { stored < 2 ^ self.now.width }
         requires arg { arg < 2 ^ self.now.width }
-        requires fixed { FixedFit self.now }
         ensures value { result ≡ apply_of self.now stored arg }
         ensures fits { result < 2 ^ self.now.width }
     {
@@ -55,14 +54,13 @@ impl MemArg {
     fn bits(self, width: Width, stored: u64, arg: u64) -> Bits
         requires stored { stored < 2 ^ width }
         requires arg { arg < 2 ^ width }
-        requires fixed { OperandFits width self }
         ensures width { result.width ≡ width }
-        ensures value { result.value ≡ operand_of self stored arg }
+        ensures value { result.value ≡ operand_of self width stored arg }
     {
         let value = match self {
             MemArg::Stored => stored,
             MemArg::Arg => arg,
-            MemArg::Fixed(n) => n,
+            MemArg::Fixed(n) => width.low(n),
         };
         Bits { width, value }
     }
@@ -72,7 +70,6 @@ impl MemSide {
     fn bits(self, width: Width, stored: u64, arg: u64) -> Bits
         requires stored { stored < 2 ^ width }
         requires arg { arg < 2 ^ width }
-        requires fixed { SideFits width self }
         ensures width { result.width ≡ width }
         ensures value { result.value ≡ side_of self width stored arg }
     {

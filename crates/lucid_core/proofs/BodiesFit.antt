@@ -2,6 +2,7 @@
 use Rattle.std.proofs.Common.{◌≡◌, ℕ, ◌≤◌, List, [], ◌∷◌, ◌++◌, true, false, ◌&&◌, ◌||◌, not, map, length, Option, None, Some, refl, sym, ap, subst, arith, append_assoc, append-nil, All, IsTrue, is_some, nat_le, slice_get, option_and_then}
 use Rattle.std.specs.List.{list_all}
 use Rattle.std.proofs.lemmas.Bool.{and_parts, leb-true}
+use Rattle.std.proofs.lemmas.List.Elements.{All-weaker}
 use Rattle.std.proofs.lemmas.List.Sums.{AllPass-from_list_all}
 use Rattle.lucid_base.specs.declared.bits.Bits.{Bits}
 use Rattle.lucid_base.specs.declared.event.Event.{Event}
@@ -15,7 +16,7 @@ use Rattle.lucid_core.specs.declared.body.Expr.TheFolds.{fold-roll-Expr, fold-ro
 use Rattle.lucid_core.specs.declared.defs.FunDef.{FunDef}
 use Rattle.lucid_core.specs.declared.defs.HandlerDef.{HandlerDef}
 use Rattle.lucid_core.specs.Acts.{Act, Effect, Frame, Fun, State, begun_with}
-use Rattle.lucid_core.specs.Fits.{out_fits}
+use Rattle.lucid_core.specs.Fits.{carried, out_fits}
 use Rattle.lucid_core.specs.Meaning as m
 use Rattle.lucid_core.specs.Meaning.{value_of, effect_of, touch_of, fun_of, funs_from}
 use Rattle.lucid_core.specs.OutCount.{body_outs, funs_outs}
@@ -30,7 +31,7 @@ use Rattle.lucid_core.specs.Typing as t
 use Rattle.lucid_core.specs.Typing.{Answer, Typed, answer_of, returns_of, touch_answer, body_gives_only}
 use Rattle.lucid_core.specs.Valid.{IsSound}
 use Rattle.lucid_core.specs.Values.{nothing}
-use Rattle.lucid_core.proofs.Fine.{IsFine, FunFits, Stands, answer_given, once}
+use Rattle.lucid_core.proofs.Fine.{IsFine, FunFits, Stands, answer_given, goes_out, once}
 use Rattle.lucid_core.proofs.Pairwise.{Pairwise, one_more}
 use Rattle.lucid_core.proofs.SentCount.{handler_keeps}
 use Rattle.lucid_core.proofs.SentFit.{BodyFits, E, S, T, ExprFits, StmtFits, expr_texts, touch_texts, expr_tree, touch_tree, stmt_tree, stmts, block_fits, expr_level, touch_level, stmt_level}
@@ -95,6 +96,10 @@ module _ (core : Parts) (s : Scope) (p : Frame) (stands : Stands core s p) where
   body_fits : (ss : List Stmt) → BodyFits core s p stands ss
   body_fits ss = subst (BodyFits core s p stands) (stmts-proved ss) (block_fits core s p stands (proved ss))
 
+-- No event has more than 8 parameters.
+abbrev EventsAreSmall : Parts → Type 0
+EventsAreSmall parts = list_all (λ e. nat_le (length e.params) 8) parts.events ≡ true
+
 -- The rules for a function, behind those before it.
 record IsSoundFun (parts : Parts) (before : List FunDef) (f : FunDef) : Type 0 where
   widths : body_gives_only f.answer f.body (fun_scope parts before f) ≡ true
@@ -102,39 +107,39 @@ record IsSoundFun (parts : Parts) (before : List FunDef) (f : FunDef) : Type 0 w
   returns : ((body_returns f.body).last && (not (is_some f.answer) || (body_returns f.body).always)) ≡ true
 
 -- A sound function gives a value of its answer's width.
-fun_fits : (parts : Parts) (now me : ℕ) (before : List FunDef) (known : List Fun) (f : FunDef) → Pairwise (FunFits parts) before known → IsSoundFun parts before f →
+fun_fits : (parts : Parts) → EventsAreSmall parts → (now me : ℕ) (before : List FunDef) (known : List Fun) (f : FunDef) → Pairwise (FunFits parts) before known → IsSoundFun parts before f →
     FunFits parts f (fun_of now me known f)
-fun_fits parts now me before known f pairs sound arrays vs width ws a s fine =
+fun_fits parts few now me before known f pairs sound arrays vs width ws a s fine =
     let place : Frame = record { now = now; me = me; arrays = arrays; funs = known } in
     let rule = body_rule (fun_scope parts before f) f.answer (map returns_of f.body) sound.widths in
     let own : State = record s { locals = begun_with vs f.locals; answer = nothing } in
     let begun : IsFine parts f.locals (once false f.answer) own = record { locals = widths-begun vs f.params f.locals width; answer = tt; outs = fine.outs } in
     let ends = and_parts _ _ sound.returns in
-    let done = body_fits parts (fun_scope parts before f) place (record { events = refl; funs = pairs }) f.body sound.texts ends.0 rule.0 rule.1 f.answer rule.2 false own begun in
+    let done = body_fits parts (fun_scope parts before f) place (record { events = refl; few = few; funs = pairs }) f.body sound.texts ends.0 rule.0 rule.1 f.answer rule.2 false own begun in
     record {
       gives = answer_given parts f.locals f.answer (is_some f.answer) (body_returns f.body).always _ (λ w e. ap is_some e) ends.1 done;
       fine = record { locals = fine.locals; answer = fine.answer; outs = done.outs };
     }
 
 -- Behind sound functions, each function is sound.
-funs_fit : (parts : Parts) (now me : ℕ) (before : List FunDef) (known : List Fun) (fs : List FunDef) → Pairwise (FunFits parts) before known →
+funs_fit : (parts : Parts) → EventsAreSmall parts → (now me : ℕ) (before : List FunDef) (known : List Fun) (fs : List FunDef) → Pairwise (FunFits parts) before known →
     funs_pass (λ earlier f. body_gives_only f.answer f.body (fun_scope parts earlier f)) before fs ≡ true →
     list_all (λ f. body_fills_texts f.body parts.forms) fs ≡ true →
     list_all (λ f. (body_returns f.body).last && (not (is_some f.answer) || (body_returns f.body).always)) fs ≡ true →
     Pairwise (FunFits parts) (before ++ fs) (funs_from now me known fs)
-funs_fit parts now me before known [] pairs widths texts returns = subst (λ (q : List FunDef). Pairwise (FunFits parts) q known) (sym (append-nil before)) pairs
-funs_fit parts now me before known (f ∷ fs) pairs widths texts returns =
+funs_fit parts few now me before known [] pairs widths texts returns = subst (λ (q : List FunDef). Pairwise (FunFits parts) q known) (sym (append-nil before)) pairs
+funs_fit parts few now me before known (f ∷ fs) pairs widths texts returns =
     let width = and_parts _ _ widths in
     let text = and_parts _ _ texts in
     let return = and_parts _ _ returns in
-    let one = fun_fits parts now me before known f pairs (record { widths = width.0; texts = text.0; returns = return.0 }) in
+    let one = fun_fits parts few now me before known f pairs (record { widths = width.0; texts = text.0; returns = return.0 }) in
     let more = one_more (FunFits parts) before known f (fun_of now me known f) pairs one in
-    let all = funs_fit parts now me (before ++ f ∷ []) (known ++ fun_of now me known f ∷ []) fs more width.1 text.1 return.1 in
+    let all = funs_fit parts few now me (before ++ f ∷ []) (known ++ fun_of now me known f ∷ []) fs more width.1 text.1 return.1 in
     subst (λ (q : List FunDef). Pairwise (FunFits parts) q (funs_from now me (known ++ fun_of now me known f ∷ []) fs)) (append_assoc before (f ∷ []) fs) all
 
--- What is sent out fits, and is at most 8 outs.
+-- What is sent out fits and carries few numbers, and is at most 8 outs.
 abbrev OutsFit : Parts → List Out → Type 0
-OutsFit parts outs = (list_all (out_fits parts) outs ≡ true) × (length outs ≤ 8)
+OutsFit parts outs = (list_all (goes_out parts) outs ≡ true) × (length outs ≤ 8)
 
 module _ (parts : Parts) (sound : IsSound parts) (cells : List (List ℕ)) (now me : ℕ) (args : List ℕ) where
   few_counted : (k : ℕ) (h : HandlerDef) → slice_get parts.handlers k ≡ Some h → body_outs h.body (funs_outs [] parts.funs) ≤ 8
@@ -144,21 +149,26 @@ module _ (parts : Parts) (sound : IsSound parts) (cells : List (List ℕ)) (now 
   started_fine : (h : HandlerDef) → IsFine parts h.locals (once false None) (started h cells args)
   started_fine h = record { locals = widths-begun (taken_at h.locals args) (length args) h.locals (widths-taken h.locals args); answer = tt; outs = refl }
 
+  sent_few : (k : ℕ) (h : HandlerDef) → slice_get parts.handlers k ≡ Some h → length (handled (Some h) parts cells now me args).after.outs ≤ 8
+  sent_few k h is =
+      let least = few_counted k h is in
+      let counted = handler_keeps h parts cells now me args in
+      omega arith
+
   handler_fits : (k : ℕ) (h : HandlerDef) → slice_get parts.handlers k ≡ Some h → OutsFit parts (handled (Some h) parts cells now me args).after.outs
   handler_fits k h is =
       let widths = and_parts _ _ sound.widths in
       let texts = and_parts _ _ sound.texts in
       let returns = and_parts _ _ sound.returns in
-      let pairs = funs_fit parts now me [] [] parts.funs tt widths.0 texts.0 returns.0 in
+      let few : EventsAreSmall parts = (and_parts _ _ (and_parts _ _ sound.declarations).0).1 in
+      let pairs = funs_fit parts few now me [] [] parts.funs tt widths.0 texts.0 returns.0 in
       let place : Frame = record { now = now; me = me; arrays = []; funs = funs_from now me [] parts.funs } in
       let rule = body_rule (handler_scope parts h) None (map returns_of h.body) (passes_at _ parts.handlers k h widths.1 is) in
       let begun = started_fine h in
       let text = passes_at _ parts.handlers k h texts.1 is in
       let return = passes_at _ parts.handlers k h returns.1 is in
-      let done = body_fits parts (handler_scope parts h) place (record { events = refl; funs = pairs }) h.body text return rule.0 rule.1 None rule.2 false (started h cells args) begun in
-      let few = few_counted k h is in
-      let counted = handler_keeps h parts cells now me args in
-      (done.outs, omega arith)
+      let done = body_fits parts (handler_scope parts h) place (record { events = refl; few = few; funs = pairs }) h.body text return rule.0 rule.1 None rule.2 false (started h cells args) begun in
+      (done.outs, sent_few k h is)
 
   -- An event without a handler sends nothing.
   at_handler : (k : ℕ) (found : Option HandlerDef) → slice_get parts.handlers k ≡ found → OutsFit parts (handled found parts cells now me args).after.outs
@@ -169,9 +179,18 @@ module _ (parts : Parts) (sound : IsSound parts) (cells : List (List ℕ)) (now 
   handled_fits None = (refl, omega arith)
   handled_fits (Some k) = at_handler k (slice_get parts.handlers k) refl
 
--- In a sound program, what an event's handler sends out fits.
-pub outs_fit : (parts : Parts) → IsSound parts → (cells : List (List ℕ)) (now me : ℕ) (event : Event) →
-    All (λ out. IsTrue (out_fits parts out)) (step parts cells now me event).outs × (length (step parts cells now me event).outs ≤ 8)
+-- In a sound program, what an event's handler sends out fits and carries few numbers, and is at most 8 outs.
+pub record SendsFew (parts : Parts) (outs : List Out) : Type 0 where
+  pub each : All (λ out. IsTrue (out_fits parts out)) outs
+  pub small : All (λ out. length (carried out) ≤ 8) outs
+  pub few : length outs ≤ 8
+
+pub outs_fit : (parts : Parts) → IsSound parts → (cells : List (List ℕ)) (now me : ℕ) (event : Event) → SendsFew parts (step parts cells now me event).outs
 outs_fit parts sound cells now me event =
     let fit = handled_fits parts sound cells now me event.args (option_and_then (λ e. e.handler) (slice_get parts.events event.id)) in
-    (AllPass-from_list_all (out_fits parts) _ fit.0, fit.1)
+    let all = AllPass-from_list_all (goes_out parts) _ fit.0 in
+    record {
+      each = All-weaker (λ out. goes_out parts out ≡ true) (λ out. IsTrue (out_fits parts out)) (λ out fits. (and_parts _ _ fits).0) _ all;
+      small = All-weaker (λ out. goes_out parts out ≡ true) (λ out. length (carried out) ≤ 8) (λ out fits. leb-true _ _ (and_parts _ _ fits).1) _ all;
+      few = fit.1;
+    }

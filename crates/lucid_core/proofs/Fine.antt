@@ -1,5 +1,5 @@
 -- What holds of the state of a body all along, and acts that keep it so.
-use Rattle.std.proofs.Common.{◌≡◌, ℕ, zero, suc, List, [], ◌∷◌, ◌++◌, Bool, true, false, not, ◌&&◌, ◌||◌, ◌⊎◌, inl, inr, is_some, if◌then◌else◌, map, take, Option, None, Some, refl, sym, ap, subst, ◌∙◌, slice_get, nat_eq}
+use Rattle.std.proofs.Common.{◌≡◌, ℕ, zero, suc, List, [], ◌∷◌, ◌++◌, Bool, true, false, not, ◌&&◌, ◌||◌, ◌⊎◌, inl, inr, is_some, if◌then◌else◌, map, take, Option, None, Some, refl, sym, ap, subst, ◌∙◌, length, slice_get, nat_eq, nat_le}
 use Rattle.std.specs.List.{list_all, list_any}
 use Rattle.std.specs.Option.{option_eq, option_map_or}
 use Rattle.std.proofs.lemmas.List.Folds.{list_all-append, list_any-append}
@@ -10,14 +10,14 @@ use Rattle.lucid_base.specs.declared.event.Target.{Target}
 use Rattle.lucid_base.specs.declared.event.Target.TheVariants.{At}
 use Rattle.lucid_core.specs.declared.defs.FunDef.{FunDef}
 use Rattle.lucid_core.specs.Acts.{Act, Frame, Fun, State, Ran, both, call_of}
-use Rattle.lucid_core.specs.Fits.{out_fits}
+use Rattle.lucid_core.specs.Fits.{carried, out_fits}
 use Rattle.lucid_core.specs.Meaning.{generated, generated_to}
 use Rattle.lucid_core.specs.Parts.{Parts}
 use Rattle.lucid_core.specs.Scope.{Scope}
 use Rattle.lucid_core.specs.Texts.{holes_of}
 use Rattle.lucid_core.specs.Typing.{Answer}
 use Rattle.lucid_core.proofs.Pairwise.{Pairwise}
-use Rattle.lucid_core.proofs.WidthLists.{widths, event_is_fit}
+use Rattle.lucid_core.proofs.WidthLists.{widths, event_is_fit, numbers-as_many, params_are_few}
 
 -- The value has the width that is answered; where no value is answered, any will do.
 abbrev pub Has : Answer → Bits → Type 0
@@ -29,11 +29,15 @@ abbrev pub once : Bool → Answer → Answer
 once true a = a
 once false a = None
 
--- Each local has its width, so has the answer, and all that was sent out fits.
+-- The out fits, and carries at most 8 numbers.
+abbrev pub goes_out : Parts → Out → Bool
+goes_out core out = out_fits core out && nat_le (length (carried out)) 8
+
+-- Each local has its width, so has the answer, and all that was sent out fits and carries few numbers.
 pub record IsFine (core : Parts) (ws : List ℕ) (a : Answer) (s : State) : Type 0 where
   pub locals : widths s.locals ≡ ws
   pub answer : Has a s.answer
-  pub outs : list_all (out_fits core) s.outs ≡ true
+  pub outs : list_all (goes_out core) s.outs ≡ true
 
 -- A run gives what P holds of, and leaves a state that is fine.
 pub record Goes {A : Type 0} (core : Parts) (ws : List ℕ) (a : Answer) (P : A → Type 0) (ran : Ran A) : Type 0 where
@@ -48,6 +52,7 @@ FunFits core f g = (arrays : List ℕ) (vs : List Bits) → widths vs ≡ take f
 -- A body runs where its scope says.
 pub record Stands (core : Parts) (s : Scope) (p : Frame) : Type 0 where
   pub events : s.events ≡ map (λ e. e.params) core.events
+  pub few : list_all (λ e. nat_le (length e.params) 8) core.events ≡ true
   pub funs : Pairwise (FunFits core) s.funs p.funs
 
 -- Ways to have the width that is answered.
@@ -107,30 +112,38 @@ module _ (core : Parts) (ws : List ℕ) where
   both_stay p false f g one two a s fine = one a (g p s).after (two a s fine)
 
   -- Outs that fit may follow.
-  pub sent_too : (a : Answer) (s : State) (outs : List Out) → IsFine core ws a s → list_all (out_fits core) outs ≡ true → IsFine core ws a (record s { outs = s.outs ++ outs })
+  pub sent_too : (a : Answer) (s : State) (outs : List Out) → IsFine core ws a s → list_all (goes_out core) outs ≡ true → IsFine core ws a (record s { outs = s.outs ++ outs })
   sent_too a s outs fine fit = record {
     locals = fine.locals;
     answer = fine.answer;
-    outs = list_all-append (out_fits core) s.outs outs ∙ and_from _ _ fine.outs fit;
+    outs = list_all-append (goes_out core) s.outs outs ∙ and_from _ _ fine.outs fit;
   }
 
 -- An event with values of the widths of its parameters fits, wherever it goes.
 pub generated_fits : (core : Parts) (s : Scope) (p : Frame) → Stands core s p → (event : ℕ) (params : List ℕ) (vs : List Bits) (delay : ℕ) (to : Target) →
-    slice_get s.events event ≡ Some params → widths vs ≡ params → out_fits core (generated event vs delay to) ≡ true
+    slice_get s.events event ≡ Some params → widths vs ≡ params → goes_out core (generated event vs delay to) ≡ true
 generated_fits core s p stands event params vs delay to declared e =
-    event_is_fit core.events event params vs (ap (λ (es : List (List ℕ)). slice_get es event) (sym stands.events) ∙ declared) e
+    let is : slice_get (map (λ d. d.params) core.events) event ≡ Some params = ap (λ (es : List (List ℕ)). slice_get es event) (sym stands.events) ∙ declared in
+    let few = params_are_few core.events event params is stands.few in
+    and_from _ _ (event_is_fit core.events event params vs is e) (ap (λ n. nat_le n 8) (numbers-as_many vs params e) ∙ few)
 
 -- So do those to all members of a group.
-pub group_fits : (core : Parts) (event : ℕ) (vs : List Bits) (delay : ℕ) (members : List ℕ) → ((m : ℕ) → out_fits core (generated event vs delay (At m)) ≡ true) →
-    list_all (out_fits core) (generated_to event vs delay members) ≡ true
+pub group_fits : (core : Parts) (event : ℕ) (vs : List Bits) (delay : ℕ) (members : List ℕ) → ((m : ℕ) → goes_out core (generated event vs delay (At m)) ≡ true) →
+    list_all (goes_out core) (generated_to event vs delay members) ≡ true
 group_fits core event vs delay [] fit = refl
 group_fits core event vs delay (m ∷ ms) fit = and_from _ _ (fit m) (group_fits core event vs delay ms fit)
 
--- A print has as many numbers as its text has `%d`.
-pub say_is_fit : (text : Option (List ℕ)) (n m : ℕ) → n ≡ m → option_map_or (λ t. nat_eq n (holes_of t)) text false ≡ true →
+-- A print has as many numbers as its text has `%d`, and few.
+holes_filled : (text : Option (List ℕ)) (n m : ℕ) → n ≡ m → option_map_or (λ t. nat_eq n (holes_of t)) text false ≡ true →
     option_map_or (λ t. nat_eq (holes_of t) m) text false ≡ true
-say_is_fit None n m e h = h
-say_is_fit (Some t) n m e h = eq-eqb _ _ (sym (eqb-true n (holes_of t) h) ∙ e)
+holes_filled None n m e h = h
+holes_filled (Some t) n m e h = eq-eqb _ _ (sym (eqb-true n (holes_of t) h) ∙ e)
+
+pub say_is_fit : (text : Option (List ℕ)) (n m : ℕ) → n ≡ m → (nat_le n 8 && option_map_or (λ t. nat_eq n (holes_of t)) text false) ≡ true →
+    (option_map_or (λ t. nat_eq (holes_of t) m) text false && nat_le m 8) ≡ true
+say_is_fit text n m e h =
+    let rule = and_parts _ _ h in
+    and_from _ _ (holes_filled text n m e rule.1) (ap (λ k. nat_le k 8) (sym e) ∙ rule.0)
 
 -- Of two lists of which all pass a test.
 pub both_pass : {A : Type 0} (test : A → Bool) (xs ys : List A) → list_all test (xs ++ ys) ≡ true → (list_all test xs ≡ true) × (list_all test ys ≡ true)

@@ -1,8 +1,9 @@
 -- Values that have stated widths.
-use Rattle.std.proofs.Common.{◌≡◌, ℕ, zero, suc, List, [], ◌∷◌, Bool, true, false, length, map, take, Some, refl, sym, ap, ◌∙◌, slice_get, slice_index_or, slice_set}
+use Rattle.std.proofs.Common.{◌≡◌, ℕ, zero, suc, List, [], ◌∷◌, Bool, true, false, length, map, take, Some, refl, sym, ap, ◌∙◌, nat_le, slice_get, slice_index_or, slice_set}
 use Rattle.std.specs.List.{list_all}
 use Rattle.std.specs.Option.{option_map_or}
 use Rattle.std.proofs.lemmas.Bool.{and_from, and_parts, lt-ltb}
+use Rattle.std.proofs.lemmas.List.{length-map}
 use Rattle.lucid_base.specs.Bits.{bits_of}
 use Rattle.lucid_base.specs.declared.bits.Bits.{Bits}
 use Rattle.lucid_core.specs.declared.defs.EventDef.{EventDef}
@@ -72,6 +73,17 @@ pub event_is_fit : (events : List EventDef) (id : ℕ) (params : List ℕ) (vs :
 event_is_fit [] id params vs h e = absurd (cc)
 event_is_fit (d ∷ ds) zero params vs h e = let same : widths vs ≡ d.params = cc in ap (λ (ws : List ℕ). args_fit ws (numbers vs)) (sym same) ∙ args_fit-own vs
 event_is_fit (d ∷ ds) (suc id) params vs h e = event_is_fit ds id params vs h e
+
+-- Values of these widths are as many.
+pub numbers-as_many : (vs : List Bits) (ws : List ℕ) → widths vs ≡ ws → length (numbers vs) ≡ length ws
+numbers-as_many vs ws e = length-map vs _ ∙ sym (length-map vs _) ∙ ap length e
+
+-- Where no event has more than 8 parameters.
+pub params_are_few : (events : List EventDef) (id : ℕ) (params : List ℕ) → slice_get (map (λ e. e.params) events) id ≡ Some params →
+    list_all (λ e. nat_le (length e.params) 8) events ≡ true → nat_le (length params) 8 ≡ true
+params_are_few [] id params h all = absurd (cc)
+params_are_few (d ∷ ds) zero params h all = let same : d.params ≡ params = cc in ap (λ (ws : List ℕ). nat_le (length ws) 8) (sym same) ∙ (and_parts _ _ all).0
+params_are_few (d ∷ ds) (suc id) params h all = params_are_few ds id params h (and_parts _ _ all).1
 
 -- What all of a list pass, each passes.
 pub passes_at : {A : Type 0} (test : A → Bool) (xs : List A) (i : ℕ) (x : A) → list_all test xs ≡ true → slice_get xs i ≡ Some x → test x ≡ true

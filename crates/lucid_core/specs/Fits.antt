@@ -21,6 +21,11 @@ event_fits parts event = option_map_or (λ e. args_fit e.params event.args) (sli
 abbrev pub say_fits : Parts → ℕ → List ℕ → Bool
 say_fits parts form numbers = option_map_or (λ text. nat_eq (holes_of text) (length numbers)) (slice_get parts.forms form) false
 
+-- The numbers that an out carries.
+abbrev pub carried : Out → List ℕ
+carried (Gen event delay to) = event.args
+carried (Say form numbers) = numbers
+
 -- An event that is sent out fits the program, and a print fits its text.
 abbrev pub out_fits : Parts → Out → Bool
 out_fits parts (Gen event delay to) = event_fits parts event

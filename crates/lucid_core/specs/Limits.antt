@@ -1,5 +1,5 @@
 -- The limits on numbers of things, and the fixed numbers of memops.
-use Rattle.std.specs.Prelude.{ℕ, ◌^◌, List, Option, None, Some, Bool, true, ◌&&◌, length, map, nat_lt, nat_le}
+use Rattle.std.specs.Prelude.{ℕ, List, Bool, ◌&&◌, length, map, nat_lt, nat_le}
 use Rattle.std.specs.List.{list_all}
 use Rattle.lucid_core.specs.declared.body.Expr.{Expr}
 use Rattle.lucid_core.specs.declared.body.Stmt.{Stmt}
@@ -9,33 +9,11 @@ use Rattle.lucid_core.specs.declared.body.Expr.TheFolds.{fold-Expr, fold-Stmt, f
 use Rattle.lucid_core.specs.declared.defs.FunDef.{FunDef}
 use Rattle.lucid_core.specs.Children.{expr_children, stmt_children, touch_children}
 use Rattle.lucid_core.specs.Parts.{Parts}
-use Rattle.lucid_base.specs.declared.ops.CmpOp.{CmpOp}
-use Rattle.lucid_base.specs.declared.memory_alu.MemAlu.{MemAlu}
-use Rattle.lucid_base.specs.declared.memory_alu.MemArg.{MemArg}
-use Rattle.lucid_base.specs.declared.memory_alu.MemArg.TheVariants.{Stored, Arg, Fixed}
-use Rattle.lucid_base.specs.declared.memory_alu.MemSide.{MemSide}
-use Rattle.lucid_base.specs.declared.memory_alu.MemSide.TheVariants.{One, Two}
+use Rattle.lucid_base.specs.Memop.{memop_fits}
 use Rattle.lucid_core.specs.Numbers.{are_distinct}
 
 abbrev pub is_between : ℕ → ℕ → ℕ → Bool
 is_between least most n = nat_le least n && nat_le n most
-
--- A memop's fixed numbers fit its width.
-abbrev pub operand_fits : ℕ → MemArg → Bool
-operand_fits w Stored = true
-operand_fits w Arg = true
-operand_fits w (Fixed n) = nat_lt n (2 ^ w)
-
-abbrev pub side_fits : ℕ → MemSide → Bool
-side_fits w (One a) = operand_fits w a
-side_fits w (Two op a b) = operand_fits w a && operand_fits w b
-
-abbrev pub test_fits : ℕ → Option (CmpOp × MemArg × MemArg) → Bool
-test_fits w None = true
-test_fits w (Some test) = operand_fits w test.1 && operand_fits w test.2
-
-abbrev pub memop_fits : MemAlu → Bool
-memop_fits m = test_fits m.width m.test && side_fits m.width m.yes && side_fits m.width m.no
 
 abbrev pub are_members : List ℕ → Bool
 are_members members = is_between 1 8 (length members) && list_all (λ m. nat_lt m 64) members && are_distinct members
@@ -51,12 +29,11 @@ expr_step e = all (expr_children e)
 abbrev pub touch_step : Touch-F Bool Bool Bool → Bool
 touch_step t = memop_fits t.get && memop_fits t.set && all (touch_children t)
 
--- Events and prints have at most 8 arguments. A group has 1 to 8 members, each a switch, none twice.
+-- Events have at most 8 arguments. A group has 1 to 8 members, each a switch, none twice.
 abbrev pub stmt_step : Stmt-F Bool Bool Bool → Bool
 stmt_step (Stmt-F.Gen event xs delay to delay_first) = nat_le (length xs) 8 && all (stmt_children (Stmt-F.Gen event xs delay to delay_first))
 stmt_step (Stmt-F.Multi event xs delay members) =
     nat_le (length xs) 8 && are_members members && all (stmt_children (Stmt-F.Multi event xs delay members))
-stmt_step (Stmt-F.Say form xs) = nat_le (length xs) 8 && all xs
 stmt_step s = all (stmt_children s)
 
 abbrev pub expr_limits : Expr → Bool

@@ -2,9 +2,18 @@
 use Rattle.std.specs.Prelude.{◌≡◌, ℕ, List, [], ◌∷◌, Ok, Err}
 use Rattle.std.specs.Prelude.{Result}
 use Rattle.lucid_base.specs.declared.memory.Memory.{Memory}
+use Rattle.lucid_base.specs.declared.event.Out.{Out}
+use Rattle.lucid_base.specs.declared.event.Out.TheVariants as out
+use Rattle.lucid_core.specs.declared.draft.Draft.{Draft}
+use Rattle.lucid_core.specs.declared.draft.Draft.TheVariants.{Gen, Say}
 use Rattle.lucid_core.specs.declared.run.Write.{Write}
 use Rattle.lucid_core.specs.Acts.{State, Ran}
 use Rattle.lucid_core.specs.Cells.{with_cell}
+
+-- The out that a draft stands for.
+abbrev pub out_of : Draft → Out
+out_of (Gen event args delay to) = out.Gen (record { id = event; args = args }) delay to
+out_of (Say form args) = out.Say form args
 
 pub record Running : Type 0 where
   pub state : State

@@ -1,5 +1,5 @@
--- A print has as many arguments as its text has `%d`.
-use Rattle.std.specs.Prelude.{ℕ, ◌+◌, List, [], ◌∷◌, Bool, false, if◌then◌else◌, ◌&&◌, length, map, nat_eq, slice_get}
+-- A print has as many arguments as its text has `%d`, and at most 8.
+use Rattle.std.specs.Prelude.{ℕ, ◌+◌, List, [], ◌∷◌, Bool, false, if◌then◌else◌, ◌&&◌, length, map, nat_eq, nat_le, slice_get}
 use Rattle.std.specs.List.{list_all}
 use Rattle.std.specs.Option.{option_map_or}
 use Rattle.lucid_core.specs.declared.body.Stmt.{Stmt}
@@ -28,7 +28,7 @@ abbrev pub touch_step : Touch-F Printed Printed Printed → Printed
 touch_step t = each (touch_children t)
 
 abbrev pub stmt_step : Stmt-F Printed Printed Printed → Printed
-stmt_step (Stmt-F.Say form xs) = λ forms. option_map_or (λ text. nat_eq (length xs) (holes_of text)) (slice_get forms form) false && each xs forms
+stmt_step (Stmt-F.Say form xs) = λ forms. nat_le (length xs) 8 && option_map_or (λ text. nat_eq (length xs) (holes_of text)) (slice_get forms form) false && each xs forms
 stmt_step s = each (stmt_children s)
 
 abbrev pub stmt_texts : Stmt → Printed

@@ -4,15 +4,14 @@ ghost use Rattle.std.specs.Prelude.{◌≡◌, ◌++◌, IfOk, IfSome, OnOk, OnE
 ghost use Rattle.std.specs.Option.{option_map};
 ghost use Rattle.lucid_core.specs.Acts.{all, all_given, answered, array_of, begun_with, block, call_of};
 ghost use Rattle.lucid_core.specs.Meaning.{effect_of, frame, fun_of, funs_of, generated, generated_to, optional, put_in, target as target_of, ticks as ticks_of, touch_of, value_of};
-ghost use Rattle.lucid_core.specs.Running.{Does, with_state};
+ghost use Rattle.lucid_core.specs.Running.{Does, out_of, with_state};
 
+use crate::draft::Draft;
 use crate::moment::Moment;
-use crate::operate::{
-    arguments, binary, comparison, hashed, low_bits, memop_fits, narrowed, nothing, unary,
-};
+use crate::operate::{binary, comparison, hashed, low_bits, narrowed, nothing, numbers, unary};
 use crate::run::Run;
 use crate::{Expr, FunDef, Stmt, Touch};
-use lucid_base::{ArrayName, Bits, Event, Items, Memory, Out, Target, Width};
+use lucid_base::{ArrayName, Bits, Items, Memory, Target, Width};
 use std::alloc::Global;
 
 /// What an expression gives.
@@ -143,10 +142,6 @@ fn touch(
 ) -> Result<Bits, Memory>
     ensures { Does (touch_of t.now (frame moment arrays.now funs.now)) run.old run.new result }
 {
-    // No memop of a valid core has such numbers.
-    if !memop_fits(&t.get) || !memop_fits(&t.set) {
-        return Err(Memory);
-    }
     let index = value(alloc, funs, arrays, moment, run, &t.index)?;
     let get_arg = value(alloc, funs, arrays, moment, run, &t.get_arg)?;
     let set_arg = value(alloc, funs, arrays, moment, run, &t.set_arg)?;
@@ -272,12 +267,12 @@ fn effect(
             if *delay_first {
                 let delay = asked(alloc, funs, arrays, moment, run, delay)?;
                 let to = asked(alloc, funs, arrays, moment, run, to)?;
-                run.send(generate(*event, args.as_slice(), ticks(delay), target(to))?)?;
+                run.send(generate(alloc, *event, args.as_slice(), ticks(delay), target(to))?)?;
                 Ok(())
             } else {
                 let to = asked(alloc, funs, arrays, moment, run, to)?;
                 let delay = asked(alloc, funs, arrays, moment, run, delay)?;
-                run.send(generate(*event, args.as_slice(), ticks(delay), target(to))?)?;
+                run.send(generate(alloc, *event, args.as_slice(), ticks(delay), target(to))?)?;
                 Ok(())
             }
         }
@@ -290,6 +285,7 @@ fn effect(
             let args = values(alloc, funs, arrays, moment, run, args.as_slice())?;
             let delay = asked(alloc, funs, arrays, moment, run, delay)?;
             send_each(
+                alloc,
                 run,
                 *event,
                 args.as_slice(),
@@ -300,8 +296,8 @@ fn effect(
         }
         Stmt::Say { form, args } => {
             let args = values(alloc, funs, arrays, moment, run, args.as_slice())?;
-            let args = arguments(args.as_slice())?;
-            run.send(Out::Say { form: *form, args })?;
+            let args = numbers(alloc, args.as_slice())?;
+            run.send(Draft::Say { form: *form, args })?;
             Ok(())
         }
         Stmt::Return(None) => Ok(()),
@@ -398,16 +394,27 @@ fn target(to: Option<Bits>) -> Target
     }
 }
 
-fn generate(event: u32, values: &[Bits], delay: u64, to: Target) -> Result<Out, Memory>
-    ensures { IfOk result (λ out. out ≡ generated event values.now delay to) }
+fn generate(
+    alloc: Global,
+    event: u32,
+    values: &[Bits],
+    delay: u64,
+    to: Target,
+) -> Result<Draft, Memory>
+    ensures { IfOk result (λ draft. out_of draft ≡ generated event values.now delay to) }
 {
-    let args = arguments(values)?;
-    let event = Event { id: event, args };
-    Ok(Out::Gen { event, delay, to })
+    let args = numbers(alloc, values)?;
+    Ok(Draft::Gen {
+        event,
+        args,
+        delay,
+        to,
+    })
 }
 
 /// Sends an event to each of these switches.
 fn send_each(
+    alloc: Global,
     run: &mut Run,
     event: u32,
     values: &[Bits],
@@ -418,7 +425,7 @@ fn send_each(
     ensures start { OnErr result (run.new.start ≡ run.old.start) }
 {
     for member in members {
-        run.send(generate(event, values, delay, Target::At(*member as u64))?)?;
+        run.send(generate(alloc, event, values, delay, Target::At(*member as u64))?)?;
     }
     Ok(())
 }

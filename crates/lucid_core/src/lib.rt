@@ -8,6 +8,7 @@
 mod body;
 mod cells;
 mod defs;
+mod draft;
 mod examples;
 mod fits;
 mod interpret;

@@ -1,13 +1,11 @@
 // Operations on values, each equal to its definition. Unlike those below them they take any operands.
-ghost use Rattle.std.specs.Prelude.{◌≡◌, IfOk, IsTrue};
+ghost use Rattle.std.specs.Prelude.{◌≡◌, IfOk};
 ghost use Rattle.lucid_base.specs.Bits.{bits_of};
-ghost use Rattle.lucid_base.specs.Memop.{FixedFit, OperandFits, SideFits, TestFits};
 ghost use Rattle.lucid_core.specs.Values.{unary as unary_of, binary as binary_of, comparison as comparison_of, hashed as hash_of_values, memop as memop_of, numbers as numbers_of, nothing as no_value};
 
-use crate::fits::number_fits;
 use lucid_base::{
-    Args, BinOp, Bits, CmpOp, Items, MemAlu, MemArg, MemSide, Memory, UnOp, Width, apply_bin,
-    apply_un, cast, compare, hash_bits,
+    BinOp, Bits, CmpOp, Items, MemAlu, Memory, UnOp, Width, apply_bin, apply_un, cast, compare,
+    hash_bits,
 };
 use std::alloc::Global;
 
@@ -79,57 +77,7 @@ pub fn numbers(alloc: Global, values: &[Bits]) -> Result<Items<u64>, Memory>
     Ok(all)
 }
 
-/// The numbers of these values, which in a valid core are at most 8.
-pub fn arguments(values: &[Bits]) -> Result<Args, Memory>
-    ensures { IfOk result (λ args. args ≡ numbers_of values.now) }
-{
-    if values.len() > 8 {
-        return Err(Memory);
-    }
-    let mut args = Args::new();
-    for value in values {
-        args.push(value.value);
-    }
-    Ok(args)
-}
-
-/// Whether the memop's fixed numbers fit its width.
-pub fn memop_fits(m: &MemAlu) -> bool
-    ensures { IsTrue result → FixedFit m.now }
-{
-    test_fits(m) && side_fits(m.width, m.yes) && side_fits(m.width, m.no)
-}
-
-fn test_fits(m: &MemAlu) -> bool
-    ensures { IsTrue result → TestFits m.now.width m.now.test }
-{
-    match m.test {
-        None => true,
-        Some((_, a, b)) => operand_fits(m.width, a) && operand_fits(m.width, b),
-    }
-}
-
-fn side_fits(width: Width, side: MemSide) -> bool
-    ensures { IsTrue result → SideFits width side }
-{
-    match side {
-        MemSide::One(a) => operand_fits(width, a),
-        MemSide::Two(_, a, b) => operand_fits(width, a) && operand_fits(width, b),
-    }
-}
-
-fn operand_fits(width: Width, operand: MemArg) -> bool
-    ensures { IsTrue result → OperandFits width operand }
-{
-    match operand {
-        MemArg::Stored => true,
-        MemArg::Arg => true,
-        MemArg::Fixed(n) => number_fits(width, n),
-    }
-}
-
 pub fn memop(m: &MemAlu, stored: u64, arg: Bits) -> Bits
-    requires { FixedFit m.now }
     ensures { result ≡ memop_of m.now stored arg }
 {
     let stored = low_bits(m.width, stored).value;

@@ -1,15 +1,16 @@
 // The state of a body that runs, and the way back to the cells that it began with.
 // Only this file writes cells during a run: it notes what a cell held before it writes, so that want of memory can be undone.
-ghost use Rattle.std.specs.Prelude.{◌≡◌, ◌≤◌, ◌++◌, [], ◌∷◌, IfOk, OnOk, OnErr, length, slice_index_or, slice_set};
-ghost use Rattle.lucid_base.specs.Memop.{FixedFit};
+ghost use Rattle.std.specs.Prelude.{◌≡◌, ◌≤◌, ◌++◌, [], ◌∷◌, All, IfOk, OnOk, OnErr, length, slice_index_or, slice_set};
 ghost use Rattle.lucid_core.specs.Acts.{State, holding};
 ghost use Rattle.lucid_core.specs.Cells.{cell_at, with_cell};
-ghost use Rattle.lucid_core.specs.Running.{Running, rewound, with_state};
+ghost use Rattle.lucid_core.specs.Fits.{carried};
+ghost use Rattle.lucid_core.specs.Running.{Running, out_of, rewound, with_state};
 ghost use Rattle.lucid_core.specs.Values.{memop as memop_of, nothing as no_value};
 
 use crate::Cells;
+use crate::draft::Draft;
 use crate::operate::{memop, nothing};
-use lucid_base::{Bits, Items, MemAlu, Memory, Out, Outs};
+use lucid_base::{Bits, Items, MemAlu, Memory, Outs};
 use std::alloc::Global;
 use std::marker::Model;
 use std::mem;
@@ -27,17 +28,18 @@ pub struct Write {
 pub struct Run {
     cells: Cells,
     writes: Vec<Write>,
-    outs: Vec<Out>,
+    outs: Vec<Draft>,
     locals: Items<Bits>,
     answer: Bits,
 }
 
 impl Model for Run {
-    ghost use Rattle.lucid_core.specs.Running.{Running, rewound};
+    ghost use Rattle.std.specs.Prelude.{map};
+    ghost use Rattle.lucid_core.specs.Running.{Running, out_of, rewound};
 
     ghost Value = { Running };
 
-    ghost view = { λ r. record { state = record { cells = r.cells; outs = r.outs.items; locals = r.locals; answer = r.answer }; start = rewound r.writes.items r.cells } };
+    ghost view = { λ r. record { state = record { cells = r.cells; outs = map out_of r.outs.items; locals = r.locals; answer = r.answer }; start = rewound r.writes.items r.cells } };
 }
 
 impl Run {
@@ -69,14 +71,15 @@ impl Run {
         cells
     }
 
-    /// What was sent out, which in a valid core is at most 8 outs.
+    /// What was sent out, which in a valid core is at most 8 outs of at most 8 numbers.
     pub fn sent(&self) -> Outs
-        requires { length self.now.state.outs ≤ 8 }
+        requires few { length self.now.state.outs ≤ 8 }
+        requires small { All (λ out. length (carried out) ≤ 8) self.now.state.outs }
         ensures { result ≡ self.now.state.outs }
     {
         let mut outs = Outs::new();
-        for out in self.outs.as_slice() {
-            outs.push(*out);
+        for draft in self.outs.as_slice() {
+            outs.push(draft.out());
         }
         outs
     }
@@ -133,11 +136,11 @@ impl Run {
         self.answer = value;
     }
 
-    pub fn send(&mut self, out: Out) -> Result<(), Memory>
-        ensures sent { OnOk result (self.new ≡ with_state self.old (record self.old.state { outs = self.old.state.outs ++ out ∷ [] })) }
+    pub fn send(&mut self, draft: Draft) -> Result<(), Memory>
+        ensures sent { OnOk result (self.new ≡ with_state self.old (record self.old.state { outs = self.old.state.outs ++ out_of draft ∷ [] })) }
         ensures start { OnErr result (self.new.start ≡ self.old.start) }
     {
-        self.outs.push(out)?;
+        self.outs.push(draft)?;
         Ok(())
     }
 
@@ -165,8 +168,6 @@ impl Run {
         set: MemAlu,
         set_arg: Bits,
     ) -> Result<Bits, Memory>
-        requires get { FixedFit get }
-        requires set { FixedFit set }
         ensures gives { IfOk result (λ v. v ≡ memop_of get (cell_at self.old.state.cells array index) get_arg) }
         ensures stored { OnOk result (self.new ≡ with_state self.old (record self.old.state { cells = with_cell self.old.state.cells array index (memop_of set (cell_at self.old.state.cells array index) set_arg).value })) }
         ensures start { OnErr result (self.new.start ≡ self.old.start) }

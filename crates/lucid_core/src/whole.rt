@@ -2,7 +2,7 @@
 ghost use Rattle.std.specs.Prelude.{◌≡◌, ◌≤◌, [], All, IfOk, IsTrue, OnOk, OnErr, length, map};
 ghost use Rattle.std.specs.Option.{option_map};
 ghost use Rattle.lucid_core.specs.Acts.{block};
-ghost use Rattle.lucid_core.specs.Fits.{out_fits};
+ghost use Rattle.lucid_core.specs.Fits.{carried, out_fits};
 ghost use Rattle.lucid_core.specs.Meaning.{effect_of, frame};
 ghost use Rattle.lucid_core.specs.Running.{with_state};
 ghost use Rattle.lucid_core.specs.Step.{handled, handler_of as handler_in, step, taken_at};
@@ -63,7 +63,8 @@ fn handle(
     args: &[u64],
     handler: &HandlerDef,
 ) -> Result<Outs, Memory>
-    requires { length (handled (Some handler.now) core.now cells.old moment.now moment.me args.now).after.outs ≤ 8 }
+    requires few { length (handled (Some handler.now) core.now cells.old moment.now moment.me args.now).after.outs ≤ 8 }
+    requires small { All (λ out. length (carried out) ≤ 8) (handled (Some handler.now) core.now cells.old moment.now moment.me args.now).after.outs }
     ensures outs { IfOk result (λ outs. outs ≡ (handled (Some handler.now) core.now cells.old moment.now moment.me args.now).after.outs) }
     ensures cells { OnOk result (cells.new ≡ (handled (Some handler.now) core.now cells.old moment.now moment.me args.now).after.cells) }
     ensures unchanged { OnErr result (cells.new ≡ cells.old) }
@@ -91,7 +92,8 @@ fn run_body(
     run: &mut Run,
     handler: &HandlerDef,
 ) -> Result<Outs, Memory>
-    requires { length (block (map effect_of handler.now.body) (frame moment [] core.now.funs) run.old.state).after.outs ≤ 8 }
+    requires few { length (block (map effect_of handler.now.body) (frame moment [] core.now.funs) run.old.state).after.outs ≤ 8 }
+    requires small { All (λ out. length (carried out) ≤ 8) (block (map effect_of handler.now.body) (frame moment [] core.now.funs) run.old.state).after.outs }
     ensures outs { IfOk result (λ outs. outs ≡ (block (map effect_of handler.now.body) (frame moment [] core.now.funs) run.old.state).after.outs) }
     ensures state { OnOk result (run.new ≡ with_state run.old (block (map effect_of handler.now.body) (frame moment [] core.now.funs) run.old.state).after) }
     ensures start { OnErr result (run.new.start ≡ run.old.start) }

@@ -1,6 +1,6 @@
 -- How what was read of a file decides what the words ask for, and what was put.
-use Rattle.std.proofs.Common.{◌≡◌, ℕ, ◌<◌, ◌≤◌, Bool, true, false, List, Option, None, Some, IfSome, IsSome, Ok, Err, refl, sym, subst, length, arith}
-use Rattle.std.specs.Prelude.{nat_lt, MatchBool}
+use Rattle.std.proofs.Common.{◌≡◌, ℕ, ◌<◌, ◌≤◌, Bool, List, Option, None, Some, IfSome, IsSome, Ok, Err, refl, sym, subst, length}
+use Rattle.std.specs.Prelude.{MatchBool}
 use Rattle.std.proofs.lemmas.Bool.{lt-ltb, le-ltb}
 use Rattle.lucid_log.specs.Puts.{PutsAll, PutsPart}
 use Rattle.lucid_top.specs.declared.once.TheConstants.{PROGRAM_BYTES}

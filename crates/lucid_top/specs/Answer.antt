@@ -1,6 +1,5 @@
 -- What words and the contents of files determine. It goes by the forms of words.
 use Rattle.std.specs.Prelude.{◌≡◌, ℕ, List, Option, None, Some, Ok, Err, length, nat_lt, MatchBool, IsSome}
-use Rattle.std.specs.Option.{option_map}
 use Rattle.lucid_top.specs.declared.once.TheConstants.{PROGRAM_BYTES}
 use Rattle.lucid_top.specs.declared.refusal.Refusal.TheVariants as refusal
 use Rattle.lucid_top.specs.declared.status.Status.{Status}

@@ -1,5 +1,4 @@
-use Rattle.std.proofs.Common.{◌≡◌, Err}
-use Rattle.lucid_top.specs.Once.{Outcome, TextAnswers}
+use Rattle.std.proofs.Common.{Err}
 use Rattle.lucid_top.proofs.Outcomes.{PutsWhole-of, PutsCut-of}
 use Rattle.lucid_top.proofs.once.answer.Goals as goal
 

@@ -1,4 +1,4 @@
-use Rattle.std.proofs.Common.{◌≡◌, ◌≤◌, ℕ, List, IfSome, IsSome, Err, length, sym, subst, rules}
+use Rattle.std.proofs.Common.{◌≡◌, ◌≤◌, ℕ, List, IfSome, IsSome, length, sym, subst, rules}
 use Rattle.std.proofs.lemmas.Result.{IfErr-weaker}
 use Rattle.lucid_top.specs.Answer.{OnceAnswers, OverFile}
 use Rattle.lucid_top.specs.Once.{Outcome, TextAnswers}

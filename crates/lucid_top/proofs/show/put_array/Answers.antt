@@ -1,6 +1,4 @@
-use Rattle.std.proofs.Common.{◌≡◌}
 use Rattle.lucid_log.specs.Puts.{Leaves-after, Leaves-nothing, PutsPart-at, on_err}
-use Rattle.lucid_top.specs.Cells.{lines_from}
 use Rattle.lucid_top.proofs.Lines.{lines_from-next, lines_from-none}
 use Rattle.lucid_top.proofs.show.put_array.Goals as goal
 

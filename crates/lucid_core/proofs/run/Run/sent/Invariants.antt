@@ -1,5 +1,6 @@
-use Rattle.std.proofs.Common.{◌≡◌, take}
+use Rattle.std.proofs.Common.{◌≡◌, map, take}
+use Rattle.lucid_core.specs.Running.{out_of}
 use Rattle.lucid_core.proofs.run.Run.sent.Given as goal
 
-abbrev pub invariant-loop-out : goal.invariant-loop-out
-invariant-loop-out l = l.outs ≡ take l.out-index l.out-items
+abbrev pub invariant-loop-draft : goal.invariant-loop-draft
+invariant-loop-draft l = l.outs ≡ map out_of (take l.draft-index l.draft-items)
