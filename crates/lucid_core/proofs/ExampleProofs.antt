@@ -2,11 +2,30 @@
 use Rattle.std.proofs.Common.{◌≡◌, [], ◌∷◌, ◌&&◌, true, refl, ap}
 use Rattle.lucid_core.specs.Uses.{body_uses, all_keep_to_themselves}
 use Rattle.lucid_core.specs.ExamplePrograms.{small, flat, bump_put_in, named_outside, reads_another, drop_value, RulesRefuse}
+use Rattle.lucid_core.specs.StepExamples.{look, say_bump, say_unless_small, counting, group, worked}
 use Rattle.lucid_core.specs.Valid.{IsValid, IsValidFlat}
 use Rattle.lucid_core.proofs.Folds.{folds}
 
 pub small_is_valid : IsValid small
 small_is_valid = record {
+  sound = record {
+    names = simp folds refl;
+    events = refl;
+    widths = simp folds refl;
+    returns = simp folds refl;
+    outs = simp folds refl;
+    assigned = simp folds refl;
+    reads = simp folds refl;
+    declarations = refl;
+    bodies = simp folds refl;
+    texts = simp folds refl;
+  };
+  forms = simp folds refl;
+}
+
+pub worked_is_valid : IsValid worked
+unfolding look say_bump say_unless_small counting group
+worked_is_valid = record {
   sound = record {
     names = simp folds refl;
     events = refl;

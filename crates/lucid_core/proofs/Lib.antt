@@ -9,5 +9,6 @@ pub mod MeaningLemmas
 pub mod Pairwise
 pub mod SentCount
 pub mod SentFit
+pub mod StepProofs
 pub mod TypingRules
 pub mod WidthLists

@@ -1,6 +1,7 @@
 -- Examples of programs: one that is a valid core, and others that break one rule each.
-use Rattle.std.specs.Prelude.{◌≡◌, ℕ, ◌^◌, List, [], ◌∷◌, ◌++◌, Option, None, Some, true, false, replicate}
-use Rattle.std.proofs.Common.{lit<}
+use Rattle.std.specs.Prelude.{◌≡◌, ℕ, ◌^◌, List, [], ◌∷◌, ◌++◌, Option, None, Some, Bool, true, false, replicate}
+use Rattle.lucid_base.specs.Bits.{bits_of}
+use Rattle.lucid_base.specs.declared.array.ArrayDef.{ArrayDef}
 use Rattle.lucid_base.specs.declared.array.ArrayName.{ArrayName}
 use Rattle.lucid_base.specs.declared.array.ArrayName.TheVariants.{Global, Param}
 use Rattle.lucid_base.specs.declared.memory_alu.MemAlu.{MemAlu}
@@ -30,12 +31,15 @@ use Rattle.lucid_core.specs.Uses.{locals_are_assigned, inlined_keep_to_themselve
 abbrev pub local : ℕ → Expr
 local i = roll-Expr (Expr-F.Local i)
 
--- The number 1, in 32 bits and in one.
+-- A number of 32 bits.
+abbrev pub number : ℕ → Expr
+number n = roll-Expr (Expr-F.Fixed (bits_of 32 n))
+
 abbrev pub one : Expr
-one = roll-Expr (Expr-F.Fixed (record { width = 32; value = 1; fits = lit< tt }))
+one = number 1
 
 abbrev pub yes : Expr
-yes = roll-Expr (Expr-F.Fixed (record { width = 1; value = 1; fits = lit< tt }))
+yes = roll-Expr (Expr-F.Fixed (bits_of 1 1))
 
 abbrev pub less : Expr → Expr → Expr
 less x y = roll-Expr (Expr-F.Cmp Lt x y)
@@ -55,11 +59,18 @@ drop_value x = roll-Stmt (Stmt-F.Drop x)
 abbrev pub choose : Expr → List Stmt → List Stmt → Stmt
 choose x ss ts = roll-Stmt (Stmt-F.If x ss ts)
 
+-- An event after a delay and to a target, each where it is given.
+abbrev pub generate_with : ℕ → List Expr → Option Expr → Option Expr → Bool → Stmt
+generate_with event xs delay to delay_first = roll-Stmt (Stmt-F.Gen event xs delay to delay_first)
+
 abbrev pub generate : ℕ → List Expr → Stmt
-generate event xs = roll-Stmt (Stmt-F.Gen event xs None None false)
+generate event xs = generate_with event xs None None false
+
+abbrev pub to_each_after : ℕ → List Expr → Option Expr → List ℕ → Stmt
+to_each_after event xs delay members = roll-Stmt (Stmt-F.Multi event xs delay members)
 
 abbrev pub to_each : ℕ → List Expr → List ℕ → Stmt
-to_each event xs members = roll-Stmt (Stmt-F.Multi event xs None members)
+to_each event xs members = to_each_after event xs None members
 
 abbrev pub say : ℕ → List Expr → Stmt
 say form xs = roll-Stmt (Stmt-F.Say form xs)
@@ -71,9 +82,17 @@ return x = roll-Stmt (Stmt-F.Return x)
 abbrev pub plus : MemAlu
 plus = record { width = 32; test = None; yes = Two Add Stored Arg; no = Two Add Stored Arg }
 
+-- Array.update(a, i, m, x, m, y)
+abbrev pub update_with : ArrayName → Expr → MemAlu → Expr → Expr → Expr
+update_with a i m x y = roll-Expr (Expr-F.Array (roll-Touch (record { array = a; index = i; get = m; get_arg = x; set = m; set_arg = y; answers = true })))
+
 -- Array.update(a, i, m, 1, m, 1)
 abbrev pub update : ArrayName → Expr → MemAlu → Expr
-update a i m = roll-Expr (Expr-F.Array (roll-Touch (record { array = a; index = i; get = m; get_arg = one; set = m; set_arg = one; answers = true })))
+update a i m = update_with a i m one one
+
+-- global Array.t<<32>> a = Array.create(size);
+abbrev pub array : ℕ → ArrayDef
+array size = record { name = []; width = 32; size = size }
 
 -- fun int bump(Array<<32>> a, int i) with this body and one local more.
 abbrev pub bump : List Stmt → FunDef
@@ -89,7 +108,7 @@ handler body = record { event = 0; locals = 32 ∷ 32 ∷ 32 ∷ []; body = body
 
 -- Two arrays, a memop, an event with a handler, a function with an array parameter, and the text "n %d".
 abbrev pub program : List Stmt → List Stmt → Parts
-program bumps handles = made_of (record { name = []; width = 32; size = 4 } ∷ record { name = []; width = 32; size = 8 } ∷ []) (record { name = []; alu = plus } ∷ []) (note ∷ []) (bump bumps ∷ []) (handler handles ∷ []) ((110 ∷ 32 ∷ 37 ∷ 100 ∷ []) ∷ [])
+program bumps handles = made_of (array 4 ∷ array 8 ∷ []) (record { name = []; alu = plus } ∷ []) (note ∷ []) (bump bumps ∷ []) (handler handles ∷ []) ((110 ∷ 32 ∷ 37 ∷ 100 ∷ []) ∷ [])
 
 -- { int n = Array.update(a, i, plus, 1, plus, 1); return n; }
 abbrev pub bumps : List Stmt

@@ -16,6 +16,7 @@ pub mod Returns
 pub mod Running
 pub mod Scope
 pub mod Step
+pub mod StepExamples
 pub mod Texts
 pub mod Typing
 pub mod Uses

@@ -1,13 +1,19 @@
 // Examples of valid programs, and of what each rule refuses: computed from the definitions, so nothing runs.
 ghost use Rattle.std.specs.Prelude.{[], ◌∷◌};
 ghost use Rattle.lucid_core.specs.ExamplePrograms.{small, flat, bump_put_in, drop_value, RulesRefuse};
+ghost use Rattle.lucid_core.specs.StepExamples.{worked, StepExamples};
 ghost use Rattle.lucid_core.specs.Valid.{IsValid, IsValidFlat};
 
 fn a_program_and_a_flat_program_are_valid()
     ensures core { IsValid small }
+    ensures worked { IsValid worked }
     ensures flat_core { IsValidFlat (flat (drop_value bump_put_in ∷ [])) }
 {}
 
 fn each_rule_refuses_what_breaks_it()
     ensures { RulesRefuse }
+{}
+
+fn the_step_gives_what_is_worked_by_hand()
+    ensures { StepExamples }
 {}

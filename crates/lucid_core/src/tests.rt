@@ -1,70 +1,109 @@
-// Each call that takes memory, once on its happy path.
-ghost use Rattle.std.specs.Prelude.{◌≡◌, IfOk};
+// The worked examples of the step, run by `run_whole`.
+mod worked;
 
-use crate::{Cells, Core, EventDef, HandlerDef, run_whole};
-use lucid_base::{Args, ArrayDef, Event, Id, Items, Memory, Width};
+use self::worked::worked;
+use crate::{Cells, Core, run_whole};
+use lucid_base::{Args, Event, Memory, Out, Target};
 use std::alloc::Global;
 use std::test::Fail;
 
-fn array(alloc: Global) -> Result<ArrayDef, Memory>
-    ensures { IfOk result (λ a. a.size ≡ 3) }
-{
-    let name = Id::new(alloc, b"a")?;
-    Ok(ArrayDef {
-        name,
-        width: Width::int(),
-        size: 3,
-    })
+/// Four cells of the first array, and one of the second.
+fn start(alloc: Global, core: &Core) -> Result<Cells, Memory> {
+    let mut cells = Cells::new(alloc, core)?;
+    cells.set(0, 0, 10);
+    cells.set(0, 1, 20);
+    cells.set(0, 2, 30);
+    cells.set(0, 3, 40);
+    cells.set(1, 1, 60);
+    Ok(cells)
 }
 
-/// An array of three cells, and an event whose handler does nothing.
-fn quiet(alloc: Global, array: ArrayDef, name: Id) -> Result<Core, Memory>
-    requires { array.size ≡ 3 }
-{
-    let arrays = vec![in alloc; array]?;
-    let event = EventDef {
-        name,
-        params: Items::new(alloc),
-        handler: Some(0),
-    };
-    let events = vec![in alloc; event]?;
-    let handler = HandlerDef {
-        event: 0,
-        locals: Items::new(alloc),
-        body: Items::new(alloc),
-        decl: 1,
-        line: 1,
-    };
-    let handlers = vec![in alloc; handler]?;
-    Ok(Core::new(
-        arrays,
-        Vec::new(alloc),
-        events,
-        Vec::new(alloc),
-        handlers,
-        Vec::new(alloc),
-    ))
+fn seen(cells: &Cells) -> [u64; 5] {
+    [
+        cells.get(0, 0),
+        cells.get(0, 1),
+        cells.get(0, 2),
+        cells.get(0, 3),
+        cells.get(1, 1),
+    ]
 }
 
-fn made(alloc: Global) -> Result<Core, Memory> {
-    let array = array(alloc)?;
-    let name = Id::new(alloc, b"e")?;
-    quiet(alloc, array, name)
+fn args(i: u64) -> Args {
+    let mut args = Args::new();
+    args.push(i);
+    args
+}
+
+fn said(n: u64) -> Out {
+    Out::Say {
+        form: 0,
+        args: args(n),
+    }
+}
+
+fn sent(i: u64, delay: u64, to: u64) -> Out {
+    let event = Event {
+        id: 6,
+        args: args(i),
+    };
+    Out::Gen {
+        event,
+        delay,
+        to: Target::At(to),
+    }
+}
+
+/// Whether event `id` of argument `i` leaves these cells and sends these outs, at tick 7 on switch 3.
+fn gives(alloc: Global, id: u32, i: u64, after: [u64; 5], outs: &[Out]) -> Result<bool, Memory> {
+    let core = worked(alloc)?;
+    let mut cells = start(alloc, &core)?;
+    let event = Event { id, args: args(i) };
+    if !core.fits(&event) {
+        return Ok(false);
+    }
+    let made = run_whole(alloc, &core, &mut cells, 7, 3, &event)?;
+    Ok(made.as_slice() == outs && seen(&cells) == after)
 }
 
 #[test]
-fn a_quiet_handler_changes_nothing(rt: HostRuntime) -> Result<(), Fail> {
+fn memops_see_the_old_number_of_a_cell_modulo_the_size(rt: HostRuntime) -> Result<(), Fail> {
     let alloc = rt.alloc();
-    let core = made(alloc)?;
-    let mut cells = Cells::new(alloc, &core)?;
-    cells.set(0, 5, 9);
-    let event = Event {
-        id: 0,
-        args: Args::new(),
-    };
-    assert!(rt; core.fits(&event));
-    let outs = run_whole(alloc, &core, &mut cells, 0, 0, &event)?;
-    assert_eq!(rt; outs.as_slice().len(), 0);
-    assert_eq!(rt; cells.get(0, 2), 9);
+    assert!(rt; gives(alloc, 0, 5, [10, 22, 30, 40, 60], &[said(120), said(121)])?);
+    assert!(rt; gives(alloc, 0, 2, [10, 20, 32, 40, 60], &[said(130), said(131)])?);
+    Ok(())
+}
+
+#[test]
+fn a_function_is_given_two_arrays(rt: HostRuntime) -> Result<(), Fail> {
+    let alloc = rt.alloc();
+    assert!(rt; gives(alloc, 1, 1, [10, 21, 30, 40, 61], &[said(21), said(61)])?);
+    Ok(())
+}
+
+#[test]
+fn one_branch_returns_and_an_event_without_a_handler_does_nothing(
+    rt: HostRuntime,
+) -> Result<(), Fail> {
+    let alloc = rt.alloc();
+    assert!(rt; gives(alloc, 2, 0, [10, 20, 30, 40, 60], &[])?);
+    assert!(rt; gives(alloc, 2, 9, [10, 20, 30, 40, 60], &[said(9)])?);
+    assert!(rt; gives(alloc, 6, 1, [10, 20, 30, 40, 60], &[])?);
+    Ok(())
+}
+
+#[test]
+fn delays_and_targets_are_evaluated_in_order_and_once(rt: HostRuntime) -> Result<(), Fail> {
+    let alloc = rt.alloc();
+    assert!(rt; gives(alloc, 3, 0, [12, 20, 30, 40, 60], &[sent(0, 11, 12)])?);
+    assert!(rt; gives(alloc, 4, 0, [12, 20, 30, 40, 60], &[sent(0, 12, 11)])?);
+    assert!(rt;
+        gives(
+            alloc,
+            5,
+            3,
+            [10, 20, 30, 41, 60],
+            &[sent(3, 41, 4), sent(3, 41, 2)]
+        )?
+    );
     Ok(())
 }

@@ -1,0 +1,89 @@
+-- What the step makes of one program, worked by hand from the language.
+use Rattle.std.specs.Prelude.{◌≡◌, ℕ, List, [], ◌∷◌, Option, None, Some, Bool, true, false}
+use Rattle.lucid_base.specs.declared.array.ArrayName.TheVariants.{Global}
+use Rattle.lucid_base.specs.declared.event.Out.{Out}
+use Rattle.lucid_base.specs.declared.event.Out.TheVariants.{Gen, Say}
+use Rattle.lucid_base.specs.declared.event.Target.TheVariants.{At}
+use Rattle.lucid_core.specs.declared.body.Expr.{Expr}
+use Rattle.lucid_core.specs.declared.body.Stmt.{Stmt}
+use Rattle.lucid_core.specs.declared.defs.HandlerDef.{HandlerDef}
+use Rattle.lucid_core.specs.declared.defs.EventDef.{EventDef}
+use Rattle.lucid_core.specs.ExamplePrograms.{number, local, one, array, less, call, choose, generate_with, to_each_after, say, return, plus, update, update_with, bump, bumps}
+use Rattle.lucid_core.specs.Parts.{Parts, made_of}
+use Rattle.lucid_core.specs.Step.{step}
+
+-- An event of one parameter i, and a handler of it.
+abbrev pub declared : Option ℕ → EventDef
+declared handler = record { name = []; params = 32 ∷ []; handler = handler }
+
+abbrev pub handler_of : ℕ → List Stmt → HandlerDef
+handler_of event body = record { event = event; locals = 32 ∷ []; body = body; decl = 5; line = 5 }
+
+-- printf("n %d", Array.update(first, i, plus, 100, plus, 1));
+unfoldable pub look : Stmt
+look = say 0 (update_with (Global 0) (local 0) plus (number 100) one ∷ [])
+
+-- printf("n %d", bump(a, i));
+unfoldable pub say_bump : ℕ → Stmt
+say_bump a = say 0 (call 0 (Global a ∷ []) (local 0 ∷ []) ∷ [])
+
+-- if (i < 1) { return; } else { printf("n %d", i); }
+unfoldable pub say_unless_small : Stmt
+say_unless_small = choose (less (local 0) one) (return None ∷ []) (say 0 (local 0 ∷ []) ∷ [])
+
+-- Array.update(first, i, plus, 1, plus, 1)
+abbrev pub count : Expr
+count = update (Global 0) (local 0) plus
+
+-- An event whose delay and target each count.
+unfoldable pub counting : Bool → Stmt
+counting delay_first = generate_with 6 (local 0 ∷ []) (Some count) (Some count) delay_first
+
+-- An event to switches 4 and 2 whose delay counts.
+unfoldable pub group : Stmt
+group = to_each_after 6 (local 0 ∷ []) (Some count) (4 ∷ 2 ∷ [])
+
+-- An event for each example. The last one has no handler.
+abbrev pub events : List EventDef
+events = declared (Some 0) ∷ declared (Some 1) ∷ declared (Some 2) ∷ declared (Some 3) ∷ declared (Some 4) ∷ declared (Some 5) ∷ declared None ∷ []
+
+abbrev pub handlers : List HandlerDef
+handlers =
+    handler_of 0 (look ∷ look ∷ [])
+    ∷ handler_of 1 (say_bump 0 ∷ say_bump 1 ∷ [])
+    ∷ handler_of 2 (say_unless_small ∷ [])
+    ∷ handler_of 3 (counting true ∷ [])
+    ∷ handler_of 4 (counting false ∷ [])
+    ∷ handler_of 5 (group ∷ [])
+    ∷ []
+
+-- Arrays `first` of 4 cells and `second` of 8, a memop, a function with an array parameter, and the text "n %d".
+abbrev pub worked : Parts
+worked = made_of (array 4 ∷ array 8 ∷ []) (record { name = []; alu = plus } ∷ []) events (bump bumps ∷ []) handlers ((110 ∷ 32 ∷ 37 ∷ 100 ∷ []) ∷ [])
+
+-- The cells of `first`, and what `second` holds in its cell 1, the other cells 0.
+abbrev pub cells_of : List ℕ → ℕ → List (List ℕ)
+cells_of first n = first ∷ (0 ∷ n ∷ 0 ∷ 0 ∷ 0 ∷ 0 ∷ 0 ∷ 0 ∷ []) ∷ []
+
+abbrev pub start : List (List ℕ)
+start = cells_of (10 ∷ 20 ∷ 30 ∷ 40 ∷ []) 60
+
+-- Event `id` of this argument, at tick 7 on switch 3, leaves these cells and sends these outs.
+abbrev pub Gives : ℕ → ℕ → List ℕ → ℕ → List Out → Type 0
+Gives id i first n outs = step worked start 7 3 (record { id = id; args = i ∷ [] }) ≡ record { cells = cells_of first n; outs = outs }
+
+-- The event that has no handler, after a delay and to a switch.
+abbrev pub sent : ℕ → ℕ → ℕ → Out
+sent i delay to = Gen (record { id = 6; args = i ∷ [] }) delay (At to)
+
+-- What each event does.
+pub record StepExamples : Type 0 where
+  pub index_comes_round : Gives 0 5 (10 ∷ 22 ∷ 30 ∷ 40 ∷ []) 60 (Say 0 (120 ∷ []) ∷ Say 0 (121 ∷ []) ∷ [])
+  pub both_memops_see_the_old_value : Gives 0 2 (10 ∷ 20 ∷ 32 ∷ 40 ∷ []) 60 (Say 0 (130 ∷ []) ∷ Say 0 (131 ∷ []) ∷ [])
+  pub function_is_given_two_arrays : Gives 1 1 (10 ∷ 21 ∷ 30 ∷ 40 ∷ []) 61 (Say 0 (21 ∷ []) ∷ Say 0 (61 ∷ []) ∷ [])
+  pub returns : Gives 2 0 (10 ∷ 20 ∷ 30 ∷ 40 ∷ []) 60 []
+  pub goes_on : Gives 2 9 (10 ∷ 20 ∷ 30 ∷ 40 ∷ []) 60 (Say 0 (9 ∷ []) ∷ [])
+  pub delay_before_target : Gives 3 0 (12 ∷ 20 ∷ 30 ∷ 40 ∷ []) 60 (sent 0 11 12 ∷ [])
+  pub target_before_delay : Gives 4 0 (12 ∷ 20 ∷ 30 ∷ 40 ∷ []) 60 (sent 0 12 11 ∷ [])
+  pub one_delay_for_a_group : Gives 5 3 (10 ∷ 20 ∷ 30 ∷ 41 ∷ []) 60 (sent 3 41 4 ∷ sent 3 41 2 ∷ [])
+  pub no_handler : Gives 6 1 (10 ∷ 20 ∷ 30 ∷ 40 ∷ []) 60 []
