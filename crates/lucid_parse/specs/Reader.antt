@@ -41,6 +41,11 @@ abbrev pub Reads : {A : Type 0} → Result (A × Bor Text) Stop → Outcome A �
 Reads (Ok x) o = o ≡ Some (x.0, x.1.now)
 Reads (Err e) o = Fails e o
 
+-- the same for what is made of parts that are read
+abbrev pub Gives : {A : Type 0} → Result A Stop → Option A → Type 0
+Gives (Ok x) o = o ≡ Some x
+Gives (Err e) o = Fails e o
+
 -- the same for what is passed over
 abbrev pub Leaves : Result (Bor Text) Stop → Option Text → Type 0
 Leaves (Ok x) o = o ≡ Some x.now

@@ -6,7 +6,7 @@ ghost use Rattle.lucid_parse.specs.ReadExpression as spec;
 
 use crate::error::Stop;
 use crate::lexeme::Lexeme;
-use crate::operator::{Next, level, next_within};
+use crate::operator::{Next, next_within, right_level};
 use crate::parts::{after, expect, expect_name, name, width, width_if};
 use crate::tree::{A, E, Pre};
 use lucid_base::{Boxed, Id, Items};
@@ -76,7 +76,7 @@ fn grown(
 {
     match next {
         Next::Infix(op) => {
-            let (right, rest) = expression_at(alloc, depth, level(op) + 1, lexemes)?;
+            let (right, rest) = expression_at(alloc, depth, right_level(op), lexemes)?;
             let left = Boxed::new(alloc, left)?;
             let right = Boxed::new(alloc, right)?;
             Ok((E::Infix(op, left, right), rest))

@@ -1,5 +1,5 @@
 // What may stand between and before operands, and how tightly it binds.
-ghost use Rattle.std.specs.Prelude.{◌≡◌, ◌≤◌, option_map};
+ghost use Rattle.std.specs.Prelude.{◌≡◌, ◌≤◌, ◌+◌, option_map};
 ghost use Rattle.lucid_parse.specs.Operators as spec;
 ghost use Rattle.lucid_parse.specs.ReadExpression.{infix_of, next_of, next_level, next_left, next_within};
 
@@ -35,7 +35,7 @@ impl Next {
 }
 
 /// How tightly an infix sign binds: level 1 is the loosest.
-pub(crate) fn level(op: Infix) -> u8
+fn level(op: Infix) -> u8
     ensures value { result ≡ spec.level op }
     ensures small { result ≤ 8 }
 {
@@ -68,6 +68,13 @@ fn left_level(op: Infix) -> u8
         | Infix::GreaterEqual => 4,
         _ => level(op),
     }
+}
+
+/// The least level of a right operand. Signs of one level group to the left.
+pub(crate) fn right_level(op: Infix) -> u8
+    ensures { result ≡ spec.level op + 1 }
+{
+    level(op) + 1
 }
 
 fn infix_of(sign: Sign) -> Option<Infix>

@@ -1,7 +1,7 @@
 // Statements, and the blocks of them. `depth` bounds how many stand round one another; where it is the number of the lexemes,
 // it never runs out, and the limits on nesting, which are tried before, bound the recursion by far less.
-ghost use Rattle.std.specs.Prelude.{◌≡◌, option_map};
-ghost use Rattle.lucid_parse.specs.Reader.{Reads};
+ghost use Rattle.std.specs.Prelude.{◌≡◌, Some, option_map};
+ghost use Rattle.lucid_parse.specs.Reader.{Reads, Gives};
 ghost use Rattle.lucid_parse.specs.ReadStatement as spec;
 
 use crate::error::Stop;
@@ -110,7 +110,7 @@ fn alternative(alloc: Global, depth: usize, lexemes: &[Lexeme]) -> Result<(No, &
     match lexemes {
         [Lexeme::Word(Word::Else), Lexeme::Word(Word::If), rest @ ..] => {
             let (choice, rest) = choice(alloc, depth, rest)?;
-            Ok((No::Cond(Boxed::new(alloc, choice)?), rest))
+            Ok((else_if(alloc, choice)?, rest))
         }
         [Lexeme::Word(Word::Else), rest @ ..] => {
             let (block, rest) = block(alloc, depth, rest)?;
@@ -118,6 +118,13 @@ fn alternative(alloc: Global, depth: usize, lexemes: &[Lexeme]) -> Result<(No, &
         }
         _ => Ok((No::Absent, lexemes)),
     }
+}
+
+/// An `if` behind `else`, which has all that follows it.
+fn else_if(alloc: Global, choice: C) -> Result<No, Stop>
+    ensures { Gives result (Some (No.Cond choice)) }
+{
+    Ok(No::Cond(Boxed::new(alloc, choice)?))
 }
 
 /// What begins a case, up to its block.
@@ -200,7 +207,18 @@ fn last_arm(
     }
 }
 
-/// Behind `match`. There is at least one case.
+/// The cases, of which there is at least one.
+fn some_cases(cases: Items<(u64, Items<S>)>) -> Result<Items<(u64, Items<S>)>, Stop>
+    ensures { Gives result (spec.some_cases cases) }
+{
+    if cases.is_empty() {
+        Err(Stop::NoTree)
+    } else {
+        Ok(cases)
+    }
+}
+
+/// Behind `match`.
 #[cycle(statement)]
 #[tactic(auto, unfolding(crate::specs::ReadStatement::matched))]
 fn matched(alloc: Global, depth: usize, lexemes: &[Lexeme]) -> Result<(S, &[Lexeme]), Stop>
@@ -209,9 +227,7 @@ fn matched(alloc: Global, depth: usize, lexemes: &[Lexeme]) -> Result<(S, &[Lexe
     let (test, rest) = expression(alloc, lexemes)?;
     let rest = expect_word(Word::With, rest)?;
     let (cases, rest) = cases(alloc, depth, rest)?;
-    if cases.is_empty() {
-        return Err(Stop::NoTree);
-    }
+    let cases = some_cases(cases)?;
     let (last, rest) = last_arm(alloc, depth, rest)?;
     Ok((S::Match { test, cases, last }, rest))
 }

@@ -170,7 +170,7 @@ fn handler_shape(alloc: Global, statement: &str) -> Result<String, AllocError> {
 }
 
 /// Texts, each with the lines of its declarations, or its refusal.
-const PROGRAMS: [(&str, &str); 26] = [
+const PROGRAMS: [(&str, &str); 27] = [
     ("", "ok"),
     (
         "const int<<8>> a = 3; const int b = 4;\nconst bool c = 0;",
@@ -191,8 +191,9 @@ const PROGRAMS: [(&str, &str); 26] = [
         "handle h() { int<<8>> a = 1; bool b = true; a = 2; f(); g(1, b); }",
         "ok 1",
     ),
+    ("handle h(int a, bool b) { } fun bool f() { }", "ok 1 1"),
     (
-        "handle h() { Array.set(a, i, 1); Array.setm(a, i, m, 1); x = Array.update(a, i, m, 1, n, 2); }",
+        "handle h() { Array.get(a, i); Array.set(a, i, 1); Array.getm(a, i, m, 1); Array.setm(a, i, m, 1); }",
         "ok 1",
     ),
     (
@@ -221,7 +222,7 @@ const PROGRAMS: [(&str, &str); 26] = [
 ];
 
 /// Statements, each with the shape of its expression or of its blocks, or its refusal.
-const SHAPES: [(&str, &str); 37] = [
+const SHAPES: [(&str, &str); 44] = [
     ("return a || b || c;", "(OrOr (OrOr a b) c)"),
     ("return a && b && c;", "(AndAnd (AndAnd a b) c)"),
     ("return a | b | c;", "(Or (Or a b) c)"),
@@ -240,6 +241,15 @@ const SHAPES: [(&str, &str); 37] = [
     ("return a & b << 1;", "(And a (true b 1))"),
     ("return a << 1 & b;", "(And (true a 1) b)"),
     ("return a + b << 1;", "(true (Plus a b) 1)"),
+    ("return a << 1 + b;", "NoTree(1)"),
+    (
+        "return a || b && c == d | e ^ f & ~g + h << 1;",
+        "(OrOr a (AndAnd b (EqualEqual c (Or d (Caret e (And f (true (Plus (Tilde g) h) 1)))))))",
+    ),
+    (
+        "return a + -b >> 1 & c ^ d | e < f && g || h;",
+        "(OrOr (AndAnd (Less (Or (Caret (And (false (Plus a (Minus b)) 1) c) d) e) f) g) h)",
+    ),
     ("return -a + ~!b;", "(Plus (Minus a) (Tilde (Not b)))"),
     ("return a < b;", "(Less a b)"),
     ("return a > b;", "(Greater a b)"),
@@ -252,12 +262,21 @@ const SHAPES: [(&str, &str); 37] = [
         "return (int<<8>>) a + (int) -b;",
         "(Plus (Some(8) a) (None (Minus b)))",
     ),
+    (
+        "return (int) (int<<8>>) !(int<<9>>) a;",
+        "(None (Some(8) (Not (Some(9) a))))",
+    ),
     ("return hash<<8>>(1, a + b);", "(hash 8 1 (Plus a b))"),
+    ("return hash<<64>>(a);", "(hash 64 a)"),
     ("return f() + g(a, (b));", "(Plus (f) (g a [b]))"),
     ("return f(a,);", "NoTree(1)"),
     (
         "return Array.get(x, i) + Array.getm(x, i, m, 1);",
         "(Plus (get i) (getm i 1))",
+    ),
+    (
+        "return Array.set(x, i, 1) + Array.setm(x, i, m, 2);",
+        "(Plus (set i 1) (setm i 2))",
     ),
     (
         "return Array.update(x, i, m, 1, n, Sys.time());",
@@ -283,6 +302,7 @@ const SHAPES: [(&str, &str); 37] = [
     ("match a + 1 with | 0 -> { }", "match 1 false"),
     ("match a with ", "NoTree(1)"),
     ("match a with | _ -> { }", "NoTree(1)"),
+    ("match a with | 1 -> { } | _ -> { } | 2 -> { }", "NoTree(1)"),
 ];
 
 #[test]
