@@ -16,8 +16,6 @@ mod parts;
 mod program;
 mod simple;
 mod statement;
-#[cfg(test)]
-mod tests;
 mod tree;
 
 pub use error::ParseError;

@@ -13,8 +13,6 @@ mod program;
 mod reader;
 mod small;
 mod statement;
-#[cfg(test)]
-mod tests;
 mod tokens;
 mod unread;
 

@@ -1,8 +1,7 @@
 // Texts and their trees, by hand from the grammar.
-use crate::tree::{A, C, DeclKind, E, No, S};
-use crate::{ParseError, Tree, parse};
 use lucid_base::Id;
 use lucid_lex::lex;
+use lucid_parse::{A, C, DeclKind, E, No, ParseError, S, Tree, parse};
 use std::alloc::{AllocError, Global};
 use std::test::Fail;
 

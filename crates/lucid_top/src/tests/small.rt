@@ -1,6 +1,6 @@
 // Texts that spell a program, and texts that break a rule.
-use crate::read_core;
 use lucid_lex::lex;
+use lucid_small::read_core;
 use std::alloc::Global;
 use std::test::Fail;
 
