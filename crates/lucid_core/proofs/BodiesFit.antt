@@ -18,7 +18,7 @@ use Rattle.lucid_core.specs.declared.defs.HandlerDef.{HandlerDef}
 use Rattle.lucid_core.specs.Acts.{Act, Effect, Frame, Fun, State, begun_with}
 use Rattle.lucid_core.specs.Fits.{carried, out_fits}
 use Rattle.lucid_core.specs.Meaning as m
-use Rattle.lucid_core.specs.Meaning.{value_of, effect_of, touch_of, fun_of, funs_from}
+use Rattle.lucid_core.specs.Meaning.{value_of, effect_of, touch_of, fun_of}
 use Rattle.lucid_core.specs.OutCount.{body_outs, funs_outs}
 use Rattle.lucid_core.specs.Parts.{Parts}
 use Rattle.lucid_core.specs.Returns as r
@@ -32,6 +32,7 @@ use Rattle.lucid_core.specs.Typing.{Answer, Typed, answer_of, returns_of, touch_
 use Rattle.lucid_core.specs.Valid.{IsSound}
 use Rattle.lucid_core.specs.Values.{nothing}
 use Rattle.lucid_core.proofs.Fine.{IsFine, FunFits, Stands, answer_given, goes_out, once}
+use Rattle.lucid_core.proofs.Funs.{funs_from}
 use Rattle.lucid_core.proofs.Pairwise.{Pairwise, one_more}
 use Rattle.lucid_core.proofs.SentCount.{handler_keeps}
 use Rattle.lucid_core.proofs.SentFit.{BodyFits, E, S, T, ExprFits, StmtFits, expr_texts, touch_texts, expr_tree, touch_tree, stmt_tree, stmts, block_fits, expr_level, touch_level, stmt_level}
@@ -146,7 +147,7 @@ module _ (parts : Parts) (sound : IsSound parts) (cells : List (List ℕ)) (now 
   few_counted k h is = leb-true _ _ (passes_at (λ g. nat_le (body_outs g.body (funs_outs [] parts.funs)) 8) parts.handlers k h (and_parts _ _ sound.outs).1 is)
 
   -- Whatever its arguments are, a handler begins with locals of their widths.
-  started_fine : (h : HandlerDef) → IsFine parts h.locals (once false None) (started h cells args)
+  started_fine : (h : HandlerDef) → IsFine parts h.locals (once false None) (started cells (begun_with (taken_at h.locals args) h.locals))
   started_fine h = record { locals = widths-begun (taken_at h.locals args) (length args) h.locals (widths-taken h.locals args); answer = tt; outs = refl }
 
   sent_few : (k : ℕ) (h : HandlerDef) → slice_get parts.handlers k ≡ Some h → length (handled (Some h) parts cells now me args).after.outs ≤ 8
@@ -167,7 +168,7 @@ module _ (parts : Parts) (sound : IsSound parts) (cells : List (List ℕ)) (now 
       let begun = started_fine h in
       let text = passes_at _ parts.handlers k h texts.1 is in
       let return = passes_at _ parts.handlers k h returns.1 is in
-      let done = body_fits parts (handler_scope parts h) place (record { events = refl; few = few; funs = pairs }) h.body text return rule.0 rule.1 None rule.2 false (started h cells args) begun in
+      let done = body_fits parts (handler_scope parts h) place (record { events = refl; few = few; funs = pairs }) h.body text return rule.0 rule.1 None rule.2 false (started cells (begun_with (taken_at h.locals args) h.locals)) begun in
       (done.outs, sent_few k h is)
 
   -- An event without a handler sends nothing.

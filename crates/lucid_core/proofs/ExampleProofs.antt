@@ -2,7 +2,7 @@
 use Rattle.std.proofs.Common.{◌≡◌, [], ◌∷◌, ◌&&◌, true, refl, ap}
 use Rattle.lucid_core.specs.Uses.{body_uses, all_keep_to_themselves}
 use Rattle.lucid_core.specs.ExamplePrograms.{small, flat, bump_put_in, named_outside, reads_another, drop_value, RulesRefuse}
-use Rattle.lucid_core.specs.StepExamples.{look, say_bump, say_unless_small, counting, group, worked}
+use Rattle.lucid_core.specs.StepExamples.{look, say_bump, say_unless_small, say_hash, counting, group, worked}
 use Rattle.lucid_core.specs.Valid.{IsValid, IsValidFlat}
 use Rattle.lucid_core.proofs.Folds.{folds}
 
@@ -24,7 +24,7 @@ small_is_valid = record {
 }
 
 pub worked_is_valid : IsValid worked
-unfolding look say_bump say_unless_small counting group
+unfolding look say_bump say_unless_small say_hash counting group
 worked_is_valid = record {
   sound = record {
     names = simp folds refl;

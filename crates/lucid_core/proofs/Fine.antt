@@ -9,9 +9,9 @@ use Rattle.lucid_base.specs.declared.event.Out.{Out}
 use Rattle.lucid_base.specs.declared.event.Target.{Target}
 use Rattle.lucid_base.specs.declared.event.Target.TheVariants.{At}
 use Rattle.lucid_core.specs.declared.defs.FunDef.{FunDef}
-use Rattle.lucid_core.specs.Acts.{Act, Frame, Fun, State, Ran, both, call_of}
+use Rattle.lucid_core.specs.Acts.{Act, Frame, Fun, State, Ran, both}
 use Rattle.lucid_core.specs.Fits.{carried, out_fits}
-use Rattle.lucid_core.specs.Meaning.{generated, generated_to}
+use Rattle.lucid_core.specs.Meaning.{call, generated}
 use Rattle.lucid_core.specs.Parts.{Parts}
 use Rattle.lucid_core.specs.Scope.{Scope}
 use Rattle.lucid_core.specs.Texts.{holes_of}
@@ -67,13 +67,13 @@ pub has_none : (a : Answer) (v : Bits) → a ≡ None → Has a v
 has_none a v e = subst (λ (b : Answer). Has b v) (sym e) tt
 
 -- A call of a declared function.
-pub call_fits : (core : Parts) (fs : List FunDef) (gs : List Fun) → Pairwise (FunFits core) fs gs → (k : ℕ) (f : FunDef) → slice_get fs k ≡ Some f →
-    FunFits core f (call_of (slice_get gs k))
-call_fits core [] [] all k f h = absurd (cc)
-call_fits core (d ∷ fs) (g ∷ gs) all zero f h = let e : d ≡ f = cc in subst (λ (x : FunDef). FunFits core x g) e all.0
-call_fits core (d ∷ fs) (g ∷ gs) all (suc k) f h = call_fits core fs gs all.1 k f h
-call_fits core [] (g ∷ gs) all k f h = absurd all
-call_fits core (d ∷ fs) [] all k f h = absurd all
+pub call_fits : (core : Parts) (p : Frame) (fs : List FunDef) (gs : List Fun) → Pairwise (FunFits core) fs gs → (k : ℕ) (f : FunDef) → slice_get fs k ≡ Some f →
+    FunFits core f (λ arrays vs. call k arrays vs (record p { funs = gs }))
+call_fits core p [] [] all k f h = absurd (cc)
+call_fits core p (d ∷ fs) (g ∷ gs) all zero f h = let e : d ≡ f = cc in subst (λ (x : FunDef). FunFits core x g) e all.0
+call_fits core p (d ∷ fs) (g ∷ gs) all (suc k) f h = call_fits core p fs gs all.1 k f h
+call_fits core p [] (g ∷ gs) all k f h = absurd all
+call_fits core p (d ∷ fs) [] all k f h = absurd all
 
 module _ (core : Parts) (ws : List ℕ) where
   -- Of an answer that is not given, nothing is asked.
@@ -129,7 +129,7 @@ generated_fits core s p stands event params vs delay to declared e =
 
 -- So do those to all members of a group.
 pub group_fits : (core : Parts) (event : ℕ) (vs : List Bits) (delay : ℕ) (members : List ℕ) → ((m : ℕ) → goes_out core (generated event vs delay (At m)) ≡ true) →
-    list_all (goes_out core) (generated_to event vs delay members) ≡ true
+    list_all (goes_out core) (map (generated event vs delay) (map At members)) ≡ true
 group_fits core event vs delay [] fit = refl
 group_fits core event vs delay (m ∷ ms) fit = and_from _ _ (fit m) (group_fits core event vs delay ms fit)
 

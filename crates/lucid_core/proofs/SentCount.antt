@@ -1,8 +1,10 @@
 -- What a run sends out is no more than what is counted of its body. This holds of all programs, also of those that aren't valid.
-use Rattle.std.proofs.Common.{◌≡◌, ℕ, zero, suc, ◌+◌, ◌≤◌, List, [], ◌∷◌, ◌++◌, length, map, Option, None, Some, refl, sym, ap, subst, arith, length-append}
-use Rattle.std.specs.Prelude.{Bool, true, false, option_map, option_to_list, if◌then◌else◌, max, nat_eq, slice_get, slice_index}
+use Rattle.std.proofs.Common.{◌≡◌, ℕ, zero, suc, ◌+◌, ◌≤◌, List, [], ◌∷◌, ◌++◌, length, map, Option, None, Some, sym, subst, arith, length-append}
+use Rattle.std.proofs.lemmas.List.{length-map}
+use Rattle.std.specs.Prelude.{Bool, true, false, option_map, option_to_list, if◌then◌else◌, max, nat_eq, slice_index}
 use Rattle.lucid_base.specs.declared.bits.Bits.{Bits}
 use Rattle.lucid_base.specs.declared.event.Out.TheVariants as out
+use Rattle.lucid_base.specs.declared.event.Target.TheVariants.{At, Here}
 use Rattle.lucid_core.specs.declared.body.Expr.{Expr}
 use Rattle.lucid_core.specs.declared.body.Stmt.{Stmt}
 use Rattle.lucid_core.specs.declared.body.Touch.{Touch}
@@ -11,14 +13,15 @@ use Rattle.lucid_core.specs.declared.body.Expr.TheViews.{roll-Expr, roll-Stmt, r
 use Rattle.lucid_core.specs.declared.body.Expr.TheFolds.{fold-roll-Expr, fold-roll-Stmt, fold-roll-Touch, map-Expr, map-Stmt, map-Touch, ind-Stmt}
 use Rattle.lucid_core.specs.declared.defs.FunDef.{FunDef}
 use Rattle.lucid_core.specs.declared.defs.HandlerDef.{HandlerDef}
-use Rattle.lucid_core.specs.Acts.{Act, Effect, Frame, Fun, State, Ran, all, all_given, array_of, begun_with, block, both, call_of, holding}
+use Rattle.lucid_core.specs.Acts.{Act, Effect, Frame, Fun, State, Ran, all, array_of, begun_with, block, both}
 use Rattle.lucid_core.specs.Meaning as m
-use Rattle.lucid_core.specs.Meaning.{value_of, effect_of, touch_of, fun_of, funs_from, generated, generated_to, target, ticks}
+use Rattle.lucid_core.specs.Meaning.{all_given, call, delay_of, effect_of, fun_of, generated, holding, target_of, touch_of, value_of}
 use Rattle.lucid_core.specs.OutCount as n
 use Rattle.lucid_core.specs.OutCount.{Count, total, expr_outs, stmt_outs, touch_outs, body_outs, funs_outs}
 use Rattle.lucid_core.specs.Parts.{Parts}
-use Rattle.lucid_core.specs.Step.{handled, started}
+use Rattle.lucid_core.specs.Step.{handled, started, taken_at}
 use Rattle.lucid_core.specs.Values.{nothing, numbers}
+use Rattle.lucid_core.proofs.Funs.{funs_from}
 use Rattle.lucid_core.proofs.Pairwise.{Pairwise, one_more}
 
 -- Run so, any state sends out at most n more.
@@ -33,12 +36,12 @@ abbrev Keeps : {A : Type 0} → Act A → Count → Type 0
 Keeps act count = (p : Frame) (counts : List ℕ) → Pairwise FunSends p.funs counts → Sends (count counts) (act p)
 
 -- A function that isn't there sends nothing.
-call_keeps : (funs : List Fun) (counts : List ℕ) → Pairwise FunSends funs counts → (k : ℕ) → FunSends (call_of (slice_get funs k)) (slice_index counts k)
-call_keeps [] [] known k arrays vs s = omega arith
-call_keeps (f ∷ fs) (n ∷ ns) known zero arrays vs s = known.0 arrays vs s
-call_keeps (f ∷ fs) (n ∷ ns) known (suc k) arrays vs s = call_keeps fs ns known.1 k arrays vs s
-call_keeps [] (n ∷ ns) known k arrays vs s = absurd known
-call_keeps (f ∷ fs) [] known k arrays vs s = absurd known
+call_keeps : (p : Frame) (funs : List Fun) (counts : List ℕ) → Pairwise FunSends funs counts → (k : ℕ) → FunSends (λ arrays vs. call k arrays vs (record p { funs = funs })) (slice_index counts k)
+call_keeps p [] [] known k arrays vs s = omega arith
+call_keeps p (f ∷ fs) (n ∷ ns) known zero arrays vs s = known.0 arrays vs s
+call_keeps p (f ∷ fs) (n ∷ ns) known (suc k) arrays vs s = call_keeps p fs ns known.1 k arrays vs s
+call_keeps p [] (n ∷ ns) known k arrays vs s = absurd known
+call_keeps p (f ∷ fs) [] known k arrays vs s = absurd known
 
 total-append : (cs ds : List Count) (counts : List ℕ) → total (cs ++ ds) counts ≡ total cs counts + total ds counts
 total-append [] ds counts = omega arith
@@ -125,7 +128,7 @@ expr_level (Expr-F.Array t) p counts known s = let first = t.1 p counts known s 
 expr_level (Expr-F.Fun k names xs) p counts known s =
     let ran = all (map value_of (exprs xs)) p s in
     let first = all_keep expr_outs value_of xs p counts known s in
-    let next = call_keeps p.funs counts known k (map (array_of p.arrays) names) ran.gives ran.after in
+    let next = call_keeps p p.funs counts known k (map (array_of p.arrays) names) ran.gives ran.after in
     omega arith
 expr_level (Expr-F.Inlined given ss) p counts known s =
     let ran = all_given (given_acts given) p s in
@@ -175,9 +178,9 @@ abbrev option_counts : Option E → Option Count
 option_counts o = option_map (λ e. expr_outs e.0) o
 
 -- Of a delay or a target.
-optional_keeps : (o : Option E) → Keeps (m.optional (option_acts o)) (total (option_to_list (option_counts o)))
-optional_keeps None p counts known s = omega arith
-optional_keeps (Some x) p counts known s = let ran = x.1 p counts known s in omega arith
+optional_keeps : {A : Type 0} (absent : A) (given : ℕ → A) (o : Option E) → Keeps (m.optional absent given (option_acts o)) (total (option_to_list (option_counts o)))
+optional_keeps absent given None p counts known s = omega arith
+optional_keeps absent given (Some x) p counts known s = let ran = x.1 p counts known s in omega arith
 
 -- In either order.
 both_keep : {A B : Type 0} (b : Bool) (f : Act A) (g : Act B) (c d : Count) → Keeps f c → Keeps g d → Keeps (both b f g) (λ counts. c counts + d counts)
@@ -194,22 +197,18 @@ gen_level : (event : ℕ) (xs : List E) (delay to : Option E) (delay_first : Boo
     (m.stmt_step (Stmt-F.Gen event (map value_of (exprs xs)) (option_acts delay) (option_acts to) delay_first))
     (n.stmt_step (Stmt-F.Gen event (map expr_outs (exprs xs)) (option_counts delay) (option_counts to) delay_first))
 gen_level event xs delay to delay_first p counts known s =
-    let first = m.optional (option_acts delay) in
-    let second = m.optional (option_acts to) in
+    let first = delay_of (option_acts delay) in
+    let second = target_of (option_acts to) in
     let cs = option_to_list (option_counts delay) in
     let ds = option_to_list (option_counts to) in
     let ran = all (map value_of (exprs xs)) p s in
     let args = all_keep expr_outs value_of xs p counts known s in
     let given = both delay_first first second p ran.after in
-    let next = both_keep delay_first first second (total cs) (total ds) (optional_keeps delay) (optional_keeps to) p counts known ran.after in
+    let next = both_keep delay_first first second (total cs) (total ds) (optional_keeps 0 (λ n. n) delay) (optional_keeps Here At to) p counts known ran.after in
     let sum = total-append (map expr_outs (exprs xs) ++ cs) ds counts in
     let more = total-append (map expr_outs (exprs xs)) cs counts in
-    let sent = length-append given.after.outs (generated event ran.gives (ticks given.gives.0) (target given.gives.1) ∷ []) in
+    let sent = length-append given.after.outs (generated event ran.gives given.gives.0 given.gives.1 ∷ []) in
     omega arith
-
-length-generated_to : (event : ℕ) (vs : List Bits) (delay : ℕ) (members : List ℕ) → length (generated_to event vs delay members) ≡ length members
-length-generated_to event vs delay [] = refl
-length-generated_to event vs delay (m ∷ ms) = ap suc (length-generated_to event vs delay ms)
 
 multi_level : (event : ℕ) (xs : List E) (delay : Option E) (members : List ℕ) → Keeps
     (m.stmt_step (Stmt-F.Multi event (map value_of (exprs xs)) (option_acts delay) members))
@@ -218,11 +217,12 @@ multi_level event xs delay members p counts known s =
     let cs = option_to_list (option_counts delay) in
     let ran = all (map value_of (exprs xs)) p s in
     let args = all_keep expr_outs value_of xs p counts known s in
-    let given = m.optional (option_acts delay) p ran.after in
-    let next = optional_keeps delay p counts known ran.after in
+    let given = delay_of (option_acts delay) p ran.after in
+    let next = optional_keeps 0 (λ n. n) delay p counts known ran.after in
     let sum = total-append (map expr_outs (exprs xs)) cs counts in
-    let sent = length-append given.after.outs (generated_to event ran.gives (ticks given.gives) members) in
-    let many = length-generated_to event ran.gives (ticks given.gives) members in
+    let sent = length-append given.after.outs (map (generated event ran.gives given.gives) (map At members)) in
+    let each = length-map members At in
+    let many = length-map (map At members) (generated event ran.gives given.gives) in
     omega arith
 
 stmt_level : (y : Stmt-F E S T) → Keeps (stmt_act (stmt_tree y)) (stmt_count (stmt_tree y))
@@ -286,5 +286,5 @@ pub handler_keeps : (h : HandlerDef) (parts : Parts) (cells : List (List ℕ)) (
     length (handled (Some h) parts cells now me args).after.outs ≤ body_outs h.body (funs_outs [] parts.funs)
 handler_keeps h parts cells now me args =
     let known = funs_keep now me parts.funs [] [] tt in
-    let sent = body_keeps h.body (record { now = now; me = me; arrays = []; funs = funs_from now me [] parts.funs }) (funs_outs [] parts.funs) known (started h cells args) in
+    let sent = body_keeps h.body (record { now = now; me = me; arrays = []; funs = funs_from now me [] parts.funs }) (funs_outs [] parts.funs) known (started cells (begun_with (taken_at h.locals args) h.locals)) in
     omega arith

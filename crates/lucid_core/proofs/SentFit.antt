@@ -6,15 +6,15 @@ use Rattle.std.proofs.lemmas.Bool.{and_from, and_parts}
 use Rattle.lucid_base.specs.Bits.{bits_of}
 use Rattle.lucid_base.specs.declared.bits.Bits.{Bits}
 use Rattle.lucid_base.specs.declared.event.Out.TheVariants as out
-use Rattle.lucid_base.specs.declared.event.Target.TheVariants.{At}
+use Rattle.lucid_base.specs.declared.event.Target.TheVariants.{At, Here}
 use Rattle.lucid_core.specs.declared.body.Expr.{Expr}
 use Rattle.lucid_core.specs.declared.body.Stmt.{Stmt}
 use Rattle.lucid_core.specs.declared.body.Touch.{Touch}
 use Rattle.lucid_core.specs.declared.body.Expr.TheOpen.{Expr-F, Stmt-F, Touch-F}
 use Rattle.lucid_core.specs.declared.body.Expr.TheFolds.{fold-Expr, fold-Touch, map-Expr, map-Stmt, map-Touch}
-use Rattle.lucid_core.specs.Acts.{Act, Effect, Frame, State, all, all_given, array_of, block, both, call_of, holding}
+use Rattle.lucid_core.specs.Acts.{Act, Effect, Frame, State, all, array_of, block, both}
 use Rattle.lucid_core.specs.Meaning as m
-use Rattle.lucid_core.specs.Meaning.{value_of, effect_of, touch_of, generated, generated_to, target, ticks}
+use Rattle.lucid_core.specs.Meaning.{all_given, call, delay_of, effect_of, generated, holding, target_of, touch_of, value_of}
 use Rattle.lucid_core.specs.Parts.{Parts}
 use Rattle.lucid_core.specs.Returns as r
 use Rattle.lucid_core.specs.Returns.{Returns, expr_returns, stmt_returns, touch_returns}
@@ -196,8 +196,8 @@ module _ (core : Parts) (s : Scope) (p : Frame) (stands : Stands core s p) where
       let rule = call_rule s i names (map answer_of (exprs es)) a h in
       let args = values_fit es texts last _ rule.2 k old fine in
       let ran = all (map value_of (exprs es)) p old in
-      let called = call_fits core s.funs p.funs stands.funs i rule.0 rule.1 (map (array_of p.arrays) names) ran.gives args.gives s.locals k ran.after args.fine in
-      let result = (call_of (slice_get p.funs i) (map (array_of p.arrays) names) ran.gives ran.after).gives in
+      let called = call_fits core p s.funs p.funs stands.funs i rule.0 rule.1 (map (array_of p.arrays) names) ran.gives args.gives s.locals k ran.after args.fine in
+      let result = (call i (map (array_of p.arrays) names) ran.gives p ran.after).gives in
       record { gives = subst (λ (b : Answer). Has b result) (sym rule.3) called.gives; fine = called.fine }
   expr_level (Expr-F.Inlined given es) texts last a h k old fine =
       let rule = inlined_rule s (map (λ (g : ℕ × Expr). (g.0, answer_of g.1)) (given_trees given)) (map returns_of (stmts es)) a h in
@@ -213,7 +213,7 @@ module _ (core : Parts) (s : Scope) (p : Frame) (stands : Stands core s p) where
       let seen = λ (w : ℕ) (e : a ≡ Some w). block_seen es text.1 end.1 rule.returns rule.typed (rule.some w e) in
       record {
         gives = answer_given core s.locals a body.value body.always _ seen returns.1 done;
-        fine = record { locals = fine.locals; answer = args.fine.answer; outs = done.outs };
+        fine = record { locals = args.fine.locals; answer = args.fine.answer; outs = done.outs };
       }
 
   abbrev TouchNodeFits : Touch-F Expr Stmt Touch → Type 0
@@ -280,10 +280,10 @@ module _ (core : Parts) (s : Scope) (p : Frame) (stands : Stands core s p) where
   }
 
   -- Of a delay or a target.
-  optional_stays : (o : Option E) → all_texts (option_to_list (option_map (λ e. expr_texts e.0) o)) ≡ true → all_last (option_to_list (option_map (λ e. expr_returns e.0) o)) ≡ true →
-      AllGive s (option_to_list (option_map (λ e. answer_of e.0) o)) → StaysFine core s.locals p (m.optional (option_map (λ e. value_of e.0) o))
-  optional_stays None texts last give k old fine = fine
-  optional_stays (Some e) texts last give k old fine = (e.1 (and_parts _ _ texts).0 (and_parts _ _ last).0 (Some give.0.0) give.0.1 k old fine).fine
+  optional_stays : {A : Type 0} (absent : A) (given : ℕ → A) (o : Option E) → all_texts (option_to_list (option_map (λ e. expr_texts e.0) o)) ≡ true → all_last (option_to_list (option_map (λ e. expr_returns e.0) o)) ≡ true →
+      AllGive s (option_to_list (option_map (λ e. answer_of e.0) o)) → StaysFine core s.locals p (m.optional absent given (option_map (λ e. value_of e.0) o))
+  optional_stays absent given None texts last give k old fine = fine
+  optional_stays absent given (Some e) texts last give k old fine = (e.1 (and_parts _ _ texts).0 (and_parts _ _ last).0 (Some give.0.0) give.0.1 k old fine).fine
 
   gen_level : (event : ℕ) (es : List E) (delay to : Option E) (delay_first : Bool) → StmtFits
       (m.stmt_step (Stmt-F.Gen event (map value_of (exprs es)) (option_map (λ e. value_of e.0) delay) (option_map (λ e. value_of e.0) to) delay_first))
@@ -299,14 +299,14 @@ module _ (core : Parts) (s : Scope) (p : Frame) (stands : Stands core s p) where
         let end = both_pass (λ (one : Returns). one.last) (map expr_returns (exprs es) ++ option_to_list (option_map (λ (e : E). expr_returns e.0) delay)) (option_to_list (option_map (λ (e : E). expr_returns e.0) to)) last in
         let end2 = both_pass (λ (one : Returns). one.last) (map expr_returns (exprs es)) (option_to_list (option_map (λ (e : E). expr_returns e.0) delay)) end.0 in
         let give = give_parts s (option_to_list (option_map (λ (e : E). answer_of e.0) delay)) (option_to_list (option_map (λ (e : E). answer_of e.0) to)) rule.others in
-        let first = m.optional (option_map (λ (e : E). value_of e.0) delay) in
-        let second = m.optional (option_map (λ (e : E). value_of e.0) to) in
+        let first = delay_of (option_map (λ (e : E). value_of e.0) delay) in
+        let second = target_of (option_map (λ (e : E). value_of e.0) to) in
         let ran = all (map value_of (exprs es)) p old in
         let args = values_fit es text2.0 end2.0 rule.params rule.typed (once given a) old fine in
-        let after = both_stay core s.locals p delay_first first second (optional_stays delay text2.1 end2.1 give.0) (optional_stays to text.1 end.1 give.1) (once given a) ran.after args.fine in
+        let after = both_stay core s.locals p delay_first first second (optional_stays 0 (λ n. n) delay text2.1 end2.1 give.0) (optional_stays Here At to text.1 end.1 give.1) (once given a) ran.after args.fine in
         let where_to = both delay_first first second p ran.after in
-        let fit = generated_fits core s p stands event rule.params ran.gives (ticks where_to.gives.0) (target where_to.gives.1) rule.declared args.gives in
-        still core s.locals given a _ (sent_too core s.locals (once given a) where_to.after (generated event ran.gives (ticks where_to.gives.0) (target where_to.gives.1) ∷ []) after (and_from _ _ fit refl));
+        let fit = generated_fits core s p stands event rule.params ran.gives where_to.gives.0 where_to.gives.1 rule.declared args.gives in
+        still core s.locals given a _ (sent_too core s.locals (once given a) where_to.after (generated event ran.gives where_to.gives.0 where_to.gives.1 ∷ []) after (and_from _ _ fit refl));
   }
 
   multi_level : (event : ℕ) (es : List E) (delay : Option E) (members : List ℕ) → StmtFits
@@ -320,13 +320,13 @@ module _ (core : Parts) (s : Scope) (p : Frame) (stands : Stands core s p) where
         let rule = multi_rule s event (map answer_of (exprs es)) (option_map (λ (e : E). answer_of e.0) delay) members rs h in
         let text = both_pass (λ (test : Printed). test core.forms) (map expr_texts (exprs es)) (option_to_list (option_map (λ (e : E). expr_texts e.0) delay)) texts in
         let end = both_pass (λ (one : Returns). one.last) (map expr_returns (exprs es)) (option_to_list (option_map (λ (e : E). expr_returns e.0) delay)) last in
-        let act = m.optional (option_map (λ (e : E). value_of e.0) delay) in
+        let act = delay_of (option_map (λ (e : E). value_of e.0) delay) in
         let ran = all (map value_of (exprs es)) p old in
         let args = values_fit es text.0 end.0 rule.params rule.typed (once given a) old fine in
-        let after = optional_stays delay text.1 end.1 rule.others (once given a) ran.after args.fine in
+        let after = optional_stays 0 (λ n. n) delay text.1 end.1 rule.others (once given a) ran.after args.fine in
         let when = act p ran.after in
-        let fit = group_fits core event ran.gives (ticks when.gives) members (λ m. generated_fits core s p stands event rule.params ran.gives (ticks when.gives) (At m) rule.declared args.gives) in
-        still core s.locals given a _ (sent_too core s.locals (once given a) when.after (generated_to event ran.gives (ticks when.gives) members) after fit);
+        let fit = group_fits core event ran.gives when.gives members (λ m. generated_fits core s p stands event rule.params ran.gives when.gives (At m) rule.declared args.gives) in
+        still core s.locals given a _ (sent_too core s.locals (once given a) when.after (map (generated event ran.gives when.gives) (map At members)) after fit);
   }
 
   pub stmt_level : (y : Stmt-F E S T) → StmtNodeFits (stmt_tree y)

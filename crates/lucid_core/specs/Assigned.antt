@@ -1,11 +1,9 @@
 -- Definite assignment: a local that is no parameter is read only after an assignment of it that stands earlier in the same block or in a block round it.
 use Rattle.std.specs.Prelude.{ℕ, List, [], ◌∷◌, ◌++◌, Bool, true, ◌&&◌, map, take}
 use Rattle.std.specs.List.{list_all}
-use Rattle.lucid_core.specs.declared.body.Expr.{Expr}
 use Rattle.lucid_core.specs.declared.body.Stmt.{Stmt}
-use Rattle.lucid_core.specs.declared.body.Touch.{Touch}
 use Rattle.lucid_core.specs.declared.body.Expr.TheOpen.{Expr-F, Stmt-F, Touch-F}
-use Rattle.lucid_core.specs.declared.body.Expr.TheFolds.{fold-Expr, fold-Stmt, fold-Touch}
+use Rattle.lucid_core.specs.declared.body.Expr.TheFolds.{fold-Stmt}
 use Rattle.lucid_core.specs.Children.{expr_children, stmt_children, touch_children}
 use Rattle.lucid_core.specs.Parts.{Parts}
 use Rattle.lucid_core.specs.Numbers.{is_in, places}
@@ -41,14 +39,8 @@ stmt_step (Stmt-F.Assign i x) = record { reads_assigned = x.reads_assigned; assi
 stmt_step (Stmt-F.If x ss ts) = only_reads (λ known. x.reads_assigned known && block ss known && block ts known)
 stmt_step s = only_reads (all_read_assigned (stmt_children s))
 
-abbrev pub expr_flow : Expr → Flow
-expr_flow = fold-Expr Flow Flow Flow expr_step stmt_step touch_step
-
 abbrev pub stmt_flow : Stmt → Flow
 stmt_flow = fold-Stmt Flow Flow Flow expr_step stmt_step touch_step
-
-abbrev pub touch_flow : Touch → Flow
-touch_flow = fold-Touch Flow Flow Flow expr_step stmt_step touch_step
 
 -- A body whose first locals are its parameters.
 abbrev pub body_reads_assigned : List ℕ → List Stmt → Bool

@@ -44,6 +44,10 @@ yes = roll-Expr (Expr-F.Fixed (bits_of 1 1))
 abbrev pub less : Expr → Expr → Expr
 less x y = roll-Expr (Expr-F.Cmp Lt x y)
 
+-- hash<<32>>(seed, x)
+abbrev pub hash : ℕ → Expr → Expr
+hash seed x = roll-Expr (Expr-F.Hash 32 (number seed ∷ x ∷ []))
+
 abbrev pub call : ℕ → List ArrayName → List Expr → Expr
 call k names xs = roll-Expr (Expr-F.Fun k names xs)
 

@@ -1,11 +1,9 @@
 -- The limits on numbers of things, and the fixed numbers of memops.
 use Rattle.std.specs.Prelude.{ℕ, List, Bool, ◌&&◌, length, map, nat_lt, nat_le}
 use Rattle.std.specs.List.{list_all}
-use Rattle.lucid_core.specs.declared.body.Expr.{Expr}
 use Rattle.lucid_core.specs.declared.body.Stmt.{Stmt}
-use Rattle.lucid_core.specs.declared.body.Touch.{Touch}
 use Rattle.lucid_core.specs.declared.body.Expr.TheOpen.{Expr-F, Stmt-F, Touch-F}
-use Rattle.lucid_core.specs.declared.body.Expr.TheFolds.{fold-Expr, fold-Stmt, fold-Touch}
+use Rattle.lucid_core.specs.declared.body.Expr.TheFolds.{fold-Stmt}
 use Rattle.lucid_core.specs.declared.defs.FunDef.{FunDef}
 use Rattle.lucid_core.specs.Children.{expr_children, stmt_children, touch_children}
 use Rattle.lucid_core.specs.Parts.{Parts}
@@ -36,14 +34,8 @@ stmt_step (Stmt-F.Multi event xs delay members) =
     nat_le (length xs) 8 && are_members members && all (stmt_children (Stmt-F.Multi event xs delay members))
 stmt_step s = all (stmt_children s)
 
-abbrev pub expr_limits : Expr → Bool
-expr_limits = fold-Expr Bool Bool Bool expr_step stmt_step touch_step
-
 abbrev pub stmt_limits : Stmt → Bool
 stmt_limits = fold-Stmt Bool Bool Bool expr_step stmt_step touch_step
-
-abbrev pub touch_limits : Touch → Bool
-touch_limits = fold-Touch Bool Bool Bool expr_step stmt_step touch_step
 
 abbrev pub body_keeps_limits : List Stmt → Bool
 body_keeps_limits ss = all (map stmt_limits ss)

@@ -1,5 +1,6 @@
 -- What expressions and statements mean: each is an act, by recursion on the tree.
-use Rattle.std.specs.Prelude.{ℕ, List, [], ◌∷◌, ◌++◌, Option, None, Some, if◌then◌else◌, nat_eq, map}
+use Rattle.std.specs.Prelude.{ℕ, List, [], ◌∷◌, ◌++◌, Option, None, Some, if◌then◌else◌, nat_eq, map, fold, slice_get, slice_index_or, slice_set}
+use Rattle.std.specs.Option.{option_map_or}
 use Rattle.lucid_base.specs.Bits.{bits_of}
 use Rattle.lucid_base.specs.declared.bits.Bits.{Bits}
 use Rattle.lucid_base.specs.declared.event.Out.{Out}
@@ -12,101 +13,63 @@ use Rattle.lucid_core.specs.declared.body.Touch.{Touch}
 use Rattle.lucid_core.specs.declared.body.Expr.TheOpen.{Expr-F, Stmt-F, Touch-F}
 use Rattle.lucid_core.specs.declared.body.Expr.TheFolds.{fold-Expr, fold-Stmt, fold-Touch}
 use Rattle.lucid_core.specs.declared.defs.FunDef.{FunDef}
-use Rattle.lucid_core.specs.declared.moment.Moment.{Moment}
-use Rattle.lucid_core.specs.Acts.{Act, Effect, Frame, Fun, give, ◌>>=◌, all, all_given, block, both, local, assign, hold, send, return, touched, answered, on_own_locals, begun_with, call}
-use Rattle.lucid_core.specs.Values.{unary, binary, comparison, hashed, memop, numbers}
+use Rattle.lucid_core.specs.Acts.{Act, Effect, Fun, give, ◌>>=◌, all, block, both, change, send, array_of, touched, called, begun_with}
+use Rattle.lucid_core.specs.Values.{nothing, unary, binary, comparison, hashed, memop, numbers}
 
--- A call with its body put in: its locals end with it.
-abbrev pub put_in : List (ℕ × Act Bits) → List Effect → Act Bits
-put_in given ss = on_own_locals (do
-  held ← all_given given
-  done ← hold held
-  answered (block ss))
+-- What arguments give, from left to right, with the locals that are to hold them.
+abbrev pub all_given : List (ℕ × Act Bits) → Act (List (ℕ × Bits))
+all_given given = all (map (λ g. do v ← g.1; give (g.0, v)) given)
+
+-- The locals once each of these holds its value.
+abbrev pub holding : List Bits → List (ℕ × Bits) → List Bits
+holding locals held = fold (λ vs h. slice_set vs h.0 h.1) locals held
+
+-- What function k gives, and nothing where it isn't there.
+abbrev pub call : ℕ → List ℕ → List Bits → Act Bits
+call k arrays vs = λ p. option_map_or (λ f. f arrays vs) (slice_get p.funs k) (give nothing p)
 
 abbrev pub expr_step : Expr-F (Act Bits) Effect (Act Bits) → Act Bits
 expr_step (Expr-F.Fixed n) = give n
-expr_step (Expr-F.Local i) = local i
+expr_step (Expr-F.Local i) = λ p s. give (slice_index_or s.locals i nothing) p s
 expr_step Expr-F.Now = λ p. give (bits_of 32 p.now) p
 expr_step Expr-F.Me = λ p. give (bits_of 32 p.me) p
-expr_step (Expr-F.Un op x) = do
-  a ← x
-  give (unary op a)
-expr_step (Expr-F.Bin op x y) = do
-  a ← x
-  b ← y
-  give (binary op a b)
-expr_step (Expr-F.Cmp op x y) = do
-  a ← x
-  b ← y
-  give (comparison op a b)
-expr_step (Expr-F.Cast w x) = do
-  a ← x
-  give (bits_of w a.value)
-expr_step (Expr-F.Hash w xs) = do
-  vs ← all xs
-  give (hashed w vs)
+expr_step (Expr-F.Un op x) = do a ← x; give (unary op a)
+expr_step (Expr-F.Bin op x y) = do a ← x; b ← y; give (binary op a b)
+expr_step (Expr-F.Cmp op x y) = do a ← x; b ← y; give (comparison op a b)
+expr_step (Expr-F.Cast w x) = do a ← x; give (bits_of w a.value)
+expr_step (Expr-F.Hash w xs) = do vs ← all xs; give (hashed w vs)
 expr_step (Expr-F.Array t) = t
-expr_step (Expr-F.Fun k names xs) = do
-  vs ← all xs
-  call k names vs
-expr_step (Expr-F.Inlined given ss) = put_in given ss
+expr_step (Expr-F.Fun k names xs) = do vs ← all xs; λ p. call k (map (array_of p.arrays) names) vs p
+expr_step (Expr-F.Inlined given ss) = do held ← all_given given; λ p s. called (holding s.locals held) (block ss) p s
 
 -- Both memops see what the cell held.
 abbrev pub touch_step : Touch-F (Act Bits) Effect (Act Bits) → Act Bits
-touch_step t = do
-  i ← t.index
-  g ← t.get_arg
-  v ← t.set_arg
-  touched t.array i.value (λ old. memop t.get old g) (λ old. memop t.set old v)
+touch_step t = do i ← t.index; g ← t.get_arg; v ← t.set_arg; touched t.array i.value (λ old. memop t.get old g) (λ old. memop t.set old v)
 
-abbrev pub optional : Option (Act Bits) → Act (Option Bits)
-optional None = give None
-optional (Some x) = do
-  v ← x
-  give (Some v)
+-- What an operand gives that may be left out, and what stands for it then.
+abbrev pub optional : {A : Type 0} → A → (ℕ → A) → Option (Act Bits) → Act A
+optional absent given None = give absent
+optional absent given (Some x) = do v ← x; give (given v.value)
 
--- Without a delay it is 0, and without a target the event stays here.
-abbrev pub ticks : Option Bits → ℕ
-ticks None = 0
-ticks (Some v) = v.value
+abbrev pub delay_of : Option (Act Bits) → Act ℕ
+delay_of = optional 0 (λ ticks. ticks)
 
-abbrev pub target : Option Bits → Target
-target None = Here
-target (Some v) = At v.value
+abbrev pub target_of : Option (Act Bits) → Act Target
+target_of = optional Here At
 
 abbrev pub generated : ℕ → List Bits → ℕ → Target → Out
 generated event vs delay to = out.Gen (record { id = event; args = numbers vs }) delay to
 
--- One to each of these switches.
-abbrev pub generated_to : ℕ → List Bits → ℕ → List ℕ → List Out
-generated_to event vs delay [] = []
-generated_to event vs delay (m ∷ rest) = generated event vs delay (At m) ∷ generated_to event vs delay rest
-
 abbrev pub stmt_step : Stmt-F (Act Bits) Effect (Act Bits) → Effect
-stmt_step (Stmt-F.Assign i x) = do
-  v ← x
-  assign i v
-stmt_step (Stmt-F.Drop x) = do
-  v ← x
-  give tt
-stmt_step (Stmt-F.If x ss ts) = do
-  v ← x
-  block (if nat_eq v.value 0 then ts else ss)
-stmt_step (Stmt-F.Gen event xs delay to delay_first) = do
-  vs ← all xs
-  given ← both delay_first (optional delay) (optional to)
-  send (generated event vs (ticks given.0) (target given.1) ∷ [])
-stmt_step (Stmt-F.Multi event xs delay members) = do
-  vs ← all xs
-  given ← optional delay
-  send (generated_to event vs (ticks given) members)
-stmt_step (Stmt-F.Say form xs) = do
-  vs ← all xs
-  send (out.Say form (numbers vs) ∷ [])
+stmt_step (Stmt-F.Assign i x) = do v ← x; change (λ s. record s { locals = slice_set s.locals i v })
+stmt_step (Stmt-F.Drop x) = do _ ← x; give tt
+stmt_step (Stmt-F.If x ss ts) = do v ← x; block (if nat_eq v.value 0 then ts else ss)
+stmt_step (Stmt-F.Gen event xs delay to delay_first) =
+    do vs ← all xs; given ← both delay_first (delay_of delay) (target_of to); send (generated event vs given.0 given.1 ∷ [])
+stmt_step (Stmt-F.Multi event xs delay members) = do vs ← all xs; ticks ← delay_of delay; send (map (generated event vs ticks) (map At members))
+stmt_step (Stmt-F.Say form xs) = do vs ← all xs; send (out.Say form (numbers vs) ∷ [])
 stmt_step (Stmt-F.Return None) = give tt
-stmt_step (Stmt-F.Return (Some x)) = do
-  v ← x
-  return v
+stmt_step (Stmt-F.Return (Some x)) = do v ← x; change (λ s. record s { answer = v })
 
 abbrev pub value_of : Expr → Act Bits
 value_of = fold-Expr (Act Bits) Effect (Act Bits) expr_step stmt_step touch_step
@@ -117,25 +80,11 @@ effect_of = fold-Stmt (Act Bits) Effect (Act Bits) expr_step stmt_step touch_ste
 abbrev pub touch_of : Touch → Act Bits
 touch_of = fold-Touch (Act Bits) Effect (Act Bits) expr_step stmt_step touch_step
 
--- A function runs on locals of its own, with the functions before it.
+-- A function runs behind the functions before it.
 abbrev pub fun_of : ℕ → ℕ → List Fun → FunDef → Fun
-fun_of now me before f arrays vs s =
-    on_own_locals (λ p own. answered (block (map effect_of f.body)) p (record own { locals = begun_with vs f.locals }))
-    (record { now = now; me = me; arrays = arrays; funs = before }) s
+fun_of now me before f arrays vs =
+    called (begun_with vs f.locals) (block (map effect_of f.body)) (record { now = now; me = me; arrays = arrays; funs = before })
 
--- What functions do, behind those already known.
-abbrev pub funs_from : ℕ → ℕ → List Fun → List FunDef → List Fun
-funs_from now me known [] = known
-funs_from now me known (f ∷ fs) = funs_from now me (known ++ fun_of now me known f ∷ []) fs
-
+-- What functions do, in the order of their declarations.
 abbrev pub funs_of : ℕ → ℕ → List FunDef → List Fun
-funs_of now me fs = funs_from now me [] fs
-
--- Where a body runs, behind these functions.
-abbrev pub frame : Moment → List ℕ → List FunDef → Frame
-frame moment arrays before = record {
-  now = moment.now;
-  me = moment.me;
-  arrays = arrays;
-  funs = funs_of moment.now moment.me before;
-}
+funs_of now me fs = fold (λ before f. before ++ fun_of now me before f ∷ []) [] fs

@@ -6,9 +6,11 @@ use Rattle.lucid_base.specs.declared.event.Out.{Out}
 use Rattle.lucid_base.specs.declared.event.Out.TheVariants as out
 use Rattle.lucid_core.specs.declared.draft.Draft.{Draft}
 use Rattle.lucid_core.specs.declared.draft.Draft.TheVariants.{Gen, Say}
+use Rattle.lucid_core.specs.declared.place.Place.{Place}
 use Rattle.lucid_core.specs.declared.run.Write.{Write}
-use Rattle.lucid_core.specs.Acts.{State, Ran}
+use Rattle.lucid_core.specs.Acts.{Frame, Ran, State}
 use Rattle.lucid_core.specs.Cells.{with_cell}
+use Rattle.lucid_core.specs.Meaning.{funs_of}
 
 -- The out that a draft stands for.
 abbrev pub out_of : Draft → Out
@@ -31,3 +33,7 @@ rewound (w ∷ ws) cells = with_cell (rewound ws cells) w.array w.cell w.old
 abbrev pub Does : {A : Type 0} → (State → Ran A) → Running → Running → Result A Memory → Type 0
 Does act old new (Ok x) = (x ≡ (act old.state).gives) × (new ≡ with_state old (act old.state).after)
 Does act old new (Err e) = new.start ≡ old.start
+
+-- Where a body runs, as the definition has it.
+abbrev pub frame : Place → Frame
+frame place = record { now = place.moment.now; me = place.moment.me; arrays = place.arrays.now; funs = funs_of place.moment.now place.moment.me place.funs.now }

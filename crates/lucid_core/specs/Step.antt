@@ -1,5 +1,5 @@
 -- The whole step: what an event does when its handler runs whole, and what a list of events does, one after another.
-use Rattle.std.specs.Prelude.{ℕ, List, [], ◌∷◌, Option, None, Some, map, take, slice_get, slice_index_or}
+use Rattle.std.specs.Prelude.{ℕ, List, [], ◌∷◌, ◌++◌, Option, None, Some, fold, map, take, zip, slice_get, slice_index_or}
 use Rattle.std.specs.Option.{option_and_then}
 use Rattle.lucid_base.specs.Bits.{bits_of}
 use Rattle.lucid_base.specs.declared.bits.Bits.{Bits}
@@ -12,28 +12,22 @@ use Rattle.lucid_core.specs.Meaning.{effect_of, funs_of}
 use Rattle.lucid_core.specs.Parts.{Parts}
 use Rattle.lucid_core.specs.Values.{nothing}
 
--- Arguments as values of these widths.
-abbrev pub taken_at : List ℕ → List ℕ → List Bits
-taken_at (w ∷ ws) (a ∷ rest) = bits_of w a ∷ taken_at ws rest
-taken_at _ _ = []
-
--- A handler begins with its event's arguments in its first locals, and no outs.
-abbrev pub started : HandlerDef → List (List ℕ) → List ℕ → State
-started h cells args = record {
-  cells = cells;
-  outs = [];
-  locals = begun_with (taken_at h.locals args) h.locals;
-  answer = nothing;
-}
-
--- An event without a handler changes nothing.
-abbrev pub handled : Option HandlerDef → Parts → List (List ℕ) → ℕ → ℕ → List ℕ → Ran (Unit {0})
-handled None parts cells now me args = record { gives = tt; after = record { cells = cells; outs = []; locals = []; answer = nothing }; calls = [] }
-handled (Some h) parts cells now me args =
-    block (map effect_of h.body) (record { now = now; me = me; arrays = []; funs = funs_of now me parts.funs }) (started h cells args)
-
 abbrev pub handler_of : Parts → ℕ → Option HandlerDef
 handler_of parts id = option_and_then (slice_get parts.handlers) (option_and_then (λ e. e.handler) (slice_get parts.events id))
+
+-- Arguments as values of these widths.
+abbrev pub taken_at : List ℕ → List ℕ → List Bits
+taken_at widths args = map (λ pair. bits_of pair.0 pair.1) (zip widths args)
+
+-- No outs and no answer yet.
+abbrev pub started : List (List ℕ) → List Bits → State
+started cells locals = record { cells = cells; outs = []; locals = locals; answer = nothing }
+
+-- A handler begins with its event's arguments in its first locals. An event without a handler changes nothing.
+abbrev pub handled : Option HandlerDef → Parts → List (List ℕ) → ℕ → ℕ → List ℕ → Ran (Unit {0})
+handled None parts cells now me args = record { gives = tt; after = started cells []; calls = [] }
+handled (Some h) parts cells now me args = let locals = begun_with (taken_at h.locals args) h.locals in
+    block (map effect_of h.body) (record { now = now; me = me; arrays = []; funs = funs_of now me parts.funs }) (started cells locals)
 
 abbrev pub ran : Parts → List (List ℕ) → ℕ → ℕ → Event → Ran (Unit {0})
 ran parts cells now me event = handled (handler_of parts event.id) parts cells now me event.args
@@ -62,16 +56,10 @@ pub record Steps : Type 0 where
   pub cells : List (List ℕ)
   pub outs : List (List Out)
 
-abbrev pub steps_from : Parts → List (List ℕ) → List Entry → Steps
-steps_from parts cells [] = record { cells = cells; outs = [] }
-steps_from parts cells (e ∷ rest) =
-    let first = step parts cells e.now e.me e.event in
-    let later = steps_from parts first.cells rest in
-    record { cells = later.cells; outs = first.outs ∷ later.outs }
-
--- From cells that are all 0.
+-- One after another, from cells that are all 0.
 abbrev pub steps : Parts → List Entry → Steps
-steps parts entries = steps_from parts (zero_cells parts.arrays) entries
+steps parts entries = fold (λ so_far e. let next = step parts so_far.cells e.now e.me e.event in record { cells = next.cells; outs = so_far.outs ++ next.outs ∷ [] })
+    (record { cells = zero_cells parts.arrays; outs = [] }) entries
 
 -- The cells after the first n events.
 abbrev pub after : Parts → List Entry → ℕ → List (List ℕ)

@@ -1,6 +1,7 @@
 -- What the step makes of one program, worked by hand from the language.
 use Rattle.std.specs.Prelude.{◌≡◌, ℕ, List, [], ◌∷◌, Option, None, Some, Bool, true, false}
 use Rattle.lucid_base.specs.declared.array.ArrayName.TheVariants.{Global}
+use Rattle.lucid_base.specs.declared.event.Event.{Event}
 use Rattle.lucid_base.specs.declared.event.Out.{Out}
 use Rattle.lucid_base.specs.declared.event.Out.TheVariants.{Gen, Say}
 use Rattle.lucid_base.specs.declared.event.Target.TheVariants.{At}
@@ -8,9 +9,9 @@ use Rattle.lucid_core.specs.declared.body.Expr.{Expr}
 use Rattle.lucid_core.specs.declared.body.Stmt.{Stmt}
 use Rattle.lucid_core.specs.declared.defs.HandlerDef.{HandlerDef}
 use Rattle.lucid_core.specs.declared.defs.EventDef.{EventDef}
-use Rattle.lucid_core.specs.ExamplePrograms.{number, local, one, array, less, call, choose, generate_with, to_each_after, say, return, plus, update, update_with, bump, bumps}
+use Rattle.lucid_core.specs.ExamplePrograms.{number, local, one, array, less, hash, call, choose, generate_with, to_each_after, say, return, plus, update, update_with, bump, bumps, bump_put_in, flat}
 use Rattle.lucid_core.specs.Parts.{Parts, made_of}
-use Rattle.lucid_core.specs.Step.{step}
+use Rattle.lucid_core.specs.Step.{Entry, Stepped, step, touches, steps, after, outs}
 
 -- An event of one parameter i, and a handler of it.
 abbrev pub declared : Option ℕ → EventDef
@@ -43,9 +44,13 @@ counting delay_first = generate_with 6 (local 0 ∷ []) (Some count) (Some count
 unfoldable pub group : Stmt
 group = to_each_after 6 (local 0 ∷ []) (Some count) (4 ∷ 2 ∷ [])
 
--- An event for each example. The last one has no handler.
+-- printf("n %d", hash<<32>>(7, i));
+unfoldable pub say_hash : Stmt
+say_hash = say 0 (hash 7 (local 0) ∷ [])
+
+-- An event for each example. The last but one has no handler.
 abbrev pub events : List EventDef
-events = declared (Some 0) ∷ declared (Some 1) ∷ declared (Some 2) ∷ declared (Some 3) ∷ declared (Some 4) ∷ declared (Some 5) ∷ declared None ∷ []
+events = declared (Some 0) ∷ declared (Some 1) ∷ declared (Some 2) ∷ declared (Some 3) ∷ declared (Some 4) ∷ declared (Some 5) ∷ declared None ∷ declared (Some 6) ∷ []
 
 abbrev pub handlers : List HandlerDef
 handlers =
@@ -55,11 +60,16 @@ handlers =
     ∷ handler_of 3 (counting true ∷ [])
     ∷ handler_of 4 (counting false ∷ [])
     ∷ handler_of 5 (group ∷ [])
+    ∷ handler_of 7 (say_hash ∷ [])
     ∷ []
 
 -- Arrays `first` of 4 cells and `second` of 8, a memop, a function with an array parameter, and the text "n %d".
 abbrev pub worked : Parts
 worked = made_of (array 4 ∷ array 8 ∷ []) (record { name = []; alu = plus } ∷ []) events (bump bumps ∷ []) handlers ((110 ∷ 32 ∷ 37 ∷ 100 ∷ []) ∷ [])
+
+-- { printf("n %d", bump(first, i)); printf("n %d", bump(first, i)); } with the bodies put in.
+abbrev pub twice_put_in : List Stmt
+twice_put_in = say 0 (bump_put_in ∷ []) ∷ say 0 (bump_put_in ∷ []) ∷ []
 
 -- The cells of `first`, and what `second` holds in its cell 1, the other cells 0.
 abbrev pub cells_of : List ℕ → ℕ → List (List ℕ)
@@ -68,22 +78,35 @@ cells_of first n = first ∷ (0 ∷ n ∷ 0 ∷ 0 ∷ 0 ∷ 0 ∷ 0 ∷ 0 ∷ []
 abbrev pub start : List (List ℕ)
 start = cells_of (10 ∷ 20 ∷ 30 ∷ 40 ∷ []) 60
 
--- Event `id` of this argument, at tick 7 on switch 3, leaves these cells and sends these outs.
-abbrev pub Gives : ℕ → ℕ → List ℕ → ℕ → List Out → Type 0
-Gives id i first n outs = step worked start 7 3 (record { id = id; args = i ∷ [] }) ≡ record { cells = cells_of first n; outs = outs }
+-- What an event does at tick 7 on switch 3, and the arrays that it calls.
+abbrev pub does : Parts → Event → Stepped × List ℕ
+does parts event = (step parts start 7 3 event, touches parts start 7 3 event)
+
+-- Event `id` of this argument leaves these cells, sends these outs and calls these arrays.
+abbrev pub Gives : ℕ → ℕ → List ℕ → ℕ → List Out → List ℕ → Type 0
+Gives id i first n outs called = does worked (record { id = id; args = i ∷ [] }) ≡ (record { cells = cells_of first n; outs = outs }, called)
 
 -- The event that has no handler, after a delay and to a switch.
 abbrev pub sent : ℕ → ℕ → ℕ → Out
 sent i delay to = Gen (record { id = 6; args = i ∷ [] }) delay (At to)
 
--- What each event does.
+-- Two events of argument 1 that call `bump`.
+abbrev pub two_events : List Entry
+two_events = record { now = 7; me = 3; event = record { id = 1; args = 1 ∷ [] } } ∷ record { now = 8; me = 2; event = record { id = 1; args = 1 ∷ [] } } ∷ []
+
+-- What each event does, and what two do, one after the other.
 pub record StepExamples : Type 0 where
-  pub index_comes_round : Gives 0 5 (10 ∷ 22 ∷ 30 ∷ 40 ∷ []) 60 (Say 0 (120 ∷ []) ∷ Say 0 (121 ∷ []) ∷ [])
-  pub both_memops_see_the_old_value : Gives 0 2 (10 ∷ 20 ∷ 32 ∷ 40 ∷ []) 60 (Say 0 (130 ∷ []) ∷ Say 0 (131 ∷ []) ∷ [])
-  pub function_is_given_two_arrays : Gives 1 1 (10 ∷ 21 ∷ 30 ∷ 40 ∷ []) 61 (Say 0 (21 ∷ []) ∷ Say 0 (61 ∷ []) ∷ [])
-  pub returns : Gives 2 0 (10 ∷ 20 ∷ 30 ∷ 40 ∷ []) 60 []
-  pub goes_on : Gives 2 9 (10 ∷ 20 ∷ 30 ∷ 40 ∷ []) 60 (Say 0 (9 ∷ []) ∷ [])
-  pub delay_before_target : Gives 3 0 (12 ∷ 20 ∷ 30 ∷ 40 ∷ []) 60 (sent 0 11 12 ∷ [])
-  pub target_before_delay : Gives 4 0 (12 ∷ 20 ∷ 30 ∷ 40 ∷ []) 60 (sent 0 12 11 ∷ [])
-  pub one_delay_for_a_group : Gives 5 3 (10 ∷ 20 ∷ 30 ∷ 41 ∷ []) 60 (sent 3 41 4 ∷ sent 3 41 2 ∷ [])
-  pub no_handler : Gives 6 1 (10 ∷ 20 ∷ 30 ∷ 40 ∷ []) 60 []
+  pub index_comes_round : Gives 0 5 (10 ∷ 22 ∷ 30 ∷ 40 ∷ []) 60 (Say 0 (120 ∷ []) ∷ Say 0 (121 ∷ []) ∷ []) (0 ∷ 0 ∷ [])
+  pub both_memops_see_the_old_value : Gives 0 2 (10 ∷ 20 ∷ 32 ∷ 40 ∷ []) 60 (Say 0 (130 ∷ []) ∷ Say 0 (131 ∷ []) ∷ []) (0 ∷ 0 ∷ [])
+  pub function_is_given_two_arrays : Gives 1 1 (10 ∷ 21 ∷ 30 ∷ 40 ∷ []) 61 (Say 0 (21 ∷ []) ∷ Say 0 (61 ∷ []) ∷ []) (0 ∷ 1 ∷ [])
+  pub returns : Gives 2 0 (10 ∷ 20 ∷ 30 ∷ 40 ∷ []) 60 [] []
+  pub goes_on : Gives 2 9 (10 ∷ 20 ∷ 30 ∷ 40 ∷ []) 60 (Say 0 (9 ∷ []) ∷ []) []
+  pub delay_before_target : Gives 3 0 (12 ∷ 20 ∷ 30 ∷ 40 ∷ []) 60 (sent 0 11 12 ∷ []) (0 ∷ 0 ∷ [])
+  pub target_before_delay : Gives 4 0 (12 ∷ 20 ∷ 30 ∷ 40 ∷ []) 60 (sent 0 12 11 ∷ []) (0 ∷ 0 ∷ [])
+  pub one_delay_for_a_group : Gives 5 3 (10 ∷ 20 ∷ 30 ∷ 41 ∷ []) 60 (sent 3 41 4 ∷ sent 3 41 2 ∷ []) (0 ∷ [])
+  pub no_handler : Gives 6 1 (10 ∷ 20 ∷ 30 ∷ 40 ∷ []) 60 [] []
+  pub hashes : Gives 7 5 (10 ∷ 20 ∷ 30 ∷ 40 ∷ []) 60 (Say 0 (1584172615 ∷ []) ∷ []) []
+  pub body_put_in : does (flat twice_put_in) (record { id = 0; args = 1 ∷ 9 ∷ [] }) ≡ (record { cells = cells_of (10 ∷ 22 ∷ 30 ∷ 40 ∷ []) 60; outs = Say 0 (21 ∷ []) ∷ Say 0 (22 ∷ []) ∷ [] }, 0 ∷ 0 ∷ [])
+  pub one_after_another : steps worked two_events ≡ record { cells = cells_of (0 ∷ 2 ∷ 0 ∷ 0 ∷ []) 2; outs = (Say 0 (1 ∷ []) ∷ Say 0 (1 ∷ []) ∷ []) ∷ (Say 0 (2 ∷ []) ∷ Say 0 (2 ∷ []) ∷ []) ∷ [] }
+  pub cells_after_the_first : after worked two_events 1 ≡ cells_of (0 ∷ 1 ∷ 0 ∷ 0 ∷ []) 1
+  pub outs_of_the_second : outs worked two_events 1 ≡ Say 0 (2 ∷ []) ∷ Say 0 (2 ∷ []) ∷ []

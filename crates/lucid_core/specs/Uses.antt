@@ -1,11 +1,9 @@
 -- Which locals a body reads and assigns, and what an `Inlined` may name.
 use Rattle.std.specs.Prelude.{ℕ, List, [], ◌∷◌, ◌++◌, Bool, ◌&&◌, map, nat_eq, drop, length}
 use Rattle.std.specs.List.{list_all, flat_map, count_by}
-use Rattle.lucid_core.specs.declared.body.Expr.{Expr}
 use Rattle.lucid_core.specs.declared.body.Stmt.{Stmt}
-use Rattle.lucid_core.specs.declared.body.Touch.{Touch}
 use Rattle.lucid_core.specs.declared.body.Expr.TheOpen.{Expr-F, Stmt-F, Touch-F}
-use Rattle.lucid_core.specs.declared.body.Expr.TheFolds.{fold-Expr, fold-Stmt, fold-Touch}
+use Rattle.lucid_core.specs.declared.body.Expr.TheFolds.{fold-Stmt}
 use Rattle.lucid_core.specs.Children.{expr_children, stmt_children, touch_children}
 use Rattle.lucid_core.specs.Parts.{Parts}
 use Rattle.lucid_core.specs.Events.{event_params}
@@ -57,14 +55,8 @@ abbrev pub stmt_step : Stmt-F Uses Uses Uses → Uses
 stmt_step (Stmt-F.Assign i x) = assigning (i ∷ []) x
 stmt_step s = all (stmt_children s)
 
-abbrev pub expr_uses : Expr → Uses
-expr_uses = fold-Expr Uses Uses Uses expr_step stmt_step touch_step
-
 abbrev pub stmt_uses : Stmt → Uses
 stmt_uses = fold-Stmt Uses Uses Uses expr_step stmt_step touch_step
-
-abbrev pub touch_uses : Touch → Uses
-touch_uses = fold-Touch Uses Uses Uses expr_step stmt_step touch_step
 
 abbrev pub body_uses : List Stmt → Uses
 body_uses ss = all (map stmt_uses ss)

@@ -13,8 +13,8 @@ mod examples;
 mod fits;
 mod interpret;
 mod laws;
-mod moment;
 mod operate;
+mod place;
 mod program;
 mod run;
 #[cfg(test)]

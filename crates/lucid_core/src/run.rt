@@ -1,7 +1,6 @@
 // The state of a body that runs, and the way back to the cells that it began with.
 // Only this file writes cells during a run: it notes what a cell held before it writes, so that want of memory can be undone.
 ghost use Rattle.std.specs.Prelude.{◌≡◌, ◌≤◌, ◌++◌, [], ◌∷◌, All, IfOk, OnOk, OnErr, length, slice_index_or, slice_set};
-ghost use Rattle.lucid_core.specs.Acts.{State, holding};
 ghost use Rattle.lucid_core.specs.Cells.{cell_at, with_cell};
 ghost use Rattle.lucid_core.specs.Fits.{carried};
 ghost use Rattle.lucid_core.specs.Running.{Running, out_of, rewound, with_state};
@@ -112,15 +111,6 @@ impl Run {
     {
         if (i as usize) < self.locals.len() {
             self.locals.set(i as usize, value);
-        }
-    }
-
-    /// Lets each of these locals hold its value.
-    pub fn hold(&mut self, held: &[(u32, Bits)])
-        ensures { self.new ≡ with_state self.old (record self.old.state { locals = holding self.old.state.locals held.now }) }
-    {
-        for (i, value) in held {
-            self.assign(*i, *value);
         }
     }
 

@@ -81,6 +81,13 @@ fn a_function_is_given_two_arrays(rt: HostRuntime) -> Result<(), Fail> {
 }
 
 #[test]
+fn a_hash_is_of_its_seed_and_its_word(rt: HostRuntime) -> Result<(), Fail> {
+    let alloc = rt.alloc();
+    assert!(rt; gives(alloc, 7, 5, [10, 20, 30, 40, 60], &[said(1584172615)])?);
+    Ok(())
+}
+
+#[test]
 fn one_branch_returns_and_an_event_without_a_handler_does_nothing(
     rt: HostRuntime,
 ) -> Result<(), Fail> {

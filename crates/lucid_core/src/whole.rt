@@ -3,16 +3,16 @@ ghost use Rattle.std.specs.Prelude.{◌≡◌, ◌≤◌, [], All, IfOk, IsTrue,
 ghost use Rattle.std.specs.Option.{option_map};
 ghost use Rattle.lucid_core.specs.Acts.{block};
 ghost use Rattle.lucid_core.specs.Fits.{carried, out_fits};
-ghost use Rattle.lucid_core.specs.Meaning.{effect_of, frame};
-ghost use Rattle.lucid_core.specs.Running.{with_state};
+ghost use Rattle.lucid_core.specs.Meaning.{effect_of};
+ghost use Rattle.lucid_core.specs.Running.{frame, with_state};
 ghost use Rattle.lucid_core.specs.Step.{handled, handler_of as handler_in, step, taken_at};
 
 use crate::interpret::{effects, with_zeros};
 use crate::laws::outs_fit;
-use crate::moment::Moment;
 use crate::operate::low_bits;
+use crate::place::{Moment, Place};
 use crate::run::Run;
-use crate::{Cells, Core, HandlerDef};
+use crate::{Cells, Core, HandlerDef, Stmt};
 use lucid_base::{Bits, Event, Items, Memory, Outs, Width};
 use std::alloc::Global;
 use std::mem;
@@ -72,7 +72,14 @@ fn handle(
     let widths = handler.locals.as_slice();
     let locals = with_zeros(taken(alloc, widths, args)?, widths)?;
     let mut run = Run::begin(alloc, mem::replace(cells, Cells::none(alloc)), locals);
-    match run_body(alloc, core, moment, &mut run, handler) {
+    let none: [u32; 0] = [];
+    let place = Place {
+        alloc,
+        moment,
+        arrays: &none,
+        funs: core.funs(),
+    };
+    match run_body(place, &mut run, handler.body.as_slice()) {
         Ok(outs) => {
             *cells = run.finish();
             Ok(outs)
@@ -84,29 +91,15 @@ fn handle(
     }
 }
 
-/// Runs the handler's body, and gives what was sent out.
-fn run_body(
-    alloc: Global,
-    core: &Core,
-    moment: Moment,
-    run: &mut Run,
-    handler: &HandlerDef,
-) -> Result<Outs, Memory>
-    requires few { length (block (map effect_of handler.now.body) (frame moment [] core.now.funs) run.old.state).after.outs ≤ 8 }
-    requires small { All (λ out. length (carried out) ≤ 8) (block (map effect_of handler.now.body) (frame moment [] core.now.funs) run.old.state).after.outs }
-    ensures outs { IfOk result (λ outs. outs ≡ (block (map effect_of handler.now.body) (frame moment [] core.now.funs) run.old.state).after.outs) }
-    ensures state { OnOk result (run.new ≡ with_state run.old (block (map effect_of handler.now.body) (frame moment [] core.now.funs) run.old.state).after) }
+/// Runs a handler's body, and gives what was sent out.
+fn run_body(place: Place, run: &mut Run, body: &[Stmt]) -> Result<Outs, Memory>
+    requires few { length (block (map effect_of body.now) (frame place) run.old.state).after.outs ≤ 8 }
+    requires small { All (λ out. length (carried out) ≤ 8) (block (map effect_of body.now) (frame place) run.old.state).after.outs }
+    ensures outs { IfOk result (λ outs. outs ≡ (block (map effect_of body.now) (frame place.entry) run.old.state).after.outs) }
+    ensures state { OnOk result (run.new ≡ with_state run.old (block (map effect_of body.now) (frame place.entry) run.old.state).after) }
     ensures start { OnErr result (run.new.start ≡ run.old.start) }
 {
-    let none: [u32; 0] = [];
-    effects(
-        alloc,
-        core.funs(),
-        &none,
-        moment,
-        run,
-        handler.body.as_slice(),
-    )?;
+    effects(place, run, body)?;
     Ok(run.sent())
 }
 
@@ -115,11 +108,8 @@ fn taken(alloc: Global, widths: &[Width], args: &[u64]) -> Result<Items<Bits>, M
     ensures { IfOk result (λ values. values ≡ taken_at widths.now args.now) }
 {
     let mut values = Items::new(alloc);
-    for i in 0..widths.len() {
-        if i >= args.len() {
-            return Ok(values);
-        }
-        values.push(low_bits(widths[i], args[i]))?;
+    for (width, arg) in widths.iter().zip(args) {
+        values.push(low_bits(*width, *arg))?;
     }
     Ok(values)
 }

@@ -1,8 +1,8 @@
 // The program of specs/StepExamples.antt, built part by part.
 ghost use Rattle.std.specs.Prelude.{◌≡◌, [], ◌∷◌, IfOk, None, Some, true, false};
 ghost use Rattle.lucid_base.specs.declared.array.ArrayName.TheVariants.{Global as Declared};
-ghost use Rattle.lucid_core.specs.ExamplePrograms.{number as number_of, local as local_of, one, array as array_of, less, call as call_of, return as return_of, plus as plus_of, update_with, say as say_of, bump as bump_of, bumps as bumps_of};
-ghost use Rattle.lucid_core.specs.StepExamples.{declared as declared_of, handler_of, look as look_of, say_bump as say_bump_of, say_unless_small as say_unless_small_of, count as count_of, counting as counting_of, group as group_of, events as events_of, handlers as handlers_of, worked as worked_of};
+ghost use Rattle.lucid_core.specs.ExamplePrograms.{number as number_of, local as local_of, one, array as array_of, less, hash as hash_of, call as call_of, plus as plus_of, update_with, say as say_of, bump as bump_of, bumps as bumps_of};
+ghost use Rattle.lucid_core.specs.StepExamples.{declared as declared_of, handler_of, look as look_of, say_bump as say_bump_of, say_unless_small as say_unless_small_of, count as count_of, counting as counting_of, group as group_of, say_hash as say_hash_of, events as events_of, handlers as handlers_of, worked as worked_of};
 
 use crate::operate::low_bits;
 use crate::{Core, EventDef, Expr, FunDef, HandlerDef, MemopDef, Stmt, Touch};
@@ -81,6 +81,22 @@ fn look(alloc: Global) -> Result<Stmt, Memory>
 {
     let old = update(alloc, ArrayName::Global(0), 100)?;
     say(alloc, old)
+}
+
+/// hash<<32>>(7, i)
+fn hash(alloc: Global) -> Result<Expr, Memory>
+    ensures { IfOk result (λ e. e ≡ hash_of 7 (local_of 0)) }
+{
+    let words = pair(alloc, number(7), local(0))?;
+    Ok(Expr::Hash(Width::int(), words))
+}
+
+#[tactic(auto, unfolding(crate::specs::StepExamples::say_hash))]
+fn say_hash(alloc: Global) -> Result<Stmt, Memory>
+    ensures { IfOk result (λ s. s ≡ say_hash_of) }
+{
+    let word = hash(alloc)?;
+    say(alloc, word)
 }
 
 fn call(alloc: Global, array: u32) -> Result<Expr, Memory>
@@ -234,6 +250,7 @@ fn events(alloc: Global) -> Result<Vec<EventDef>, Memory>
     events.push(declared(alloc, Some(4))?)?;
     events.push(declared(alloc, Some(5))?)?;
     events.push(declared(alloc, None)?)?;
+    events.push(declared(alloc, Some(6))?)?;
     Ok(events)
 }
 
@@ -290,6 +307,13 @@ fn group_handler(alloc: Global) -> Result<HandlerDef, Memory>
     alone(alloc, 5, stmt)
 }
 
+fn hash_handler(alloc: Global) -> Result<HandlerDef, Memory>
+    ensures { IfOk result (λ h. h ≡ handler_of 7 (say_hash_of ∷ [])) }
+{
+    let stmt = say_hash(alloc)?;
+    alone(alloc, 7, stmt)
+}
+
 fn handlers(alloc: Global) -> Result<Vec<HandlerDef>, Memory>
     ensures { IfOk result (λ hs. hs.items ≡ handlers_of) }
 {
@@ -300,6 +324,7 @@ fn handlers(alloc: Global) -> Result<Vec<HandlerDef>, Memory>
     handlers.push(counting_handler(alloc, 3, true)?)?;
     handlers.push(counting_handler(alloc, 4, false)?)?;
     handlers.push(group_handler(alloc)?)?;
+    handlers.push(hash_handler(alloc)?)?;
     Ok(handlers)
 }
 

@@ -1,61 +1,65 @@
 -- Measures: five times the depth of what is left to run, and a rank among the functions. Invariants: what a loop has done and what is left make the whole.
-use Rattle.std.proofs.Common.{◌≡◌, ◌+◌, ◌*◌, ◌++◌, max, drop, map}
+use Rattle.std.proofs.Common.{◌≡◌, ◌+◌, ◌*◌, ◌++◌, [], max, drop, map}
 use Rattle.lucid_core.specs.declared.body.Expr.TheViews.{size-Stmt}
 use denote.Param.Weighed.{most}
-use Rattle.lucid_core.specs.Acts.{all, all_given, block}
-use Rattle.lucid_core.specs.Meaning.{value_of, effect_of, frame}
+use Rattle.lucid_core.specs.Acts.{all, block}
+use Rattle.lucid_core.specs.Meaning.{all_given, value_of, effect_of}
+use Rattle.lucid_core.specs.Running.{frame}
 use Rattle.lucid_core.specs.Weight.{weight}
 use Rattle.lucid_core.proofs.interpret.+run.Given as goal
 
 abbrev pub decreases-value : goal.decreases-value
-decreases-value l = 5 * (weight l.funs.now + goal.size-value l)
+decreases-value l = 5 * (weight l.place.funs.now + goal.size-value l)
 
 abbrev pub decreases-touch : goal.decreases-touch
-decreases-touch l = 5 * (weight l.funs.now + goal.size-touch l)
+decreases-touch l = 5 * (weight l.place.funs.now + goal.size-touch l)
 
 abbrev pub decreases-effect : goal.decreases-effect
-decreases-effect l = 5 * (weight l.funs.now + goal.size-effect l)
+decreases-effect l = 5 * (weight l.place.funs.now + goal.size-effect l)
 
 abbrev pub decreases-values : goal.decreases-values
-decreases-values l = 5 * (weight l.funs.now + goal.size-values l) + 1
+decreases-values l = 5 * (weight l.place.funs.now + goal.size-values l) + 1
 
 abbrev pub decreases-givens : goal.decreases-givens
-decreases-givens l = 5 * (weight l.funs.now + goal.size-givens l) + 1
+decreases-givens l = 5 * (weight l.place.funs.now + goal.size-givens l) + 1
 
-abbrev pub decreases-asked : goal.decreases-asked
-decreases-asked l = 5 * (weight l.funs.now + goal.size-asked l) + 1
+abbrev pub decreases-delay_in : goal.decreases-delay_in
+decreases-delay_in l = 5 * (weight l.place.funs.now + goal.size-delay_in l) + 1
+
+abbrev pub decreases-target_in : goal.decreases-target_in
+decreases-target_in l = 5 * (weight l.place.funs.now + goal.size-target_in l) + 1
+
+abbrev pub decreases-delay_and_target : goal.decreases-delay_and_target
+decreases-delay_and_target l = 5 * (weight l.place.funs.now + max (goal.size-delay_and_target l) (goal.size-target_in (record { the-lifetimes = ([], ([], ([], tt))); place = l.place; run = l.run; to = l.to }))) + 2
 
 abbrev pub decreases-effects : goal.decreases-effects
-decreases-effects l = 5 * (weight l.funs.now + goal.size-effects l) + 1
+decreases-effects l = 5 * (weight l.place.funs.now + goal.size-effects l) + 1
 
-abbrev pub decreases-answer : goal.decreases-answer
-decreases-answer l = 5 * (weight l.funs.now + goal.size-answer l) + 2
+abbrev pub decreases-called : goal.decreases-called
+decreases-called l = 5 * (weight l.place.funs.now + most (λ x. size-Stmt x) l.stmts.now) + 2
 
 abbrev pub decreases-inlined : goal.decreases-inlined
-decreases-inlined l = 5 * (weight l.funs.now + max (goal.size-inlined l) (most (λ x. size-Stmt x) l.stmts.now)) + 3
-
-abbrev pub decreases-body : goal.decreases-body
-decreases-body l = 5 * (weight l.funs.now + most (λ x. size-Stmt x) l.f.now.body) + 3
+decreases-inlined l = 5 * (weight l.place.funs.now + max (goal.size-inlined l) (most (λ x. size-Stmt x) l.stmts.now)) + 3
 
 abbrev pub decreases-call : goal.decreases-call
-decreases-call l = 5 * weight l.funs.now
+decreases-call l = 5 * weight l.place.funs.now
 
 abbrev pub invariant-effects-loop-stmt : goal.invariant-effects-loop-stmt
 invariant-effects-loop-stmt l = record {
-  after : (block (map effect_of (drop l.stmt-index l.stmts)) (frame l.moment l.arrays l.funs) l.run.state).after ≡ (block (map effect_of l.stmts) (frame l.moment l.arrays l.funs) l.fn.run.state).after;
+  after : (block (map effect_of (drop l.stmt-index l.stmts)) (frame l.place) l.run.state).after ≡ (block (map effect_of l.stmts) (frame l.place) l.fn.run.state).after;
   start : l.run.start ≡ l.fn.run.start;
 }
 
 abbrev pub invariant-values-loop-e : goal.invariant-values-loop-e
 invariant-values-loop-e l = record {
-  gives : l.vs ++ (all (map value_of (drop l.e-index l.es)) (frame l.moment l.arrays l.funs) l.run.state).gives ≡ (all (map value_of l.es) (frame l.moment l.arrays l.funs) l.fn.run.state).gives;
-  after : (all (map value_of (drop l.e-index l.es)) (frame l.moment l.arrays l.funs) l.run.state).after ≡ (all (map value_of l.es) (frame l.moment l.arrays l.funs) l.fn.run.state).after;
+  gives : l.vs ++ (all (map value_of (drop l.e-index l.es)) (frame l.place) l.run.state).gives ≡ (all (map value_of l.es) (frame l.place) l.fn.run.state).gives;
+  after : (all (map value_of (drop l.e-index l.es)) (frame l.place) l.run.state).after ≡ (all (map value_of l.es) (frame l.place) l.fn.run.state).after;
   start : l.run.start ≡ l.fn.run.start;
 }
 
 abbrev pub invariant-givens-loop-i : goal.invariant-givens-loop-i
 invariant-givens-loop-i l = record {
-  gives : l.held ++ (all_given (map (λ g. (g.0, value_of g.1)) (drop l.i-index l.given)) (frame l.moment l.arrays l.funs) l.run.state).gives ≡ (all_given (map (λ g. (g.0, value_of g.1)) l.given) (frame l.moment l.arrays l.funs) l.fn.run.state).gives;
-  after : (all_given (map (λ g. (g.0, value_of g.1)) (drop l.i-index l.given)) (frame l.moment l.arrays l.funs) l.run.state).after ≡ (all_given (map (λ g. (g.0, value_of g.1)) l.given) (frame l.moment l.arrays l.funs) l.fn.run.state).after;
+  gives : l.held ++ (all_given (map (λ g. (g.0, value_of g.1)) (drop l.i-index l.given)) (frame l.place) l.run.state).gives ≡ (all_given (map (λ g. (g.0, value_of g.1)) l.given) (frame l.place) l.fn.run.state).gives;
+  after : (all_given (map (λ g. (g.0, value_of g.1)) (drop l.i-index l.given)) (frame l.place) l.run.state).after ≡ (all_given (map (λ g. (g.0, value_of g.1)) l.given) (frame l.place) l.fn.run.state).after;
   start : l.run.start ≡ l.fn.run.start;
 }

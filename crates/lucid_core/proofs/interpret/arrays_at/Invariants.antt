@@ -3,4 +3,4 @@ use Rattle.lucid_core.specs.Acts.{array_of}
 use Rattle.lucid_core.proofs.interpret.arrays_at.Given as goal
 
 abbrev pub invariant-loop-name : goal.invariant-loop-name
-invariant-loop-name l = l.numbers ≡ map (array_of l.arrays) (take l.name-index l.names)
+invariant-loop-name l = l.numbers ≡ map (array_of l.place.arrays.now) (take l.name-index l.names)
