@@ -1,5 +1,5 @@
 // A whole file, up to a limit.
-ghost use Rattle.std.specs.Prelude.{◌≡◌, ◌⊎◌, ℕ, ◌+◌, ◌^◌, ◌<◌, ◌≤◌, length, IfSome, IfOk, OnOk};
+ghost use Rattle.std.specs.Prelude.{◌≡◌, ◌⊎◌, ◌+◌, ◌^◌, ◌<◌, ◌≤◌, length, IfSome, IfOk, OnOk};
 ghost use Rattle.lucid_io.specs.Counts.{Rose, NoneFell, SameCounts, OthersKept};
 ghost use Rattle.lucid_io.specs.Contents.{SameHeld};
 

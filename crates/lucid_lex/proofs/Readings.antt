@@ -115,10 +115,6 @@ tokens_from_push start (q ∷ ps) p =
     ap (with_token start (length q.bytes) q.kind) (later ∙ ap (λ n. tokens_from (start + length q.bytes) ps ++ with_token n (length p.bytes) p.kind []) place)
     ∙ with_token-append start (length q.bytes) q.kind (tokens_from (start + length q.bytes) ps) (with_token (start + (length q.bytes + pieces_length ps)) (length p.bytes) p.kind [])
 
--- before the first byte nothing is read
-pub reads_nothing : (text : List ℕ) → ReadsUpTo text [] text
-reads_nothing text = record { pieces = []; whole = refl; each_stands = tt; tokens = refl }
-
 -- a piece at the place that is reached is read next
 pub reads_next : (text : List ℕ) (ts : List Token) (at : ℕ) (f : Front) → at ≤ length text → ReadsUpTo text ts (drop at text) → Begins (drop at text) f → ReadsUpTo text (ts ++ with_token at f.len f.kind []) (drop (at + f.len) text)
 reads_next text ts at f within so_far next =

@@ -1,7 +1,7 @@
 // The piece that begins a text: one function for each way in which one may begin. Each gives what specs/Front.antt computes;
 // that this is the longest piece there is a law about those definitions.
-ghost use Rattle.std.specs.Prelude.{◌≡◌, ◌+◌, ◌*◌, ◌^◌, ◌<◌, ◌≤◌, ◌&&◌, ◌==◌, length, option_map, take, SomeIff, IfSome};
-ghost use Rattle.std.specs.Char.{is_digit, digit_value};
+ghost use Rattle.std.specs.Prelude.{◌≡◌, ◌+◌, ◌*◌, ◌^◌, ◌<◌, ◌≤◌, ◌&&◌, ◌==◌, length, option_map, SomeIff, IfSome};
+ghost use Rattle.std.specs.Char.{digit_value};
 ghost use Rattle.std.specs.List.{prefix_len};
 ghost use Rattle.lucid_lex.specs.Byte.{is_name_byte, is_quotable, is_within_line};
 ghost use Rattle.lucid_lex.specs.Front.{gap, token, kind_of_name, name_front, digits_len, after_prefix, numeral_front, number_front, quoted_front, end_of_block, comment_front, sign_front, front_of};

@@ -1,8 +1,7 @@
 // A text as its tokens. The loop cuts off one piece after another; what a reading is, specs/Reading.antt says of whole texts.
-ghost use Rattle.std.specs.Prelude.{◌≡◌, ◌≢◌, ℕ, ◌+◌, ◌^◌, ◌<◌, ◌++◌, ◌∷◌, [], List, IfOk, IfErr, OnOk, IsErrOf, MatchResult, All, slice_range};
+ghost use Rattle.std.specs.Prelude.{◌≡◌, ◌≢◌, ℕ, ◌+◌, ◌^◌, ◌<◌, ◌++◌, [], List, IfOk, IfErr, OnOk, IsErrOf, MatchResult};
 ghost use Rattle.lucid_lex.specs.declared.token.Token.{Token};
-ghost use Rattle.lucid_lex.specs.Piece.{IsQuoted};
-ghost use Rattle.lucid_lex.specs.Reading.{Reads, StopsAt, IsTokenOf, bytes_of, with_token};
+ghost use Rattle.lucid_lex.specs.Reading.{Reads, StopsAt, with_token};
 
 use crate::front;
 use crate::front::Front;

@@ -1,5 +1,5 @@
 // The reserved words. A word is added here, in WORDS and in specs/Word.antt, and nowhere else.
-ghost use Rattle.std.specs.Prelude.{◌≡◌, find, bytes_eq};
+ghost use Rattle.std.specs.Prelude.{◌≡◌, find};
 ghost use Rattle.lucid_lex.specs.Word.{word_text, word_in};
 
 /// A reserved word, which is never a name.

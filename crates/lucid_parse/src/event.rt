@@ -1,5 +1,4 @@
 // What a `generate` generates.
-ghost use Rattle.std.specs.Prelude.{◌≡◌};
 ghost use Rattle.lucid_parse.specs.Reader.{Reads};
 ghost use Rattle.lucid_parse.specs.ReadStatement as spec;
 

@@ -1,6 +1,6 @@
 // Expressions, by how tightly their signs bind. `depth` bounds how many expressions stand round one another; where it is the
 // number of the lexemes, it never runs out, and the limits on nesting, which are tried before, bound the recursion by far less.
-ghost use Rattle.std.specs.Prelude.{◌≡◌, IfOk, option_map};
+ghost use Rattle.std.specs.Prelude.{◌≡◌};
 ghost use Rattle.lucid_parse.specs.Reader.{Reads, Leaves, separated};
 ghost use Rattle.lucid_parse.specs.ReadExpression as spec;
 

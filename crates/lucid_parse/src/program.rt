@@ -1,5 +1,5 @@
 // Whole programs: one declaration after another.
-ghost use Rattle.std.specs.Prelude.{◌≡◌, ◌≢◌, ℕ, ◌+◌, ◌-◌, ◌<◌, ◌≤◌, [], List, length, drop, count_by, ◌==◌, All, Option, Some, None, IfOk, IfErr, OnOk, IsErrOf, MatchResult};
+ghost use Rattle.std.specs.Prelude.{◌≡◌, ◌≢◌, ℕ, ◌+◌, ◌-◌, ◌<◌, ◌≤◌, [], length, drop, count_by, ◌==◌, All, Some, None, IfOk, IfErr, OnOk, IsErrOf, MatchResult};
 ghost use Rattle.lucid_lex.specs.Reading.{Reads, IsTokenOf};
 ghost use Rattle.lucid_parse.specs.declared.tree.Tree.{Tree};
 ghost use Rattle.lucid_parse.specs.Lexemes.{lexemes_of};

@@ -167,9 +167,6 @@ module _ (d : Declared) (each : list_all event_fits d.events ≡ true) (fits : l
   stands : (k : ℕ) (h : Handler) → Fit d k h → list_all (action_fits (length (scope d h).arrays) d.events (length h.locals)) h.body ≡ true
   stands k h f = rw (arrays_of_scope d h) f.body
 
-  params_of : (k : ℕ) (h : Handler) (f : Fit d k h) → links.event_params d.events h.event ≡ f.event.params
-  params_of k h f = rw f.there refl
-
   handler_agrees : (k : ℕ) (h : Handler) → Fit d k h → links.is_handled_by d.events k h.event && starts_with nat_eq h.locals (links.event_params d.events h.event) ≡ true
   handler_agrees k h f =
       let whole : take (length f.event.params) h.locals ≡ h.locals = rw f.count (take-length h.locals) in

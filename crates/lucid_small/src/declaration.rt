@@ -1,5 +1,5 @@
 // Declarations.
-ghost use Rattle.std.specs.Prelude.{◌≡◌, map, Some};
+ghost use Rattle.std.specs.Prelude.{map, Some};
 ghost use Rattle.lucid_small.specs.Outcome.{Gives, Reads};
 ghost use Rattle.lucid_small.specs.Declaration.{width, array, event, handler, declaration};
 

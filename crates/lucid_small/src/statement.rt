@@ -1,5 +1,4 @@
 // Statements and lists between parentheses.
-ghost use Rattle.std.specs.Prelude.{◌≡◌};
 ghost use Rattle.lucid_small.specs.Outcome.{Gives, Reads};
 ghost use Rattle.lucid_small.specs.Statement.{arg_at, arg, args, param, params, set, generate, statement, body};
 

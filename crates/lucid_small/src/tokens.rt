@@ -1,5 +1,5 @@
 // What stands at the front of a list of tokens.
-ghost use Rattle.std.specs.Prelude.{◌≡◌, ◌<◌, ◌^◌, map, length, option_map, slice_range};
+ghost use Rattle.std.specs.Prelude.{◌≡◌, ◌<◌, map, option_map, slice_range};
 ghost use Rattle.lucid_lex.specs.Reading.{bytes_of};
 ghost use Rattle.lucid_small.specs.Outcome.{Gives, Reads};
 ghost use Rattle.lucid_small.specs.Tokens.{after, after_all, name, number, small};

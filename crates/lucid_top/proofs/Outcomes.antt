@@ -12,10 +12,6 @@ use Rattle.lucid_top.specs.Said.{PutsWhole, PutsCut}
 use Rattle.lucid_io.specs.declared.reading.Take.{Take}
 use Rattle.lucid_io.specs.declared.reading.Take.TheVariants as take
 
--- a text within the limit is answered
-once-of_text : (bytes name args : List ℕ) (o : Outcome) → length bytes ≤ PROGRAM_BYTES → TextAnswers bytes name args o → OnceAnswers bytes name args o
-once-of_text bytes name args o within answers = subst (λ (b : Bool). MatchBool b (o ≡ Err refusal.TooLong) (TextAnswers bytes name args o)) (sym (le-ltb PROGRAM_BYTES (length bytes) within)) answers
-
 text-of_once : (bytes name args : List ℕ) (o : Outcome) → length bytes ≤ PROGRAM_BYTES → OnceAnswers bytes name args o → TextAnswers bytes name args o
 text-of_once bytes name args o within answers = subst (λ (b : Bool). MatchBool b (o ≡ Err refusal.TooLong) (TextAnswers bytes name args o)) (le-ltb PROGRAM_BYTES (length bytes) within) answers
 
@@ -25,18 +21,6 @@ pub text-of_file : (held : Option (List ℕ)) (text name args : List ℕ) (o : O
 text-of_file None text name args o is within answers = absurd answers
 text-of_file (Some bytes) text name args o is within answers =
     text-of_once text name args o within (subst (λ (l : List ℕ). OnceAnswers l name args o) (sym is) answers)
-
-pub file-of_text : (held : Option (List ℕ)) (text name args : List ℕ) (o : Outcome) → IfSome held (λ bytes. text ≡ bytes) → length text ≤ PROGRAM_BYTES →
-    TextAnswers text name args o → IsSome held → OverFile held (λ bytes. OnceAnswers bytes name args o)
-file-of_text None text name args o is within answers told = absurd (cc)
-file-of_text (Some bytes) text name args o is within answers told =
-    subst (λ (l : List ℕ). OnceAnswers l name args o) is (once-of_text text name args o within answers)
-
--- a file past the limit is refused
-pub long-of_file : (held : Option (List ℕ)) (name args : List ℕ) (o : Outcome) → IfSome held (λ bytes. PROGRAM_BYTES < length bytes) →
-    OverFile held (λ bytes. OnceAnswers bytes name args o) → o ≡ Err refusal.TooLong
-long-of_file None name args o long answers = absurd answers
-long-of_file (Some bytes) name args o long answers = subst (λ (b : Bool). MatchBool b (o ≡ Err refusal.TooLong) (TextAnswers bytes name args o)) (lt-ltb PROGRAM_BYTES (length bytes) long) answers
 
 pub file-of_long : (held : Option (List ℕ)) (name args : List ℕ) → IfSome held (λ bytes. PROGRAM_BYTES < length bytes) → IsSome held →
     OverFile held (λ bytes. OnceAnswers bytes name args (Err refusal.TooLong))

@@ -1,5 +1,5 @@
 // The words of a call, read by place.
-ghost use Rattle.std.specs.Prelude.{◌≡◌, ℕ, List, Option, IfOk, map, option_map, string_bytes};
+ghost use Rattle.std.specs.Prelude.{◌≡◌, Option, IfOk, map, option_map, string_bytes};
 ghost use Rattle.lucid_top.specs.Words.{form_of, form_view, number_of, numbers_of};
 
 use itoa::Buffer;

@@ -1,10 +1,8 @@
 // The form `once P NAME ARG..`: one event, run whole from cells that are all 0, at tick 0 on switch 0.
-ghost use Rattle.std.specs.Prelude.{◌≡◌, ◌≢◌, ◌⊎◌, ◌+◌, ◌≤◌, length, IfSome, IfOk, IfErr, OnOk, All, IsTrue, IsSome};
+ghost use Rattle.std.specs.Prelude.{◌≡◌, ◌≢◌, ◌⊎◌, ◌+◌, ◌≤◌, length, IfOk, IfErr, OnOk, All, IsTrue, IsSome};
 ghost use Rattle.std.specs.Io.KnownBytes.{Keeps};
 ghost use Rattle.lucid_core.specs.Fits.{event_fits, out_fits};
-ghost use Rattle.lucid_io.specs.Counts.{Rose, NoneFell};
-ghost use Rattle.lucid_io.specs.Contents.{SameHeld};
-ghost use Rattle.lucid_log.specs.Puts.{PutsAll, PutsPart};
+ghost use Rattle.lucid_io.specs.Counts.{Rose};
 ghost use Rattle.lucid_top.specs.Answer.{OnceAnswers, OverFile};
 ghost use Rattle.lucid_top.specs.Once.{Outcome, TextAnswers, last_of, event_at as event_in, event_of, shown, ran, in_core};
 ghost use Rattle.lucid_small.specs.Spelled.{core_of};

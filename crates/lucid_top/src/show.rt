@@ -1,5 +1,5 @@
 // What `once` writes: the block of the event, and then the cells that aren't 0.
-ghost use Rattle.std.specs.Prelude.{◌≡◌, ◌+◌, ◌<◌, length, All, IsTrue, OnOk, OnErr, slice_get, Some};
+ghost use Rattle.std.specs.Prelude.{◌<◌, length, All, IsTrue, OnOk, OnErr};
 ghost use Rattle.lucid_core.specs.Fits.{event_fits, out_fits};
 ghost use Rattle.lucid_log.specs.Puts.{PutsAll, PutsPart};
 ghost use Rattle.lucid_top.specs.Cells.{line_of_cell, lines_from, cells_text};
