@@ -26,7 +26,8 @@ use Rattle.lucid_parse.specs.Spelling.{spelled, array_spelled, level_of, array_l
 use Rattle.lucid_parse.proofs.Equations.{spelled-Number, spelled-Truth, spelled-Me, spelled-Time, spelled-Hash, spelled-Name, spelled-Call, spelled-Array, spelled-Paren, spelled-Prefix, spelled-Cast, spelled-Shift, spelled-Infix, array_spelled-Get, array_spelled-Set, array_spelled-Getm, array_spelled-Setm, array_spelled-Update, level_of-Number, level_of-Truth, level_of-Me, level_of-Time, level_of-Hash, level_of-Name, level_of-Call, level_of-Array, level_of-Paren, level_of-Prefix, level_of-Cast, level_of-Shift, level_of-Infix, array_level-Get, array_level-Set, array_level-Getm, array_level-Setm, array_level-Update}
 use Rattle.lucid_parse.proofs.Steps.{both, of_both, width_again, width_if_again}
 use Rattle.lucid_parse.proofs.Repeats.{ItemsOf, separated_again}
-use Rattle.lucid_parse.proofs.Growth.{grows}
+use Rattle.lucid_parse.proofs.Growth.{grows, width_if_grow}
+use Rattle.lucid_parse.proofs.Levels.{next_level_lies}
 use Rattle.lucid_parse.proofs.Induction.{Cases, induction, array_induction}
 
 true_le : (n m : ℕ) → nat_le n m ≡ true → n ≤ m
@@ -123,30 +124,9 @@ left_above infixes.Minus l h = let above = true_le _ l h in omega arith
 left_above infixes.SatAdd l h = let above = true_le _ l h in omega arith
 left_above infixes.SatSub l h = let above = true_le _ l h in omega arith
 
-op_below_nine : (op : Infix) → nat_le (level op + 1) 9 ≡ true
-op_below_nine infixes.OrOr = refl
-op_below_nine infixes.AndAnd = refl
-op_below_nine infixes.EqualEqual = refl
-op_below_nine infixes.NotEqual = refl
-op_below_nine infixes.Less = refl
-op_below_nine infixes.Greater = refl
-op_below_nine infixes.LessEqual = refl
-op_below_nine infixes.GreaterEqual = refl
-op_below_nine infixes.Or = refl
-op_below_nine infixes.Caret = refl
-op_below_nine infixes.And = refl
-op_below_nine infixes.Plus = refl
-op_below_nine infixes.Minus = refl
-op_below_nine infixes.SatAdd = refl
-op_below_nine infixes.SatSub = refl
-
-next_below_nine : (p : Next) → nat_le (read_e.next_level p + 1) 9 ≡ true
-next_below_nine (nexts.Infix op) = op_below_nine op
-next_below_nine (nexts.Shift up n) = refl
-
 below_nine : (o : Option (Next × Text)) → below 9 o ≡ true
 below_nine None = refl
-below_nine (Some p) = next_below_nine p.0
+below_nine (Some p) = (next_level_lies p.0).1
 
 stops_nine : (r : Text) → not_open r ≡ true → stops 9 r ≡ true
 stops_nine r h = of_both _ _ h (below_nine (read_e.next_of r))
@@ -304,15 +284,11 @@ module _ (d : ℕ) (inner : ℕ → Parser E) (again : Again d inner) (begins : 
       let less : length (spelled x r) ≤ d = omega (arith, rw (spelled-Prefix op x r) at few) in
       (rw (spelled-Prefix op x r, prefix_operand op (spelled x r), again 9 x r needs (from_nine (level_of x) needs) (stops_nine r shut) less) refl, level_of-Prefix op x ∙ ap (λ b. level_if b 9) needs)
 
-  width_if_long : (w : Option ℕ) (r : Text) → length r ≤ length (spell.width_if w r)
-  width_if_long None r = omega arith
-  width_if_long (Some n) r = omega arith
-
   cast_again : (w : Option ℕ) (x : E) → OperandAgain d inner (e.Cast w x)
   unfolding read_e.operand read_e.in_parens
   cast_again w x r shut built few =
       let needs = level_needs (nat_le 9 (level_of x)) 9 (rw (level_of-Cast w x) at built) in
-      let wide = width_if_long w (spell.sign signs.CloseParen (spelled x r)) in
+      let wide = width_if_grow w (spell.sign signs.CloseParen (spelled x r)) in
       let less : length (spelled x r) ≤ d = omega (arith, rw (spelled-Cast w x r) at few) in
       (rw (spelled-Cast w x r, width_if_again w (spell.sign signs.CloseParen (spelled x r)) refl, again 9 x r needs (from_nine (level_of x) needs) (stops_nine r shut) less) refl, level_of-Cast w x ∙ ap (λ b. level_if b 9) needs)
 

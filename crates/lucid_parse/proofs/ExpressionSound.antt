@@ -12,7 +12,6 @@ use Rattle.lucid_parse.specs.declared.tree.A.{A}
 use Rattle.lucid_parse.specs.declared.tree.A.TheVariants as a
 use Rattle.lucid_parse.specs.declared.tree.Pre.{Pre}
 use Rattle.lucid_parse.specs.declared.tree.Pre.TheVariants as pres
-use Rattle.lucid_parse.specs.declared.tree.Infix.{Infix}
 use Rattle.lucid_parse.specs.declared.tree.Infix.TheVariants as infixes
 use Rattle.lucid_parse.specs.declared.operator.Next.{Next}
 use Rattle.lucid_parse.specs.declared.operator.Next.TheVariants as nexts
@@ -25,6 +24,7 @@ use Rattle.lucid_parse.specs.ReadExpression as read_e
 use Rattle.lucid_parse.specs.Spelling as spell
 use Rattle.lucid_parse.specs.Spelling.{spelled, array_spelled, level_of, array_level, level_if, all_bind, some_bind, is_built, all_built}
 use Rattle.lucid_parse.proofs.Equations.{spelled-Number, spelled-Truth, spelled-Me, spelled-Time, spelled-Hash, spelled-Name, spelled-Call, spelled-Array, spelled-Paren, spelled-Prefix, spelled-Cast, spelled-Shift, spelled-Infix, array_spelled-Get, array_spelled-Set, array_spelled-Getm, array_spelled-Setm, array_spelled-Update, level_of-Number, level_of-Truth, level_of-Me, level_of-Time, level_of-Hash, level_of-Name, level_of-Call, level_of-Array, level_of-Paren, level_of-Prefix, level_of-Cast, level_of-Shift, level_of-Infix, array_level-Get, array_level-Set, array_level-Getm, array_level-Setm, array_level-Update}
+use Rattle.lucid_parse.proofs.Levels.{level_lies, next_level_lies}
 use Rattle.lucid_parse.proofs.Steps.{Yields, yields_none, yields_some, bind, mapped, both, of_both, after_ok, after_name_ok, name_ok, width_ok, width_if_ok, same_bytes}
 use Rattle.lucid_parse.proofs.Repeats.{Separated, separated_ok}
 
@@ -79,44 +79,6 @@ within_ok least tight ts (Some p) h = within_if least tight ts p _ refl (h.each 
 next_within_ok : (least tight : ℕ) (ts : Text) → Yields (read_e.next_within least tight ts) (Within least tight ts)
 unfolding read_e.next_within
 next_within_ok least tight ts = within_ok least tight ts (read_e.next_of ts) (next_of_ok ts)
-
-pub level_one : (op : Infix) → nat_le 1 (level op) ≡ true
-level_one infixes.OrOr = refl
-level_one infixes.AndAnd = refl
-level_one infixes.EqualEqual = refl
-level_one infixes.NotEqual = refl
-level_one infixes.Less = refl
-level_one infixes.Greater = refl
-level_one infixes.LessEqual = refl
-level_one infixes.GreaterEqual = refl
-level_one infixes.Or = refl
-level_one infixes.Caret = refl
-level_one infixes.And = refl
-level_one infixes.Plus = refl
-level_one infixes.Minus = refl
-level_one infixes.SatAdd = refl
-level_one infixes.SatSub = refl
-
-pub level_nine : (op : Infix) → nat_le (level op + 1) 9 ≡ true
-level_nine infixes.OrOr = refl
-level_nine infixes.AndAnd = refl
-level_nine infixes.EqualEqual = refl
-level_nine infixes.NotEqual = refl
-level_nine infixes.Less = refl
-level_nine infixes.Greater = refl
-level_nine infixes.LessEqual = refl
-level_nine infixes.GreaterEqual = refl
-level_nine infixes.Or = refl
-level_nine infixes.Caret = refl
-level_nine infixes.And = refl
-level_nine infixes.Plus = refl
-level_nine infixes.Minus = refl
-level_nine infixes.SatAdd = refl
-level_nine infixes.SatSub = refl
-
-next_level_one : (p : Next) → nat_le 1 (read_e.next_level p) ≡ true
-next_level_one (nexts.Infix op) = level_one op
-next_level_one (nexts.Shift up n) = refl
 
 -- ---- calls of arrays
 
@@ -272,7 +234,7 @@ module _ (inner : ℕ → Parser E) (ok : (least : ℕ) (ts : Text) → nat_le l
   operand_ok (l ∷ ts) = yields_none _
 
   grown_ok : (left : E) (p : Next) (ts : Text) → nat_le (read_e.next_left p) (level_of left) ≡ true → Yields (read_e.grown inner left p ts) (λ x. (spelled left (next_text p ts) ≡ spelled x.0 x.1) × (level_of x.0 ≡ read_e.next_level p))
-  grown_ok left (nexts.Infix op) ts loose = bind _ _ _ _ (ok (level op + 1) ts (level_nine op)) (λ x hx. yields_some _ (e.Infix op left x.0, x.1)
+  grown_ok left (nexts.Infix op) ts loose = bind _ _ _ _ (ok (level op + 1) ts (level_lies op).1) (λ x hx. yields_some _ (e.Infix op left x.0, x.1)
       (ap (λ z. spelled left (spell.sign (infix_sign op) z)) hx.0 ∙ sym (spelled-Infix op left x.0 x.1), level_of-Infix op left x.0 ∙ ap (λ b. level_if b (level op)) (of_both _ _ loose hx.1)))
   grown_ok left (nexts.Shift up n) ts loose = yields_some _ (e.Shift left up n, ts) (sym (spelled-Shift left up n ts), level_of-Shift left up n ∙ ap (λ b. level_if b 7) loose)
 
@@ -285,7 +247,7 @@ module _ (inner : ℕ → Parser E) (ok : (least : ℕ) (ts : Text) → nat_le l
       let hp = h.each p refl in
       bind _ _ _ _ (grown_ok left p.0 p.1 (rw is hp.2)) (λ x hx. record {
         each = λ y given.
-            let hy = (rest (read_e.next_level p.0) x.0 x.1 hx.1 hp.1 (next_level_one p.0)).each y given in
+            let hy = (rest (read_e.next_level p.0) x.0 x.1 hx.1 hp.1 (next_level_lies p.0).0).each y given in
             (ap (spelled left) hp.0 ∙ hx.0 ∙ hy.0, hy.1, hy.2);
       })
 

@@ -28,7 +28,7 @@ list_grow (x ∷ xs) each r =
     let first = each.0 (spell.each_after_comma (map spelled xs) r) in
     let rest = more_grow xs each.1 r in omega arith
 
-width_if_grow : (w : Option ℕ) (r : Text) → length r ≤ length (spell.width_if w r)
+pub width_if_grow : (w : Option ℕ) (r : Text) → length r ≤ length (spell.width_if w r)
 width_if_grow None r = omega arith
 width_if_grow (Some n) r = omega arith
 

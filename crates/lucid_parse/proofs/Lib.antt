@@ -4,6 +4,7 @@ pub mod ExpressionComplete
 pub mod ExpressionSound
 pub mod Growth
 pub mod Induction
+pub mod Levels
 pub mod Programs
 pub mod Repeats
 pub mod StatementComplete

@@ -12,7 +12,7 @@ use Rattle.lucid_parse.specs.declared.tree.C.{C}
 use Rattle.lucid_parse.specs.declared.tree.No.{No}
 use Rattle.lucid_parse.specs.Spelling as spell
 use Rattle.lucid_parse.specs.Spelling.{Text, spelled, array_spelled, event_spelled, statement_spelled, choice_spelled, no_spelled}
-use Rattle.lucid_parse.proofs.Growth.{grows, array_grows, expressions_grow, more_expressions_grow}
+use Rattle.lucid_parse.proofs.Growth.{grows, array_grows, expressions_grow, more_expressions_grow, width_if_grow}
 use Rattle.lucid_parse.proofs.StatementEquations.{event_spelled-Paren, event_spelled-Call, event_spelled-Delay, event_spelled-Locate, statement_spelled-Declare, statement_spelled-Assign, statement_spelled-Call, statement_spelled-Array, statement_spelled-Cond, statement_spelled-Return, statement_spelled-Generate, statement_spelled-Printf, statement_spelled-Match, no_spelled-Absent, no_spelled-Block, no_spelled-Cond, choice_spelled-parts}
 use Rattle.lucid_parse.proofs.StatementInduction.{EventCases, event_induction, StatementCases, statement_induction, InCases, InLast}
 
@@ -57,10 +57,6 @@ cases_grow (c ∷ cs) each r =
 last_grow : (last : Option (List S)) → InLast Grows last → (r : Text) → length r ≤ length (spell.last_arm (option_map (map statement_spelled) last) r)
 last_grow None each r = omega arith
 last_grow (Some ss) each r = let more = block_grow ss each r in omega arith
-
-width_if_grow : (w : Option ℕ) (r : Text) → length r ≤ length (spell.width_if w r)
-width_if_grow None r = omega arith
-width_if_grow (Some n) r = omega arith
 
 pub ty_grows : (t : Ty) (r : Text) → length r < length (spell.ty t r)
 ty_grows (types.Int w) r = let more = width_if_grow w r in omega arith

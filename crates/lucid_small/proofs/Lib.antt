@@ -1,7 +1,6 @@
 pub mod Folds
 pub mod Holding
 pub mod Lines
-pub mod Numbers
 pub mod Rules
 pub mod Turns
 pub mod Valid
