@@ -1,3 +1,4 @@
+pub mod BitsLemmas
 pub mod Folds
 pub mod Laws
 pub mod Small

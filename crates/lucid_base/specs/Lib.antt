@@ -1,7 +1,10 @@
+pub mod Arrays
 pub mod Bits
 pub mod Bool
+pub mod Cells
 pub mod Hash
 pub mod Memop
 pub mod Ops
 pub mod Outs
+pub mod Saturating
 pub mod Small

@@ -1,5 +1,7 @@
 -- What a memop gives of the stored number and an argument, and whether its fixed numbers fit.
 use Rattle.std.specs.Prelude.{ℕ, ◌^◌, Bool, true, ◌&&◌, nat_lt, if◌then◌else◌, Option, None, Some}
+use Rattle.lucid_base.specs.Bits.{bits_of}
+use Rattle.lucid_base.specs.declared.bits.Bits.{Bits}
 use Rattle.lucid_base.specs.declared.ops.CmpOp.{CmpOp}
 use Rattle.lucid_base.specs.declared.memory_alu.MemArg.{MemArg}
 use Rattle.lucid_base.specs.declared.memory_alu.MemArg.TheVariants.{Stored, Arg, Fixed}
@@ -28,6 +30,13 @@ test_of (Some test) w stored arg = cmp_of test.0 (operand_of test.1 w stored arg
 abbrev pub apply_of : MemAlu → ℕ → ℕ → ℕ
 apply_of alu stored arg =
     side_of (if test_of alu.test alu.width stored arg then alu.yes else alu.no) alu.width stored arg
+
+-- what the memop gives of any stored number and argument, which count by their low bits: as a value, and as a plain number
+abbrev pub memop_value : MemAlu → ℕ → ℕ → Bits
+memop_value m stored arg = bits_of m.width (apply_of m (low_of m.width stored) (low_of m.width arg))
+
+abbrev pub memop_of : MemAlu → ℕ → ℕ → ℕ
+memop_of m stored arg = (memop_value m stored arg).value
 
 -- whether a fixed number fits the width
 abbrev pub operand_fits : ℕ → MemArg → Bool

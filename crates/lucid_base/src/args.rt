@@ -36,6 +36,18 @@ impl Args {
         }
     }
 
+    /// These numbers, of which there are at most 8.
+    pub fn from_slice(numbers: &[u64]) -> Args
+        requires { length numbers.now ≤ 8 }
+        ensures { result ≡ numbers.now }
+    {
+        let mut args = Args::new();
+        for number in numbers {
+            args.push(*number);
+        }
+        args
+    }
+
     /// Puts `v` at the end. There were fewer than 8.
     pub fn push(&mut self, v: u64)
         requires { length self.old < 8 }

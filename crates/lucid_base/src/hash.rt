@@ -1,15 +1,36 @@
-// The hash of an expression, by its definition in specs/Hash.
+// FNV-1a of 64 bits: the hash of an expression over its words, and its step for whoever hashes bytes as they come.
 ghost use Rattle.std.specs.Prelude.{◌≡◌};
 ghost use Rattle.std.specs.List.{fold};
 ghost use Rattle.std.specs.Int.{w64, to_le_bytes};
-ghost use Rattle.lucid_base.specs.Hash.{with_byte, hash_of};
+ghost use Rattle.lucid_base.specs.Hash.{offset_basis, with_byte, hash_of};
 
 use crate::{Bits, Width};
 
-// The two constants of FNV-1a at 64 bits: the hash of no bytes, and what each byte multiplies it by.
-const OFFSET_BASIS: u64 = 0xcbf2_9ce4_8422_2325;
-
+// What each byte multiplies the hash by.
 const PRIME: u64 = 0x0000_0100_0000_01b3;
+
+/// The hash of no bytes, with which a hash begins.
+pub fn hash_start() -> u64
+    ensures { result ≡ offset_basis }
+{
+    0xcbf2_9ce4_8422_2325
+}
+
+/// The hash once one more byte is read.
+pub fn hash_byte(hash: u64, byte: u8) -> u64
+    ensures { result ≡ with_byte hash byte }
+{
+    (hash ^ u64::from(byte)).wrapping_mul(PRIME)
+}
+
+/// The hash once the eight bytes of one more word are read, the lowest first.
+pub fn hash_word(hash: u64, word: u64) -> u64
+    ensures { result ≡ fold with_byte hash (to_le_bytes w64 word) }
+{
+    word.to_le_bytes()
+        .iter()
+        .fold(hash, |hash, byte| hash_byte(hash, *byte))
+}
 
 /// The low bits of FNV-1a 64 over the little-endian bytes of the words. The seed is the first word.
 pub fn hash_bits(to: Width, words: &[u64]) -> Bits
@@ -18,19 +39,9 @@ pub fn hash_bits(to: Width, words: &[u64]) -> Bits
 {
     let hash = words
         .iter()
-        .fold(OFFSET_BASIS, |hash, word| with_word(hash, *word));
+        .fold(hash_start(), |hash, word| hash_word(hash, *word));
     Bits {
         width: to,
         value: to.low(hash),
     }
-}
-
-/// The hash once the eight bytes of one more word are read.
-fn with_word(hash: u64, word: u64) -> u64
-    ensures { result ≡ fold with_byte hash (to_le_bytes w64 word) }
-{
-    word.to_le_bytes().iter().fold(
-        hash,
-        |hash, byte| (hash ^ u64::from(*byte)).wrapping_mul(PRIME),
-    )
 }

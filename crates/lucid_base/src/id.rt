@@ -1,18 +1,25 @@
-// Names of a program: arrays, events, functions and the texts of prints.
-ghost use Rattle.std.specs.Prelude.{◌≡◌, ◌<◌, IfOk};
+// Names of a program: arrays, events, functions and the texts of prints. They compare, and hash, as their texts do.
+ghost use Rattle.std.specs.Prelude.{◌≡◌, ◌<◌, Some, IfOk, refl};
 ghost use Rattle.std.specs.List.{All};
 ghost use Rattle.std.specs.Str.{bytes_eq};
+ghost use Rattle.std.specs.Hash as fed;
+ghost use Rattle.std.specs.Ordering.{nat_cmp};
 ghost use Rattle.std.specs.Cmp.{partial_equiv_from_equiv};
-ghost use Rattle.std.specs.Cmp.Lexicographic.{nat_list_eq_equiv};
+ghost use Rattle.std.specs.Cmp.Lexicographic.{slice_cmp, nat_list_eq_equiv, nat_list_cmp_total, texts_ties, texts_po};
+ghost use Rattle.std.specs.Cmp.Rules.{hashing};
+ghost use Rattle.std.proofs.Common.{rules};
 
 use crate::Memory;
+use smallvec::SmallVec;
 use std::alloc::Global;
+use std::cmp::Ordering;
+use std::hash::{Hash, Hasher};
 use std::marker::Model;
 
-/// An ASCII text, which contracts see as its bytes.
+/// An ASCII text, which contracts see as its bytes. Up to 23 bytes stand in the value itself and take no memory of their own.
 #[derive(Debug, Drop)]
 pub struct Id {
-    bytes: Vec<u8>,
+    bytes: SmallVec<u8, 23>,
 }
 
 impl Model for Id {
@@ -32,7 +39,7 @@ impl Id {
         requires { All (λ b. b < 128) bytes.now }
         ensures { IfOk result (λ id. id ≡ bytes.now) }
     {
-        let bytes = Vec::from_slice(alloc, bytes)?;
+        let bytes = SmallVec::from_slice(alloc, bytes)?;
         Ok(Id { bytes })
     }
 
@@ -44,7 +51,16 @@ impl Id {
         self.bytes.as_slice()
     }
 
-    /// The same name in memory of its own.
+    /// The name as a text.
+    pub fn as_str(&self) -> &str
+        ensures { result.now ≡ self.now }
+    {
+        let bytes = self.bytes.as_slice();
+        // SAFETY: each byte is ASCII, and so their text is UTF-8.
+        unsafe { std::str::from_utf8_unchecked(bytes) }
+    }
+
+    /// The same name, in memory of its own where it is longer than 23 bytes.
     pub fn copy(&self, alloc: Global) -> Result<Id, Memory>
         ensures { IfOk result (λ id. id ≡ self.now) }
     {
@@ -64,4 +80,38 @@ impl PartialEq for Id {
 
 impl Eq for Id {
     ghost laws = { nat_list_eq_equiv };
+}
+
+impl PartialOrd for Id {
+    ghost partial_cmp = { λ x y. Some (slice_cmp nat_cmp x y) };
+
+    ghost laws = { texts_po };
+
+    fn partial_cmp(&self, other: &Id) -> Option<Ordering> {
+        Some(self.cmp(other))
+    }
+}
+
+impl Ord for Id {
+    ghost cmp = { slice_cmp nat_cmp };
+
+    ghost total = { nat_list_cmp_total };
+
+    ghost matches_partial_cmp = { λ x y. refl };
+
+    ghost matches_eq = { texts_ties };
+
+    fn cmp(&self, other: &Id) -> Ordering {
+        self.as_str().cmp(other.as_str())
+    }
+}
+
+impl Hash for Id {
+    ghost hash_input = { fed.str };
+
+    ghost respects_eq = { Prim.search (hashing, rules) };
+
+    fn hash<H: Hasher>(&self, state: &mut H) {
+        self.as_str().hash(state);
+    }
 }

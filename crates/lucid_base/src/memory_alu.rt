@@ -1,6 +1,6 @@
 // A memop as plain values: what the memory of one stage can compute of a cell and an argument, by the table in specs/Memop.
 ghost use Rattle.std.specs.Prelude.{◌≡◌, ◌<◌, ◌^◌};
-ghost use Rattle.lucid_base.specs.Memop.{operand_of, side_of, apply_of};
+ghost use Rattle.lucid_base.specs.Memop.{operand_of, side_of, apply_of, memop_value};
 
 use crate::{BinOp, Bits, CmpOp, Width, apply_bin, compare};
 
@@ -47,6 +47,17 @@ impl MemAlu {
         };
         let side = if takes_yes { self.yes } else { self.no };
         side.bits(width, stored, arg).value
+    }
+
+    /// What the memop gives of any stored number and argument, which count by their low bits.
+    pub fn apply_low(&self, stored: u64, arg: u64) -> Bits
+        ensures { result ≡ memop_value self.now stored arg }
+    {
+        let width = self.width;
+        Bits {
+            width,
+            value: self.apply(width.low(stored), width.low(arg)),
+        }
     }
 }
 

@@ -43,6 +43,18 @@ impl Outs {
         }
     }
 
+    /// These outs, of which there are at most 8.
+    pub fn from_slice(sent: &[Out]) -> Outs
+        requires { length sent.now ≤ 8 }
+        ensures { result ≡ sent.now }
+    {
+        let mut outs = Outs::new();
+        for out in sent {
+            outs.push(*out);
+        }
+        outs
+    }
+
     /// Puts `v` at the end. There were fewer than 8.
     pub fn push(&mut self, v: Out)
         requires { length self.old < 8 }

@@ -22,6 +22,14 @@ impl<L: Ledger> Model for Steps<L> {
     ghost invariant = { λ s. 0 < s.share.parts };
 }
 
+/// What a counter is made of. Whoever counts nothing passes `uncounted()` with `Brand` for `L` to a function over `L: Ledger`,
+/// which makes a counter of it by `Steps::new`: `f::<Brand>(.., uncounted())`.
+pub fn uncounted() -> Blank
+    ensures { result.parts ≡ 1 }
+{
+    Blank::new(1)
+}
+
 impl<L: Ledger> Steps<L> {
     /// A counter at 0, from the blank ledger that `L` stands for.
     pub fn new(blank: Blank) -> Steps<L>

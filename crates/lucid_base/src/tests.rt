@@ -104,7 +104,16 @@ fn names_take_memory_and_compare(rt: HostRuntime) -> Result<(), Fail> {
     let copy = def.copy(rt.alloc())?;
     assert!(rt; copy.name == name);
     assert_eq!(rt; copy.name.bytes(), b"last".as_slice());
-    assert!(rt; name != Id::new(rt.alloc(), b"lost")?);
+    let later = Id::new(rt.alloc(), b"lost")?;
+    assert!(rt; name != later);
+    assert!(rt; name < later);
+    Ok(())
+}
+
+#[test]
+fn a_long_name_takes_memory_of_its_own(rt: HostRuntime) -> Result<(), Fail> {
+    let name = Id::new(rt.alloc(), b"a_name_of_twenty_four_by")?;
+    assert_eq!(rt; name.as_str(), "a_name_of_twenty_four_by");
     Ok(())
 }
 
@@ -121,5 +130,5 @@ fn tick_twice<L: Ledger>(blank: Blank)
 
 #[test]
 fn steps_are_counted_from_a_blank_ledger() {
-    tick_twice::<Brand>(Blank::new(1));
+    tick_twice::<Brand>(uncounted());
 }

@@ -1,5 +1,5 @@
 // Widths: how many bits a number has.
-ghost use Rattle.std.specs.Prelude.{◌≡◌, ◌-◌, ◌^◌, ◌≤◌, ◌↔◌, IfSome, IsSome};
+ghost use Rattle.std.specs.Prelude.{◌≡◌, ◌-◌, ◌^◌, ◌≤◌, ◌↔◌, nat_lt, IfSome, IsSome};
 ghost use Rattle.lucid_base.specs.Ops.{low_of};
 
 use std::marker::Model;
@@ -56,6 +56,13 @@ impl Width {
         ensures most { result ≤ 64 }
     {
         self.bits
+    }
+
+    /// Whether `value` fits in this many bits.
+    pub fn fits(self, value: u64) -> bool
+        ensures { result ≡ nat_lt value (2 ^ self) }
+    {
+        value <= self.most()
     }
 
     /// The greatest number of this width, which has every bit set.

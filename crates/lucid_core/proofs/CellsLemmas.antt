@@ -4,7 +4,7 @@ use Rattle.std.specs.Prelude.{slice_set, slice_index}
 use Rattle.std.proofs.lemmas.List.{get_or-set_same, set-get_or, set_past, length-set, set-set}
 use Rattle.std.proofs.lemmas.Bool.{cases_lt}
 use Rattle.lucid_core.specs.declared.run.Write.{Write}
-use Rattle.lucid_core.specs.Cells.{row_of, place_of, cell_at, with_cell}
+use Rattle.lucid_base.specs.Cells.{row_of, place_of, cell_at, with_cell}
 use Rattle.lucid_core.specs.Running.{rewound}
 
 -- A row once its place holds again what it held.

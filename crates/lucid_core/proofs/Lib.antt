@@ -1,4 +1,3 @@
-pub mod BitsLemmas
 pub mod BodiesFit
 pub mod CellsLemmas
 pub mod ExampleProofs

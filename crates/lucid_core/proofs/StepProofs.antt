@@ -13,7 +13,7 @@ use Rattle.lucid_core.specs.declared.body.Expr.TheFolds.{fold-roll-Expr, fold-ro
 use Rattle.lucid_core.specs.Acts.{Act, Effect, Frame, Fun, State, block, called, begun_with}
 use Rattle.lucid_core.specs.ExamplePrograms.{local, say, return, plus, update, bumps, bump_put_in}
 use Rattle.lucid_core.proofs.Folds.{folds}
-use Rattle.lucid_core.specs.Cells.{zero_cells}
+use Rattle.lucid_base.specs.Cells.{zero_cells}
 use Rattle.lucid_core.specs.Meaning.{effect_of, value_of, touch_of, expr_step, stmt_step, touch_step}
 use Rattle.lucid_core.specs.StepExamples.{StepExamples, look, say_bump, say_unless_small, say_hash, counting, group, start, two_events, worked}
 use Rattle.lucid_core.specs.Step.{Entry, Stepped, Steps, started, taken_at}

@@ -5,7 +5,7 @@ use Rattle.lucid_base.specs.declared.array.ArrayName.{ArrayName}
 use Rattle.lucid_base.specs.declared.array.ArrayName.TheVariants.{Global, Param}
 use Rattle.lucid_base.specs.declared.bits.Bits.{Bits}
 use Rattle.lucid_base.specs.declared.event.Out.{Out}
-use Rattle.lucid_core.specs.Cells.{cell_at, with_cell}
+use Rattle.lucid_base.specs.Cells.{cell_at, with_cell}
 use Rattle.lucid_core.specs.Values.{nothing}
 
 -- The cells by array, the outs so far, the locals of the running body, and what it answers.

@@ -1,6 +1,5 @@
 pub mod Acts
 pub mod Assigned
-pub mod Cells
 pub mod Children
 pub mod Events
 pub mod ExamplePrograms

@@ -7,7 +7,7 @@ use Rattle.lucid_base.specs.declared.event.Event.{Event}
 use Rattle.lucid_base.specs.declared.event.Out.{Out}
 use Rattle.lucid_core.specs.declared.defs.HandlerDef.{HandlerDef}
 use Rattle.lucid_core.specs.Acts.{State, Ran, block, begun_with}
-use Rattle.lucid_core.specs.Cells.{zero_cells}
+use Rattle.lucid_base.specs.Cells.{zero_cells}
 use Rattle.lucid_core.specs.Meaning.{effect_of, funs_of}
 use Rattle.lucid_core.specs.Parts.{Parts}
 use Rattle.lucid_core.specs.Values.{nothing}

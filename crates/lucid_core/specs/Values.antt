@@ -4,7 +4,7 @@ use Rattle.std.specs.Prelude.{ℕ, List, map}
 use Rattle.lucid_base.specs.Bits.{bits_of}
 use Rattle.lucid_base.specs.Bool.{bit_of}
 use Rattle.lucid_base.specs.Hash.{hash_of}
-use Rattle.lucid_base.specs.Memop.{apply_of}
+use Rattle.lucid_base.specs.Memop.{memop_value}
 use Rattle.lucid_base.specs.Ops.{un_of, bin_of, cmp_of, low_of}
 use Rattle.lucid_base.specs.declared.bits.Bits.{Bits}
 use Rattle.lucid_base.specs.declared.memory_alu.MemAlu.{MemAlu}
@@ -34,4 +34,4 @@ hashed w vs = bits_of w (hash_of w (numbers vs))
 
 -- What a memop gives of a stored number and an argument.
 abbrev pub memop : MemAlu → ℕ → Bits → Bits
-memop m stored arg = bits_of m.width (apply_of m (low_of m.width stored) (low_of m.width arg.value))
+memop m stored arg = memop_value m stored arg.value

@@ -1,6 +1,6 @@
 // The cells of a program's arrays.
 ghost use Rattle.std.specs.Prelude.{◌≡◌, [], IfOk, slice_index, slice_set};
-ghost use Rattle.lucid_core.specs.Cells.{zero_cells, cell_at, with_cell, place_of};
+ghost use Rattle.lucid_base.specs.Cells.{zero_cells, cell_at, with_cell, place_of};
 
 use crate::Core;
 use lucid_base::{Items, Memory};

@@ -1,7 +1,7 @@
 // The state of a body that runs, and the way back to the cells that it began with.
 // Only this file writes cells during a run: it notes what a cell held before it writes, so that want of memory can be undone.
 ghost use Rattle.std.specs.Prelude.{◌≡◌, ◌≤◌, ◌++◌, [], ◌∷◌, All, IfOk, OnOk, OnErr, length, slice_index_or, slice_set};
-ghost use Rattle.lucid_core.specs.Cells.{cell_at, with_cell};
+ghost use Rattle.lucid_base.specs.Cells.{cell_at, with_cell};
 ghost use Rattle.lucid_core.specs.Fits.{carried};
 ghost use Rattle.lucid_core.specs.Running.{Running, out_of, rewound, with_state};
 ghost use Rattle.lucid_core.specs.Values.{memop as memop_of, nothing as no_value};

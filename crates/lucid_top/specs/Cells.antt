@@ -1,7 +1,7 @@
 -- The lines of the cells that aren't 0, by array and cell, as of switch 0.
 use Rattle.std.specs.Prelude.{ℕ, zero, suc, ◌+◌, List, [], ◌∷◌, ◌++◌, if◌then◌else◌, nat_eq}
 use Rattle.lucid_base.specs.declared.array.ArrayDef.{ArrayDef}
-use Rattle.lucid_core.specs.Cells.{cell_at}
+use Rattle.lucid_base.specs.Cells.{cell_at}
 use Rattle.lucid_core.specs.Parts.{Parts}
 use Rattle.lucid_log.specs.Cell.{cell_text}
 

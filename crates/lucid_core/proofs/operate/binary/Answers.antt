@@ -1,6 +1,6 @@
 use Rattle.std.proofs.Common.{◌∙◌, ap}
 use Rattle.lucid_base.specs.Ops.{bin_of}
-use Rattle.lucid_core.proofs.BitsLemmas.{is_bits_of}
+use Rattle.lucid_base.proofs.BitsLemmas.{is_bits_of}
 use Rattle.lucid_core.proofs.operate.binary.Goals as goal
 
 pub returns : goal.returns

@@ -2,7 +2,7 @@ use Rattle.std.proofs.Common.{◌∙◌, refl, ap}
 use Rattle.lucid_base.specs.Memop.{apply_of}
 use Rattle.lucid_base.specs.Ops.{low_of}
 use Rattle.lucid_base.specs.declared.bits.Bits.{Bits}
-use Rattle.lucid_core.proofs.BitsLemmas.{is_bits_of}
+use Rattle.lucid_base.proofs.BitsLemmas.{is_bits_of}
 use Rattle.lucid_core.proofs.operate.memop.Goals as goal
 
 pub returns : goal.returns

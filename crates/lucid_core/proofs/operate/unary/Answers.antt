@@ -1,4 +1,4 @@
-use Rattle.lucid_core.proofs.BitsLemmas.{is_bits_of}
+use Rattle.lucid_base.proofs.BitsLemmas.{is_bits_of}
 use Rattle.lucid_core.proofs.operate.unary.Goals as goal
 
 pub returns : goal.returns
