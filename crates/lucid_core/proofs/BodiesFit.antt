@@ -17,6 +17,7 @@ use Rattle.lucid_core.specs.declared.defs.FunDef.{FunDef}
 use Rattle.lucid_core.specs.declared.defs.HandlerDef.{HandlerDef}
 use Rattle.lucid_core.specs.Acts.{Act, Effect, Frame, Fun, State, begun_with}
 use Rattle.lucid_core.specs.Fits.{carried, out_fits}
+use Rattle.lucid_core.specs.Limits.{body_keeps_limits}
 use Rattle.lucid_core.specs.Meaning as m
 use Rattle.lucid_core.specs.Meaning.{value_of, effect_of, touch_of, fun_of}
 use Rattle.lucid_core.specs.OutCount.{body_outs, funs_outs}
@@ -26,7 +27,7 @@ use Rattle.lucid_core.specs.Returns.{Returns, expr_returns, stmt_returns, touch_
 use Rattle.lucid_core.specs.Scope.{Scope, fun_scope, handler_scope, funs_pass}
 use Rattle.lucid_core.specs.Step.{handled, started, step, taken_at}
 use Rattle.lucid_core.specs.Texts as x
-use Rattle.lucid_core.specs.Texts.{Printed, stmt_texts, body_fills_texts}
+use Rattle.lucid_core.specs.Texts.{Printed, body_fills_texts}
 use Rattle.lucid_core.specs.Typing as t
 use Rattle.lucid_core.specs.Typing.{Answer, Typed, answer_of, returns_of, touch_answer, body_gives_only}
 use Rattle.lucid_core.specs.Valid.{IsSound}
@@ -34,8 +35,9 @@ use Rattle.lucid_core.specs.Values.{nothing}
 use Rattle.lucid_core.proofs.Fine.{IsFine, FunFits, Stands, answer_given, goes_out, once}
 use Rattle.lucid_core.proofs.Funs.{funs_from}
 use Rattle.lucid_core.proofs.Pairwise.{Pairwise, one_more}
+use Rattle.lucid_core.proofs.Prints.{body_prints, prints_step, expr_prints, stmt_prints, touch_prints}
 use Rattle.lucid_core.proofs.SentCount.{handler_keeps}
-use Rattle.lucid_core.proofs.SentFit.{BodyFits, E, S, T, ExprFits, StmtFits, expr_texts, touch_texts, expr_tree, touch_tree, stmt_tree, stmts, block_fits, expr_level, touch_level, stmt_level}
+use Rattle.lucid_core.proofs.SentFit.{BodyFits, E, S, T, ExprFits, StmtFits, expr_tree, touch_tree, stmt_tree, stmts, block_fits, expr_level, touch_level, stmt_level}
 use Rattle.lucid_core.proofs.TypingRules.{body_rule}
 use Rattle.lucid_core.proofs.WidthLists.{passes_at, widths-begun, widths-taken}
 
@@ -46,19 +48,19 @@ opened P {a} {x} {b} {y} {c} {z} {d} {w} e f g h is =
 
 module _ (core : Parts) (s : Scope) (p : Frame) (stands : Stands core s p) where
   abbrev ExprHolds : Expr → Type 0
-  ExprHolds e = ExprFits core s p stands (value_of e) (answer_of e) (expr_texts e) (expr_returns e)
+  ExprHolds e = ExprFits core s p stands (value_of e) (answer_of e) (expr_prints e) (expr_returns e)
 
   abbrev StmtHolds : Stmt → Type 0
-  StmtHolds e = StmtFits core s p stands (effect_of e) (returns_of e) (stmt_texts e) (stmt_returns e)
+  StmtHolds e = StmtFits core s p stands (effect_of e) (returns_of e) (stmt_prints e) (stmt_returns e)
 
   abbrev TouchHolds : Touch → Type 0
-  TouchHolds e = ExprFits core s p stands (touch_of e) (touch_answer e) (touch_texts e) (touch_returns e)
+  TouchHolds e = ExprFits core s p stands (touch_of e) (touch_answer e) (touch_prints e) (touch_returns e)
 
   of_expr : (y : Expr-F (E core s p stands) (S core s p stands) (T core s p stands)) → ExprHolds (roll-Expr (expr_tree core s p stands y))
   of_expr y = let tree = expr_tree core s p stands y in opened (ExprFits core s p stands)
       (fold-roll-Expr (Act Bits) Effect (Act Bits) m.expr_step m.stmt_step m.touch_step tree)
       (fold-roll-Expr (Typed Answer) (Typed (List Answer)) (Typed Answer) t.expr_step t.stmt_step t.touch_step tree)
-      (fold-roll-Expr Printed Printed Printed x.expr_step x.stmt_step x.touch_step tree)
+      (fold-roll-Expr Printed Printed Printed x.expr_step prints_step x.touch_step tree)
       (fold-roll-Expr Returns Returns Returns r.expr_step r.stmt_step r.touch_step tree)
       (expr_level core s p stands y)
 
@@ -66,7 +68,7 @@ module _ (core : Parts) (s : Scope) (p : Frame) (stands : Stands core s p) where
   of_touch y = let tree = touch_tree core s p stands y in opened (ExprFits core s p stands)
       (fold-roll-Touch (Act Bits) Effect (Act Bits) m.expr_step m.stmt_step m.touch_step tree)
       (fold-roll-Touch (Typed Answer) (Typed (List Answer)) (Typed Answer) t.expr_step t.stmt_step t.touch_step tree)
-      (fold-roll-Touch Printed Printed Printed x.expr_step x.stmt_step x.touch_step tree)
+      (fold-roll-Touch Printed Printed Printed x.expr_step prints_step x.touch_step tree)
       (fold-roll-Touch Returns Returns Returns r.expr_step r.stmt_step r.touch_step tree)
       (touch_level core s p stands y)
 
@@ -74,7 +76,7 @@ module _ (core : Parts) (s : Scope) (p : Frame) (stands : Stands core s p) where
   of_stmt y = let tree = stmt_tree core s p stands y in opened (StmtFits core s p stands)
       (fold-roll-Stmt (Act Bits) Effect (Act Bits) m.expr_step m.stmt_step m.touch_step tree)
       (fold-roll-Stmt (Typed Answer) (Typed (List Answer)) (Typed Answer) t.expr_step t.stmt_step t.touch_step tree)
-      (fold-roll-Stmt Printed Printed Printed x.expr_step x.stmt_step x.touch_step tree)
+      (fold-roll-Stmt Printed Printed Printed x.expr_step prints_step x.touch_step tree)
       (fold-roll-Stmt Returns Returns Returns r.expr_step r.stmt_step r.touch_step tree)
       (stmt_level core s p stands y)
 
@@ -105,6 +107,7 @@ EventsAreSmall parts = list_all (λ e. nat_le (length e.params) 8) parts.events 
 record IsSoundFun (parts : Parts) (before : List FunDef) (f : FunDef) : Type 0 where
   widths : body_gives_only f.answer f.body (fun_scope parts before f) ≡ true
   texts : body_fills_texts f.body parts.forms ≡ true
+  limits : body_keeps_limits f.body ≡ true
   returns : ((body_returns f.body).last && (not (is_some f.answer) || (body_returns f.body).always)) ≡ true
 
 -- A sound function gives a value of its answer's width.
@@ -116,7 +119,7 @@ fun_fits parts few now me before known f pairs sound arrays vs width ws a s fine
     let own : State = record s { locals = begun_with vs f.locals; answer = nothing } in
     let begun : IsFine parts f.locals (once false f.answer) own = record { locals = widths-begun vs f.params f.locals width; answer = tt; outs = fine.outs } in
     let ends = and_parts _ _ sound.returns in
-    let done = body_fits parts (fun_scope parts before f) place (record { events = refl; few = few; funs = pairs }) f.body sound.texts ends.0 rule.0 rule.1 f.answer rule.2 false own begun in
+    let done = body_fits parts (fun_scope parts before f) place (record { events = refl; few = few; funs = pairs }) f.body (body_prints parts.forms f.body sound.texts sound.limits) ends.0 rule.0 rule.1 f.answer rule.2 false own begun in
     record {
       gives = answer_given parts f.locals f.answer (is_some f.answer) (body_returns f.body).always _ (λ w e. ap is_some e) ends.1 done;
       fine = record { locals = fine.locals; answer = fine.answer; outs = done.outs };
@@ -126,16 +129,18 @@ fun_fits parts few now me before known f pairs sound arrays vs width ws a s fine
 funs_fit : (parts : Parts) → EventsAreSmall parts → (now me : ℕ) (before : List FunDef) (known : List Fun) (fs : List FunDef) → Pairwise (FunFits parts) before known →
     funs_pass (λ earlier f. body_gives_only f.answer f.body (fun_scope parts earlier f)) before fs ≡ true →
     list_all (λ f. body_fills_texts f.body parts.forms) fs ≡ true →
+    list_all (λ f. body_keeps_limits f.body) fs ≡ true →
     list_all (λ f. (body_returns f.body).last && (not (is_some f.answer) || (body_returns f.body).always)) fs ≡ true →
     Pairwise (FunFits parts) (before ++ fs) (funs_from now me known fs)
-funs_fit parts few now me before known [] pairs widths texts returns = subst (λ (q : List FunDef). Pairwise (FunFits parts) q known) (sym (append-nil before)) pairs
-funs_fit parts few now me before known (f ∷ fs) pairs widths texts returns =
+funs_fit parts few now me before known [] pairs widths texts limits returns = subst (λ (q : List FunDef). Pairwise (FunFits parts) q known) (sym (append-nil before)) pairs
+funs_fit parts few now me before known (f ∷ fs) pairs widths texts limits returns =
     let width = and_parts _ _ widths in
     let text = and_parts _ _ texts in
+    let limit = and_parts _ _ limits in
     let return = and_parts _ _ returns in
-    let one = fun_fits parts few now me before known f pairs (record { widths = width.0; texts = text.0; returns = return.0 }) in
+    let one = fun_fits parts few now me before known f pairs (record { widths = width.0; texts = text.0; limits = limit.0; returns = return.0 }) in
     let more = one_more (FunFits parts) before known f (fun_of now me known f) pairs one in
-    let all = funs_fit parts few now me (before ++ f ∷ []) (known ++ fun_of now me known f ∷ []) fs more width.1 text.1 return.1 in
+    let all = funs_fit parts few now me (before ++ f ∷ []) (known ++ fun_of now me known f ∷ []) fs more width.1 text.1 limit.1 return.1 in
     subst (λ (q : List FunDef). Pairwise (FunFits parts) q (funs_from now me (known ++ fun_of now me known f ∷ []) fs)) (append_assoc before (f ∷ []) fs) all
 
 -- What is sent out fits and carries few numbers, and is at most 8 outs.
@@ -160,13 +165,14 @@ module _ (parts : Parts) (sound : IsSound parts) (cells : List (List ℕ)) (now 
   handler_fits k h is =
       let widths = and_parts _ _ sound.widths in
       let texts = and_parts _ _ sound.texts in
+      let limits = and_parts _ _ sound.bodies in
       let returns = and_parts _ _ sound.returns in
       let few : EventsAreSmall parts = (and_parts _ _ (and_parts _ _ sound.declarations).0).1 in
-      let pairs = funs_fit parts few now me [] [] parts.funs tt widths.0 texts.0 returns.0 in
+      let pairs = funs_fit parts few now me [] [] parts.funs tt widths.0 texts.0 limits.0 returns.0 in
       let place : Frame = record { now = now; me = me; arrays = []; funs = funs_from now me [] parts.funs } in
       let rule = body_rule (handler_scope parts h) None (map returns_of h.body) (passes_at _ parts.handlers k h widths.1 is) in
       let begun = started_fine h in
-      let text = passes_at _ parts.handlers k h texts.1 is in
+      let text = body_prints parts.forms h.body (passes_at _ parts.handlers k h texts.1 is) (passes_at _ parts.handlers k h limits.1 is) in
       let return = passes_at _ parts.handlers k h returns.1 is in
       let done = body_fits parts (handler_scope parts h) place (record { events = refl; few = few; funs = pairs }) h.body text return rule.0 rule.1 None rule.2 false (started cells (begun_with (taken_at h.locals args) h.locals)) begun in
       (done.outs, sent_few k h is)

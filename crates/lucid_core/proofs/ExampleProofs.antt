@@ -19,8 +19,9 @@ small_is_valid = record {
     declarations = refl;
     bodies = simp folds refl;
     texts = simp folds refl;
+    numbered = refl;
   };
-  forms = simp folds refl;
+  syntax = simp folds refl;
 }
 
 pub worked_is_valid : IsValid worked
@@ -37,14 +38,15 @@ worked_is_valid = record {
     declarations = refl;
     bodies = simp folds refl;
     texts = simp folds refl;
+    numbered = refl;
   };
-  forms = simp folds refl;
+  syntax = simp folds refl;
 }
 
-put_in_uses : body_uses (drop_value bump_put_in ∷ []) ≡ record { reads = 0 ∷ 2 ∷ []; assigns = 2 ∷ []; inlined = record { assigns = 2 ∷ []; reads = 2 ∷ []; names = 0 ∷ 2 ∷ 2 ∷ [] } ∷ [] }
+put_in_uses : body_uses (drop_value bump_put_in ∷ []) ≡ record { reads = 0 ∷ 2 ∷ []; assigns = 2 ∷ []; inlined = record { assigns = 2 ∷ []; reads = 2 ∷ []; names = 2 ∷ 2 ∷ [] } ∷ [] }
 put_in_uses = simp folds refl
 
-outside_uses : body_uses named_outside ≡ record { reads = 0 ∷ 2 ∷ 2 ∷ []; assigns = 2 ∷ []; inlined = record { assigns = 2 ∷ []; reads = 2 ∷ []; names = 0 ∷ 2 ∷ 2 ∷ [] } ∷ [] }
+outside_uses : body_uses named_outside ≡ record { reads = 0 ∷ 2 ∷ 2 ∷ []; assigns = 2 ∷ []; inlined = record { assigns = 2 ∷ []; reads = 2 ∷ []; names = 2 ∷ 2 ∷ [] } ∷ [] }
 outside_uses = simp folds refl
 
 another_uses : body_uses reads_another ≡ record { reads = 0 ∷ []; assigns = 2 ∷ []; inlined = record { assigns = 2 ∷ []; reads = 0 ∷ []; names = 0 ∷ 2 ∷ [] } ∷ [] }
@@ -63,10 +65,11 @@ flat_is_valid = record {
     declarations = refl;
     bodies = simp folds refl;
     texts = simp folds refl;
+    numbered = refl;
   };
-  forms = simp folds refl;
+  syntax = simp folds refl;
   no_functions = refl;
-  inlined = ap (λ u. all_keep_to_themselves u && true) put_in_uses;
+  inlined = ap (λ u. all_keep_to_themselves 2 u && true) put_in_uses;
 }
 
 pub rules_refuse : RulesRefuse
@@ -100,8 +103,8 @@ rules_refuse = record {
   no_such_switch = simp folds refl;
   inlined_in_core = simp folds refl;
   call_in_flat = simp folds refl;
-  named_outside = ap (λ u. all_keep_to_themselves u && true) outside_uses;
-  reads_another = ap (λ u. all_keep_to_themselves u && true) another_uses;
+  named_outside = ap (λ u. all_keep_to_themselves 2 u && true) outside_uses;
+  reads_another = ap (λ u. all_keep_to_themselves 2 u && true) another_uses;
   sometimes_a_value = simp folds refl;
   no_value = simp folds refl;
 }

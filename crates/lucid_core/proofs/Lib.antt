@@ -6,6 +6,7 @@ pub mod Folds
 pub mod Funs
 pub mod MeaningLemmas
 pub mod Pairwise
+pub mod Prints
 pub mod SentCount
 pub mod SentFit
 pub mod StepProofs

@@ -11,7 +11,7 @@ use Rattle.lucid_core.specs.declared.body.Expr.{Expr}
 use Rattle.lucid_core.specs.declared.body.Stmt.{Stmt}
 use Rattle.lucid_core.specs.declared.body.Touch.{Touch}
 use Rattle.lucid_core.specs.declared.body.Expr.TheOpen.{Expr-F, Stmt-F, Touch-F}
-use Rattle.lucid_core.specs.declared.body.Expr.TheFolds.{fold-Expr, fold-Touch, map-Expr, map-Stmt, map-Touch}
+use Rattle.lucid_core.specs.declared.body.Expr.TheFolds.{map-Expr, map-Stmt, map-Touch}
 use Rattle.lucid_core.specs.Acts.{Act, Effect, Frame, State, all, array_of, block, both}
 use Rattle.lucid_core.specs.Meaning as m
 use Rattle.lucid_core.specs.Meaning.{all_given, call, delay_of, effect_of, generated, holding, target_of, touch_of, value_of}
@@ -20,19 +20,14 @@ use Rattle.lucid_core.specs.Returns as r
 use Rattle.lucid_core.specs.Returns.{Returns, expr_returns, stmt_returns, touch_returns}
 use Rattle.lucid_core.specs.Scope.{Scope}
 use Rattle.lucid_core.specs.Texts as x
-use Rattle.lucid_core.specs.Texts.{Printed, stmt_texts}
+use Rattle.lucid_core.specs.Texts.{Printed}
 use Rattle.lucid_core.specs.Typing as t
 use Rattle.lucid_core.specs.Typing.{Answer, Typed, answer_of, returns_of, touch_answer, joined}
 use Rattle.lucid_core.specs.Values.{nothing, numbers, unary, binary, comparison, hashed, memop}
 use Rattle.lucid_core.proofs.Fine.{IsFine, IsSeen, answer_given, both_pass, both_pass_of, either_seen, is_none, is_this, none_given, none_seen, touched_has, Goes, Stands, StaysFine, has, has_once, has_none, once, Has, call_fits, still, or_later, on_the_first, on_the_second, both_stay, sent_too, generated_fits, group_fits, say_is_fit}
+use Rattle.lucid_core.proofs.Prints.{prints_step, expr_prints, stmt_prints, touch_prints}
 use Rattle.lucid_core.proofs.TypingRules.{AllGive, Matched, give_parts, local_rule, un_rule, bin_rule, cmp_rule, cast_rule, hash_rule, all_rule, values_rule, call_rule, inlined_rule, touch_rule, assign_rule, drop_rule, if_rule, gen_rule, multi_rule, say_rule, return_rule}
 use Rattle.lucid_core.proofs.WidthLists.{widths, HeldFit, local_width_is, widths-set, widths-holding}
-
-abbrev pub expr_texts : Expr → Printed
-expr_texts = fold-Expr Printed Printed Printed x.expr_step x.stmt_step x.touch_step
-
-abbrev pub touch_texts : Touch → Printed
-touch_texts = fold-Touch Printed Printed Printed x.expr_step x.stmt_step x.touch_step
 
 module _ (core : Parts) (s : Scope) (p : Frame) (stands : Stands core s p) where
   abbrev pub Fine : Answer → State → Type 0
@@ -51,13 +46,13 @@ module _ (core : Parts) (s : Scope) (p : Frame) (stands : Stands core s p) where
 
   -- A part of which it holds.
   abbrev pub E : Type 0
-  E = (e : Expr) × ExprFits (value_of e) (answer_of e) (expr_texts e) (expr_returns e)
+  E = (e : Expr) × ExprFits (value_of e) (answer_of e) (expr_prints e) (expr_returns e)
 
   abbrev pub S : Type 0
-  S = (e : Stmt) × StmtFits (effect_of e) (returns_of e) (stmt_texts e) (stmt_returns e)
+  S = (e : Stmt) × StmtFits (effect_of e) (returns_of e) (stmt_prints e) (stmt_returns e)
 
   abbrev pub T : Type 0
-  T = (e : Touch) × ExprFits (touch_of e) (touch_answer e) (touch_texts e) (touch_returns e)
+  T = (e : Touch) × ExprFits (touch_of e) (touch_answer e) (touch_prints e) (touch_returns e)
 
   -- The trees of a list.
   abbrev exprs : List E → List Expr
@@ -73,7 +68,7 @@ module _ (core : Parts) (s : Scope) (p : Frame) (stands : Stands core s p) where
   all_last rs = list_all (λ one. one.last) rs
 
   -- Expressions from left to right give values of their widths.
-  values_fit : (es : List E) → all_texts (map expr_texts (exprs es)) ≡ true → all_last (map expr_returns (exprs es)) ≡ true →
+  values_fit : (es : List E) → all_texts (map expr_prints (exprs es)) ≡ true → all_last (map expr_returns (exprs es)) ≡ true →
       (ws : List ℕ) → t.values (map answer_of (exprs es)) s ≡ Some ws → (k : Answer) (old : State) → Fine k old →
       Goes core s.locals k (λ vs. widths vs ≡ ws) (all (map value_of (exprs es)) p old)
   values_fit [] texts last ws h k old fine = record { gives = cc; fine = fine }
@@ -86,7 +81,7 @@ module _ (core : Parts) (s : Scope) (p : Frame) (stands : Stands core s p) where
       record { gives = cc (ran.gives, next.gives, rule.2.2); fine = next.fine }
 
   -- As many values as expressions.
-  count_kept : (es : List E) (old : State) → length (map expr_texts (exprs es)) ≡ length (numbers (all (map value_of (exprs es)) p old).gives)
+  count_kept : (es : List E) (old : State) → length (map expr_prints (exprs es)) ≡ length (numbers (all (map value_of (exprs es)) p old).gives)
   count_kept [] old = refl
   count_kept (e ∷ es) old = ap suc (count_kept es (value_of e.0 p old).after)
 
@@ -95,7 +90,7 @@ module _ (core : Parts) (s : Scope) (p : Frame) (stands : Stands core s p) where
 
   -- Arguments of a call that has its body put in fit the locals that are to hold them.
   given_fit : (gs : List (ℕ × E)) →
-      all_texts (map (λ (g : ℕ × Printed). g.1) (map (λ (g : ℕ × Expr). (g.0, expr_texts g.1)) (given_trees gs))) ≡ true →
+      all_texts (map (λ (g : ℕ × Printed). g.1) (map (λ (g : ℕ × Expr). (g.0, expr_prints g.1)) (given_trees gs))) ≡ true →
       all_last (map (λ (g : ℕ × Returns). g.1) (map (λ (g : ℕ × Expr). (g.0, expr_returns g.1)) (given_trees gs))) ≡ true →
       Matched s (map (λ (g : ℕ × Expr). (g.0, answer_of g.1)) (given_trees gs)) →
       (k : Answer) (old : State) → Fine k old →
@@ -109,22 +104,22 @@ module _ (core : Parts) (s : Scope) (p : Frame) (stands : Stands core s p) where
       record { gives = (matched.0.2 ∙ ap (λ (w : ℕ). Some w) (sym ran.gives), next.gives); fine = next.fine }
 
   -- Of the returns of a block.
-  block_seen : (es : List S) → all_texts (map stmt_texts (stmts es)) ≡ true → (r.block (map stmt_returns (stmts es))).last ≡ true →
-      (rs : List (List Answer)) → t.all (map returns_of (stmts es)) s ≡ Some rs → IsSeen (joined rs) (r.block (map stmt_returns (stmts es))).value
+  block_seen : (es : List S) → all_texts (map stmt_prints (stmts es)) ≡ true → (r.block_returns (map stmt_returns (stmts es))).last ≡ true →
+      (rs : List (List Answer)) → t.all_typed (map returns_of (stmts es)) s ≡ Some rs → IsSeen (joined rs) (r.block_returns (map stmt_returns (stmts es))).value
   block_seen [] texts last rs h some = let e : rs ≡ [] = cc in none_seen (joined rs) false (ap joined e) some
   block_seen (e ∷ es) texts last rs h some =
       let rule = all_rule s (returns_of e.0) (map returns_of (stmts es)) rs h in
       let text = and_parts _ _ texts in
       let end = and_parts _ _ (and_parts _ _ last).0 in
-      let after = r.block (map stmt_returns (stmts es)) in
+      let after = r.block_returns (map stmt_returns (stmts es)) in
       either_seen rule.0 (joined rule.2.0) (joined rs) (stmt_returns e.0).value after.value (ap joined rule.2.2)
       (e.1.seen text.0 end.0 rule.0 rule.1) (block_seen es text.1 end.1 rule.2.0 rule.2.1) some
 
   -- After a body whose returns all give a, so does the answer, where it was given before or the body always returns.
   abbrev pub BodyFits : List Stmt → Type 0
-  BodyFits ss = all_texts (map stmt_texts ss) ≡ true → (r.block (map stmt_returns ss)).last ≡ true → (rs : List (List Answer)) → t.all (map returns_of ss) s ≡ Some rs →
+  BodyFits ss = all_texts (map stmt_prints ss) ≡ true → (r.block_returns (map stmt_returns ss)).last ≡ true → (rs : List (List Answer)) → t.all_typed (map returns_of ss) s ≡ Some rs →
       (a : Answer) → list_all (option_eq nat_eq a) (joined rs) ≡ true → (given : Bool) (old : State) → Fine (once given a) old →
-      Fine (once (given || (r.block (map stmt_returns ss)).always) a) (block (map effect_of ss) p old).after
+      Fine (once (given || (r.block_returns (map stmt_returns ss)).always) a) (block (map effect_of ss) p old).after
 
   pub block_fits : (es : List S) → BodyFits (stmts es)
   block_fits [] texts last rs h a only given old fine = still core s.locals given a old fine
@@ -136,7 +131,7 @@ module _ (core : Parts) (s : Scope) (p : Frame) (stands : Stands core s p) where
       let first = (stmt_returns e.0).always in
       let ran = e.1.runs text.0 end.0 rule.0 rule.1 a alone.0 given old fine in
       let next = block_fits es text.1 end.1 rule.2.0 rule.2.1 a alone.1 (given || first) (effect_of e.0 p old).after ran in
-      or_later core s.locals given first (r.block (map stmt_returns (stmts es))).always a _ next
+      or_later core s.locals given first (r.block_returns (map stmt_returns (stmts es))).always a _ next
 
   -- The trees of a node, and what its steps make of them.
   abbrev pub expr_tree : Expr-F E S T → Expr-F Expr Stmt Touch
@@ -152,7 +147,7 @@ module _ (core : Parts) (s : Scope) (p : Frame) (stands : Stands core s p) where
   ExprNodeFits y = ExprFits
       (m.expr_step (map-Expr Expr Stmt Touch (Act Bits) Effect (Act Bits) value_of effect_of touch_of y))
       (t.expr_step (map-Expr Expr Stmt Touch (Typed Answer) (Typed (List Answer)) (Typed Answer) answer_of returns_of touch_answer y))
-      (x.expr_step (map-Expr Expr Stmt Touch Printed Printed Printed expr_texts stmt_texts touch_texts y))
+      (x.expr_step (map-Expr Expr Stmt Touch Printed Printed Printed expr_prints stmt_prints touch_prints y))
       (r.expr_step (map-Expr Expr Stmt Touch Returns Returns Returns expr_returns stmt_returns touch_returns y))
 
   pub expr_level : (y : Expr-F E S T) → ExprNodeFits (expr_tree y)
@@ -201,8 +196,8 @@ module _ (core : Parts) (s : Scope) (p : Frame) (stands : Stands core s p) where
       record { gives = subst (λ (b : Answer). Has b result) (sym rule.3) called.gives; fine = called.fine }
   expr_level (Expr-F.Inlined given es) texts last a h k old fine =
       let rule = inlined_rule s (map (λ (g : ℕ × Expr). (g.0, answer_of g.1)) (given_trees given)) (map returns_of (stmts es)) a h in
-      let text = both_pass (λ (test : Printed). test core.forms) (map (λ (g : ℕ × Printed). g.1) (map (λ (g : ℕ × Expr). (g.0, expr_texts g.1)) (given_trees given))) (map stmt_texts (stmts es)) texts in
-      let body = r.block (map stmt_returns (stmts es)) in
+      let text = both_pass (λ (test : Printed). test core.forms) (map (λ (g : ℕ × Printed). g.1) (map (λ (g : ℕ × Expr). (g.0, expr_prints g.1)) (given_trees given))) (map stmt_prints (stmts es)) texts in
+      let body = r.block_returns (map stmt_returns (stmts es)) in
       let returns = and_parts _ _ last in
       let end = and_parts _ _ returns.0 in
       let ran = all_given (map (λ (g : ℕ × Expr). (g.0, value_of g.1)) (given_trees given)) p old in
@@ -220,7 +215,7 @@ module _ (core : Parts) (s : Scope) (p : Frame) (stands : Stands core s p) where
   TouchNodeFits y = ExprFits
       (m.touch_step (map-Touch Expr Stmt Touch (Act Bits) Effect (Act Bits) value_of effect_of touch_of y))
       (t.touch_step (map-Touch Expr Stmt Touch (Typed Answer) (Typed (List Answer)) (Typed Answer) answer_of returns_of touch_answer y))
-      (x.touch_step (map-Touch Expr Stmt Touch Printed Printed Printed expr_texts stmt_texts touch_texts y))
+      (x.touch_step (map-Touch Expr Stmt Touch Printed Printed Printed expr_prints stmt_prints touch_prints y))
       (r.touch_step (map-Touch Expr Stmt Touch Returns Returns Returns expr_returns stmt_returns touch_returns y))
 
   pub touch_level : (y : Touch-F E S T) → TouchNodeFits (touch_tree y)
@@ -245,7 +240,7 @@ module _ (core : Parts) (s : Scope) (p : Frame) (stands : Stands core s p) where
   StmtNodeFits y = StmtFits
       (m.stmt_step (map-Stmt Expr Stmt Touch (Act Bits) Effect (Act Bits) value_of effect_of touch_of y))
       (t.stmt_step (map-Stmt Expr Stmt Touch (Typed Answer) (Typed (List Answer)) (Typed Answer) answer_of returns_of touch_answer y))
-      (x.stmt_step (map-Stmt Expr Stmt Touch Printed Printed Printed expr_texts stmt_texts touch_texts y))
+      (prints_step (map-Stmt Expr Stmt Touch Printed Printed Printed expr_prints stmt_prints touch_prints y))
       (r.stmt_step (map-Stmt Expr Stmt Touch Returns Returns Returns expr_returns stmt_returns touch_returns y))
 
   -- Of a condition with two blocks.
@@ -258,20 +253,20 @@ module _ (core : Parts) (s : Scope) (p : Frame) (stands : Stands core s p) where
   if_level e es fs = record {
     seen = λ texts last rs h some.
         let rule = if_rule s (answer_of e.0) (map returns_of (stmts es)) (map returns_of (stmts fs)) rs h in
-        let text = both_pass (λ (test : Printed). test core.forms) (map stmt_texts (stmts es)) (map stmt_texts (stmts fs)) (and_parts _ _ texts).1 in
+        let text = both_pass (λ (test : Printed). test core.forms) (map stmt_prints (stmts es)) (map stmt_prints (stmts fs)) (and_parts _ _ texts).1 in
         let end = and_parts _ _ last in
-        either_seen (joined rule.first) (joined rule.second) rs (r.block (map stmt_returns (stmts es))).value (r.block (map stmt_returns (stmts fs))).value rule.returns
+        either_seen (joined rule.first) (joined rule.second) rs (r.block_returns (map stmt_returns (stmts es))).value (r.block_returns (map stmt_returns (stmts fs))).value rule.returns
         (block_seen es text.0 (and_parts _ _ end.0).1 rule.first rule.typed) (block_seen fs text.1 end.1 rule.second rule.typed_too) some;
     runs = λ texts last rs h a only given old fine.
         let rule = if_rule s (answer_of e.0) (map returns_of (stmts es)) (map returns_of (stmts fs)) rs h in
         let here = and_parts _ _ texts in
-        let text = both_pass (λ (test : Printed). test core.forms) (map stmt_texts (stmts es)) (map stmt_texts (stmts fs)) here.1 in
+        let text = both_pass (λ (test : Printed). test core.forms) (map stmt_prints (stmts es)) (map stmt_prints (stmts fs)) here.1 in
         let end = and_parts _ _ last in
         let begin = and_parts _ _ end.0 in
         let alone = both_pass_of (option_eq nat_eq a) rs (joined rule.first) (joined rule.second) rule.returns only in
         let ran = value_of e.0 p old in
-        let first = (r.block (map stmt_returns (stmts es))).always in
-        let second = (r.block (map stmt_returns (stmts fs))).always in
+        let first = (r.block_returns (map stmt_returns (stmts es))).always in
+        let second = (r.block_returns (map stmt_returns (stmts fs))).always in
         let condition = e.1 here.0 begin.0 (Some 1) rule.condition (once given a) old fine in
         let one = block_fits es text.0 begin.1 rule.first rule.typed a alone.0 given ran.after condition.fine in
         let two = block_fits fs text.1 end.1 rule.second rule.typed_too a alone.1 given ran.after condition.fine in
@@ -280,7 +275,7 @@ module _ (core : Parts) (s : Scope) (p : Frame) (stands : Stands core s p) where
   }
 
   -- Of a delay or a target.
-  optional_stays : {A : Type 0} (absent : A) (given : ℕ → A) (o : Option E) → all_texts (option_to_list (option_map (λ e. expr_texts e.0) o)) ≡ true → all_last (option_to_list (option_map (λ e. expr_returns e.0) o)) ≡ true →
+  optional_stays : {A : Type 0} (absent : A) (given : ℕ → A) (o : Option E) → all_texts (option_to_list (option_map (λ e. expr_prints e.0) o)) ≡ true → all_last (option_to_list (option_map (λ e. expr_returns e.0) o)) ≡ true →
       AllGive s (option_to_list (option_map (λ e. answer_of e.0) o)) → StaysFine core s.locals p (m.optional absent given (option_map (λ e. value_of e.0) o))
   optional_stays absent given None texts last give k old fine = fine
   optional_stays absent given (Some e) texts last give k old fine = (e.1 (and_parts _ _ texts).0 (and_parts _ _ last).0 (Some give.0.0) give.0.1 k old fine).fine
@@ -288,14 +283,14 @@ module _ (core : Parts) (s : Scope) (p : Frame) (stands : Stands core s p) where
   gen_level : (event : ℕ) (es : List E) (delay to : Option E) (delay_first : Bool) → StmtFits
       (m.stmt_step (Stmt-F.Gen event (map value_of (exprs es)) (option_map (λ e. value_of e.0) delay) (option_map (λ e. value_of e.0) to) delay_first))
       (t.stmt_step (Stmt-F.Gen event (map answer_of (exprs es)) (option_map (λ e. answer_of e.0) delay) (option_map (λ e. answer_of e.0) to) delay_first))
-      (x.stmt_step (Stmt-F.Gen event (map expr_texts (exprs es)) (option_map (λ e. expr_texts e.0) delay) (option_map (λ e. expr_texts e.0) to) delay_first))
+      (prints_step (Stmt-F.Gen event (map expr_prints (exprs es)) (option_map (λ e. expr_prints e.0) delay) (option_map (λ e. expr_prints e.0) to) delay_first))
       (r.stmt_step (Stmt-F.Gen event (map expr_returns (exprs es)) (option_map (λ e. expr_returns e.0) delay) (option_map (λ e. expr_returns e.0) to) delay_first))
   gen_level event es delay to delay_first = record {
     seen = λ texts last rs h. none_seen rs _ (gen_rule s event (map answer_of (exprs es)) (option_map (λ e. answer_of e.0) delay) (option_map (λ e. answer_of e.0) to) delay_first rs h).returns;
     runs = λ texts last rs h a only given old fine.
         let rule = gen_rule s event (map answer_of (exprs es)) (option_map (λ (e : E). answer_of e.0) delay) (option_map (λ (e : E). answer_of e.0) to) delay_first rs h in
-        let text = both_pass (λ (test : Printed). test core.forms) (map expr_texts (exprs es) ++ option_to_list (option_map (λ (e : E). expr_texts e.0) delay)) (option_to_list (option_map (λ (e : E). expr_texts e.0) to)) texts in
-        let text2 = both_pass (λ (test : Printed). test core.forms) (map expr_texts (exprs es)) (option_to_list (option_map (λ (e : E). expr_texts e.0) delay)) text.0 in
+        let text = both_pass (λ (test : Printed). test core.forms) (map expr_prints (exprs es) ++ option_to_list (option_map (λ (e : E). expr_prints e.0) delay)) (option_to_list (option_map (λ (e : E). expr_prints e.0) to)) texts in
+        let text2 = both_pass (λ (test : Printed). test core.forms) (map expr_prints (exprs es)) (option_to_list (option_map (λ (e : E). expr_prints e.0) delay)) text.0 in
         let end = both_pass (λ (one : Returns). one.last) (map expr_returns (exprs es) ++ option_to_list (option_map (λ (e : E). expr_returns e.0) delay)) (option_to_list (option_map (λ (e : E). expr_returns e.0) to)) last in
         let end2 = both_pass (λ (one : Returns). one.last) (map expr_returns (exprs es)) (option_to_list (option_map (λ (e : E). expr_returns e.0) delay)) end.0 in
         let give = give_parts s (option_to_list (option_map (λ (e : E). answer_of e.0) delay)) (option_to_list (option_map (λ (e : E). answer_of e.0) to)) rule.others in
@@ -312,13 +307,13 @@ module _ (core : Parts) (s : Scope) (p : Frame) (stands : Stands core s p) where
   multi_level : (event : ℕ) (es : List E) (delay : Option E) (members : List ℕ) → StmtFits
       (m.stmt_step (Stmt-F.Multi event (map value_of (exprs es)) (option_map (λ e. value_of e.0) delay) members))
       (t.stmt_step (Stmt-F.Multi event (map answer_of (exprs es)) (option_map (λ e. answer_of e.0) delay) members))
-      (x.stmt_step (Stmt-F.Multi event (map expr_texts (exprs es)) (option_map (λ e. expr_texts e.0) delay) members))
+      (prints_step (Stmt-F.Multi event (map expr_prints (exprs es)) (option_map (λ e. expr_prints e.0) delay) members))
       (r.stmt_step (Stmt-F.Multi event (map expr_returns (exprs es)) (option_map (λ e. expr_returns e.0) delay) members))
   multi_level event es delay members = record {
     seen = λ texts last rs h. none_seen rs _ (multi_rule s event (map answer_of (exprs es)) (option_map (λ e. answer_of e.0) delay) members rs h).returns;
     runs = λ texts last rs h a only given old fine.
         let rule = multi_rule s event (map answer_of (exprs es)) (option_map (λ (e : E). answer_of e.0) delay) members rs h in
-        let text = both_pass (λ (test : Printed). test core.forms) (map expr_texts (exprs es)) (option_to_list (option_map (λ (e : E). expr_texts e.0) delay)) texts in
+        let text = both_pass (λ (test : Printed). test core.forms) (map expr_prints (exprs es)) (option_to_list (option_map (λ (e : E). expr_prints e.0) delay)) texts in
         let end = both_pass (λ (one : Returns). one.last) (map expr_returns (exprs es)) (option_to_list (option_map (λ (e : E). expr_returns e.0) delay)) last in
         let act = delay_of (option_map (λ (e : E). value_of e.0) delay) in
         let ran = all (map value_of (exprs es)) p old in
@@ -361,7 +356,7 @@ module _ (core : Parts) (s : Scope) (p : Frame) (stands : Stands core s p) where
         let text = and_parts _ _ texts in
         let ran = all (map value_of (exprs es)) p old in
         let args = values_fit es text.1 last rule.0 rule.1 (once given a) old fine in
-        let fit = say_is_fit (slice_get core.forms form) (length (map expr_texts (exprs es))) (length (numbers ran.gives)) (count_kept es old) text.0 in
+        let fit = say_is_fit (slice_get core.forms form) (length (map expr_prints (exprs es))) (length (numbers ran.gives)) (count_kept es old) text.0 in
         still core s.locals given a _ (sent_too core s.locals (once given a) ran.after (out.Say form (numbers ran.gives) ∷ []) args.fine (and_from _ _ fit refl));
   }
   stmt_level (Stmt-F.Return None) = record {

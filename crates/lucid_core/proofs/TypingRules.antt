@@ -11,7 +11,7 @@ use Rattle.lucid_base.specs.declared.ops.UnOp.{UnOp}
 use Rattle.lucid_core.specs.declared.body.Expr.TheOpen.{Expr-F, Stmt-F, Touch-F}
 use Rattle.lucid_core.specs.declared.defs.FunDef.{FunDef}
 use Rattle.lucid_core.specs.Scope.{Scope}
-use Rattle.lucid_core.specs.Typing.{Answer, Typed, ◌>>=◌, given_that, same, value, all, values, cell_width, local_width, joined, one_answer, expr_step, touch_step, event_is_given, stmt_step, gives_only}
+use Rattle.lucid_core.specs.Typing.{Answer, Typed, ◌>>=◌, given_that, same, value, all_typed, values, cell_width, local_width, joined, one_answer, expr_step, touch_step, event_is_given, stmt_step, gives_only}
 
 -- Where the second of two gives something, so does the first.
 first_of_two : {A B : Type 0} (o : Option A) (f : A → Option B) (b : B) → (o >>= f) ≡ Some b → (a : A) × (o ≡ Some a) × (f a ≡ Some b)
@@ -83,11 +83,11 @@ module _ (s : Scope) where
   hash_rule w xs a h = let first = first_of_two (values xs s) _ a h in (first.0, first.1, cc)
 
   -- One after the other.
-  pub all_rule : {A : Type 0} (x : Typed A) (xs : List (Typed A)) (rs : List A) → all (x ∷ xs) s ≡ Some rs →
-      (r : A) × (x s ≡ Some r) × ((rest : List A) × (all xs s ≡ Some rest) × (rs ≡ r ∷ rest))
+  pub all_rule : {A : Type 0} (x : Typed A) (xs : List (Typed A)) (rs : List A) → all_typed (x ∷ xs) s ≡ Some rs →
+      (r : A) × (x s ≡ Some r) × ((rest : List A) × (all_typed xs s ≡ Some rest) × (rs ≡ r ∷ rest))
   all_rule {A = A} x xs rs h =
       let first = first_of_two (x s) _ rs h in
-      let others = first_of_two (all xs s) (λ (rest : List A). Some (first.0 ∷ rest)) rs first.2 in
+      let others = first_of_two (all_typed xs s) (λ (rest : List A). Some (first.0 ∷ rest)) rs first.2 in
       (first.0, first.1, (others.0, others.1, cc))
 
   pub values_rule : (x : Typed Answer) (xs : List (Typed Answer)) (ws : List ℕ) → values (x ∷ xs) s ≡ Some ws →
@@ -111,7 +111,7 @@ module _ (s : Scope) where
       (f : FunDef) × (slice_get s.funs k ≡ Some f) × (values xs s ≡ Some (take f.params f.locals)) × (a ≡ f.answer)
   call_rule k names xs a h =
       let fun = first_of_two (slice_get s.funs k) _ a h in
-      let cells = first_of_two (all (map cell_width names) s) _ a fun.2 in
+      let cells = first_of_two (all_typed (map cell_width names) s) _ a fun.2 in
       let args = first_of_two (values xs s) _ a cells.2 in
       let agree = holds (same cells.0 fun.0.arrays && same args.0 (take fun.0.params fun.0.locals)) fun.0.answer a args.2 in
       let e : args.0 ≡ take fun.0.params fun.0.locals = same_text _ _ (sym (and_parts _ _ agree.0).1) in
@@ -122,7 +122,7 @@ module _ (s : Scope) where
   Matched [] = Unit {0}
   Matched (g ∷ gs) = ((w : ℕ) × Gives g.1 w × (slice_get s.locals g.0 ≡ Some w)) × Matched gs
 
-  matched : (gs : List (ℕ × Typed Answer)) (ws : List ℕ) → values (map (λ g. g.1) gs) s ≡ Some ws → all (map (λ g. local_width g.0) gs) s ≡ Some ws → Matched gs
+  matched : (gs : List (ℕ × Typed Answer)) (ws : List ℕ) → values (map (λ g. g.1) gs) s ≡ Some ws → all_typed (map (λ g. local_width g.0) gs) s ≡ Some ws → Matched gs
   matched [] ws args held = tt
   matched (g ∷ gs) ws args held =
       let arg = values_rule g.1 (map (λ (e : ℕ × Typed Answer). e.1) gs) ws args in
@@ -137,15 +137,15 @@ module _ (s : Scope) where
   pub record Inlining (given : List (ℕ × Typed Answer)) (ss : List (Typed (List Answer))) (a : Answer) : Type 0 where
     pub matched : Matched given
     pub returns : List (List Answer)
-    pub typed : all ss s ≡ Some returns
+    pub typed : all_typed ss s ≡ Some returns
     pub only : list_all (option_eq nat_eq a) (joined returns) ≡ true
     pub some : (w : ℕ) → a ≡ Some w → list_any is_some (joined returns) ≡ true
 
   pub inlined_rule : (given : List (ℕ × Typed Answer)) (ss : List (Typed (List Answer))) (a : Answer) → expr_step (Expr-F.Inlined given ss) s ≡ Some a → Inlining given ss a
   inlined_rule given ss a h =
       let args = first_of_two (values (map (λ (g : ℕ × Typed Answer). g.1) given) s) _ a h in
-      let held = first_of_two (all (map (λ (g : ℕ × Typed Answer). local_width g.0) given) s) _ a args.2 in
-      let returns = first_of_two (all ss s) _ a held.2 in
+      let held = first_of_two (all_typed (map (λ (g : ℕ × Typed Answer). local_width g.0) given) s) _ a args.2 in
+      let returns = first_of_two (all_typed ss s) _ a held.2 in
       let answer = first_of_two (one_answer (joined returns.0)) _ a returns.2 in
       let agree = holds (same args.0 held.0) answer.0 a answer.2 in
       let e : args.0 ≡ held.0 = same_text _ _ (sym agree.0) in
@@ -193,16 +193,16 @@ module _ (s : Scope) where
   pub record Branching (x : Typed Answer) (ss ts : List (Typed (List Answer))) (rs : List Answer) : Type 0 where
     pub condition : Gives x 1
     pub first : List (List Answer)
-    pub typed : all ss s ≡ Some first
+    pub typed : all_typed ss s ≡ Some first
     pub second : List (List Answer)
-    pub typed_too : all ts s ≡ Some second
+    pub typed_too : all_typed ts s ≡ Some second
     pub returns : rs ≡ joined first ++ joined second
 
   pub if_rule : (x : Typed Answer) (ss ts : List (Typed (List Answer))) (rs : List Answer) → stmt_step (Stmt-F.If x ss ts) s ≡ Some rs → Branching x ss ts rs
   if_rule x ss ts rs h =
       let condition = first_of_two (value x s) _ rs h in
-      let first = first_of_two (all ss s) _ rs condition.2 in
-      let second = first_of_two (all ts s) _ rs first.2 in
+      let first = first_of_two (all_typed ss s) _ rs condition.2 in
+      let second = first_of_two (all_typed ts s) _ rs first.2 in
       let agree = holds (nat_eq condition.0 1) (joined first.0 ++ joined second.0) rs second.2 in
       let e : condition.0 ≡ 1 = eqb-true _ _ agree.0 in
       record {
@@ -247,8 +247,8 @@ module _ (s : Scope) where
   pub return_rule : (x : Typed Answer) (rs : List Answer) → stmt_step (Stmt-F.Return (Some x)) s ≡ Some rs → (w : ℕ) × Gives x w × (rs ≡ Some w ∷ [])
   return_rule x rs h = let first = first_of_two (value x s) _ rs h in (first.0, gives x first.0 first.1, cc)
 
-  pub body_rule : (a : Answer) (ss : List (Typed (List Answer))) → gives_only a (all ss s) ≡ true → (rs : List (List Answer)) × (all ss s ≡ Some rs) × (list_all (option_eq nat_eq a) (joined rs) ≡ true)
-  body_rule a ss h = of_all (all ss s) h
+  pub body_rule : (a : Answer) (ss : List (Typed (List Answer))) → gives_only a (all_typed ss s) ≡ true → (rs : List (List Answer)) × (all_typed ss s ≡ Some rs) × (list_all (option_eq nat_eq a) (joined rs) ≡ true)
+  body_rule a ss h = of_all (all_typed ss s) h
     where
       of_all : (o : Option (List (List Answer))) → gives_only a o ≡ true → (rs : List (List Answer)) × (o ≡ Some rs) × (list_all (option_eq nat_eq a) (joined rs) ≡ true)
       of_all None g = absurd (cc)

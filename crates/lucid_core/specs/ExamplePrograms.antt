@@ -18,7 +18,7 @@ use Rattle.lucid_core.specs.declared.defs.HandlerDef.{HandlerDef}
 use Rattle.lucid_core.specs.declared.defs.EventDef.{EventDef}
 use Rattle.lucid_core.specs.Assigned.{reads_follow_assignments}
 use Rattle.lucid_core.specs.Events.{events_and_handlers_agree}
-use Rattle.lucid_core.specs.Forms.{has_core_forms, has_flat_forms}
+use Rattle.lucid_core.specs.Syntax.{has_core_syntax, has_flat_syntax}
 use Rattle.lucid_core.specs.Limits.{declarations_keep_limits, bodies_keep_limits}
 use Rattle.lucid_core.specs.Names.{names_are_there}
 use Rattle.lucid_core.specs.OutCount.{outs_are_few}
@@ -175,8 +175,8 @@ pub record RulesRefuse : Type 0 where
   pub argument_without_hole : texts_are_filled (with_handler (say 0 (one ∷ one ∷ []) ∷ [])) ≡ false
   pub member_twice : bodies_keep_limits (with_handler (to_each 0 (one ∷ one ∷ []) (5 ∷ 5 ∷ []) ∷ [])) ≡ false
   pub no_such_switch : bodies_keep_limits (with_handler (to_each 0 (one ∷ one ∷ []) (64 ∷ []) ∷ [])) ≡ false
-  pub inlined_in_core : has_core_forms (with_handler (drop_value (inlined [] []) ∷ [])) ≡ false
-  pub call_in_flat : has_flat_forms (flat handles) ≡ false
+  pub inlined_in_core : has_core_syntax (with_handler (drop_value (inlined [] []) ∷ [])) ≡ false
+  pub call_in_flat : has_flat_syntax (flat handles) ≡ false
   pub named_outside : inlined_keep_to_themselves (flat named_outside) ≡ false
   pub reads_another : inlined_keep_to_themselves (flat reads_another) ≡ false
   pub sometimes_a_value : returns_stand_last (flat (drop_value (inlined ((2, one) ∷ []) (choose yes (return (Some one) ∷ []) [] ∷ [])) ∷ [])) ≡ false

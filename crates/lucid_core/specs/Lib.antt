@@ -4,10 +4,10 @@ pub mod Children
 pub mod Events
 pub mod ExamplePrograms
 pub mod Fits
-pub mod Forms
 pub mod Limits
 pub mod Meaning
 pub mod Names
+pub mod Numbered
 pub mod Numbers
 pub mod OutCount
 pub mod Parts
@@ -16,6 +16,7 @@ pub mod Running
 pub mod Scope
 pub mod Step
 pub mod StepExamples
+pub mod Syntax
 pub mod Texts
 pub mod Typing
 pub mod Uses

@@ -3,9 +3,11 @@ use Rattle.std.specs.Prelude.{ℕ, List, Bool, ◌&&◌, length, map, nat_lt, na
 use Rattle.std.specs.List.{list_all}
 use Rattle.lucid_base.specs.declared.array.ArrayName.{ArrayName}
 use Rattle.lucid_base.specs.declared.array.ArrayName.TheVariants.{Global, Param}
+use Rattle.lucid_core.specs.declared.body.Expr.{Expr}
 use Rattle.lucid_core.specs.declared.body.Stmt.{Stmt}
+use Rattle.lucid_core.specs.declared.body.Touch.{Touch}
 use Rattle.lucid_core.specs.declared.body.Expr.TheOpen.{Expr-F, Stmt-F, Touch-F}
-use Rattle.lucid_core.specs.declared.body.Expr.TheFolds.{fold-Stmt}
+use Rattle.lucid_core.specs.declared.body.Expr.TheFolds.{fold-Expr, fold-Stmt, fold-Touch}
 use Rattle.lucid_core.specs.Children.{expr_children, stmt_children, touch_children}
 use Rattle.lucid_core.specs.Parts.{Parts}
 use Rattle.lucid_core.specs.Scope.{Test, each, bodies_pass}
@@ -31,8 +33,14 @@ stmt_step (Stmt-F.Multi event xs delay members) = λ s. nat_lt event (length s.e
 stmt_step (Stmt-F.Say form xs) = λ s. nat_lt form (length s.forms) && each xs s
 stmt_step x = each (stmt_children x)
 
+abbrev pub expr_names : Expr → Test
+expr_names = fold-Expr Test Test Test expr_step stmt_step touch_step
+
 abbrev pub stmt_names : Stmt → Test
 stmt_names = fold-Stmt Test Test Test expr_step stmt_step touch_step
+
+abbrev pub touch_names : Touch → Test
+touch_names = fold-Touch Test Test Test expr_step stmt_step touch_step
 
 -- In all bodies; and a function's value parameters are locals of it.
 abbrev pub names_are_there : Parts → Bool

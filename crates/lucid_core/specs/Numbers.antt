@@ -1,4 +1,4 @@
--- Small words on lists of numbers.
+-- Small words on lists of numbers and of tests.
 use Rattle.std.specs.Prelude.{ℕ, List, [], ◌∷◌, Bool, true, not, ◌&&◌, map, nat_eq}
 use Rattle.std.specs.List.{list_all, list_any, enumerate_from}
 
@@ -13,6 +13,10 @@ are_in xs ns = list_all (is_in xs) ns
 abbrev pub are_distinct : List ℕ → Bool
 are_distinct [] = true
 are_distinct (x ∷ xs) = not (is_in xs x) && are_distinct xs
+
+-- All of these tests hold.
+abbrev pub all_hold : List Bool → Bool
+all_hold tests = list_all (λ test. test) tests
 
 -- The places of a list, from 0.
 abbrev pub places : {A : Type 0} → List A → List ℕ

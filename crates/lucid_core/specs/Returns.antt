@@ -25,9 +25,9 @@ abbrev pub is_end : {A : Type 0} → List A → Bool
 is_end [] = true
 is_end (x ∷ xs) = false
 
-abbrev pub block : List Returns → Returns
-block [] = goes_on []
-block (r ∷ rest) = let after = block rest in record {
+abbrev pub block_returns : List Returns → Returns
+block_returns [] = goes_on []
+block_returns (r ∷ rest) = let after = block_returns rest in record {
   some = r.some || after.some;
   value = r.value || after.value;
   always = r.always || after.always;
@@ -44,18 +44,18 @@ either condition first second = record {
 }
 
 -- A return in an `Inlined` ends it alone; where it gives a value, it always returns.
-abbrev pub inlined : Returns → Returns → Returns
-inlined args body = record { some = false; value = false; always = false; last = args.last && body.last && (not body.value || body.always) }
+abbrev pub inlined_returns : Returns → Returns → Returns
+inlined_returns args body = record { some = false; value = false; always = false; last = args.last && body.last && (not body.value || body.always) }
 
 abbrev pub expr_step : Expr-F Returns Returns Returns → Returns
-expr_step (Expr-F.Inlined given ss) = inlined (goes_on (map (λ g. g.1) given)) (block ss)
+expr_step (Expr-F.Inlined given ss) = inlined_returns (goes_on (map (λ g. g.1) given)) (block_returns ss)
 expr_step e = goes_on (expr_children e)
 
 abbrev pub touch_step : Touch-F Returns Returns Returns → Returns
 touch_step t = goes_on (touch_children t)
 
 abbrev pub stmt_step : Stmt-F Returns Returns Returns → Returns
-stmt_step (Stmt-F.If x ss ts) = either x (block ss) (block ts)
+stmt_step (Stmt-F.If x ss ts) = either x (block_returns ss) (block_returns ts)
 stmt_step (Stmt-F.Return x) = record { some = true; value = is_some x; always = true; last = list_all (λ r. r.last) (stmt_children (Stmt-F.Return x)) }
 stmt_step s = goes_on (stmt_children s)
 
@@ -69,7 +69,7 @@ abbrev pub touch_returns : Touch → Returns
 touch_returns = fold-Touch Returns Returns Returns expr_step stmt_step touch_step
 
 abbrev pub body_returns : List Stmt → Returns
-body_returns ss = block (map stmt_returns ss)
+body_returns ss = block_returns (map stmt_returns ss)
 
 -- In all bodies; and a function with an answer always returns.
 abbrev pub returns_stand_last : Parts → Bool

@@ -1,5 +1,5 @@
 -- What the step makes of one program, worked by hand from the language.
-use Rattle.std.specs.Prelude.{◌≡◌, ℕ, List, [], ◌∷◌, Option, None, Some, Bool, true, false}
+use Rattle.std.specs.Prelude.{◌≡◌, ℕ, ◌+◌, List, [], ◌∷◌, Option, None, Some, Bool, true, false}
 use Rattle.lucid_base.specs.declared.array.ArrayName.TheVariants.{Global}
 use Rattle.lucid_base.specs.declared.event.Event.{Event}
 use Rattle.lucid_base.specs.declared.event.Out.{Out}
@@ -13,12 +13,12 @@ use Rattle.lucid_core.specs.ExamplePrograms.{number, local, one, array, less, ha
 use Rattle.lucid_core.specs.Parts.{Parts, made_of}
 use Rattle.lucid_core.specs.Step.{Entry, Stepped, step, touches, steps, after, outs}
 
--- An event of one parameter i, and a handler of it.
+-- An event of one parameter i, and a handler of it, the fifth declaration or later.
 abbrev pub declared : Option ℕ → EventDef
 declared handler = record { name = []; params = 32 ∷ []; handler = handler }
 
-abbrev pub handler_of : ℕ → List Stmt → HandlerDef
-handler_of event body = record { event = event; locals = 32 ∷ []; body = body; decl = 5; line = 5 }
+abbrev pub handling : ℕ → List Stmt → HandlerDef
+handling event body = record { event = event; locals = 32 ∷ []; body = body; decl = event + 5; line = event + 5 }
 
 -- printf("n %d", Array.update(first, i, plus, 100, plus, 1));
 unfoldable pub look : Stmt
@@ -54,13 +54,13 @@ events = declared (Some 0) ∷ declared (Some 1) ∷ declared (Some 2) ∷ decla
 
 abbrev pub handlers : List HandlerDef
 handlers =
-    handler_of 0 (look ∷ look ∷ [])
-    ∷ handler_of 1 (say_bump 0 ∷ say_bump 1 ∷ [])
-    ∷ handler_of 2 (say_unless_small ∷ [])
-    ∷ handler_of 3 (counting true ∷ [])
-    ∷ handler_of 4 (counting false ∷ [])
-    ∷ handler_of 5 (group ∷ [])
-    ∷ handler_of 7 (say_hash ∷ [])
+    handling 0 (look ∷ look ∷ [])
+    ∷ handling 1 (say_bump 0 ∷ say_bump 1 ∷ [])
+    ∷ handling 2 (say_unless_small ∷ [])
+    ∷ handling 3 (counting true ∷ [])
+    ∷ handling 4 (counting false ∷ [])
+    ∷ handling 5 (group ∷ [])
+    ∷ handling 7 (say_hash ∷ [])
     ∷ []
 
 -- Arrays `first` of 4 cells and `second` of 8, a memop, a function with an array parameter, and the text "n %d".

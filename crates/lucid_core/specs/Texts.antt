@@ -1,10 +1,12 @@
--- A print has as many arguments as its text has `%d`, and at most 8.
-use Rattle.std.specs.Prelude.{ℕ, ◌+◌, List, [], ◌∷◌, Bool, false, if◌then◌else◌, ◌&&◌, length, map, nat_eq, nat_le, slice_get}
+-- A print has as many arguments as its text has `%d`.
+use Rattle.std.specs.Prelude.{ℕ, ◌+◌, List, [], ◌∷◌, Bool, false, if◌then◌else◌, ◌&&◌, length, map, nat_eq, slice_get}
 use Rattle.std.specs.List.{list_all}
 use Rattle.std.specs.Option.{option_map_or}
+use Rattle.lucid_core.specs.declared.body.Expr.{Expr}
 use Rattle.lucid_core.specs.declared.body.Stmt.{Stmt}
+use Rattle.lucid_core.specs.declared.body.Touch.{Touch}
 use Rattle.lucid_core.specs.declared.body.Expr.TheOpen.{Expr-F, Stmt-F, Touch-F}
-use Rattle.lucid_core.specs.declared.body.Expr.TheFolds.{fold-Stmt}
+use Rattle.lucid_core.specs.declared.body.Expr.TheFolds.{fold-Expr, fold-Stmt, fold-Touch}
 use Rattle.lucid_core.specs.Children.{expr_children, stmt_children, touch_children}
 use Rattle.lucid_core.specs.Parts.{Parts}
 
@@ -18,24 +20,30 @@ holes_of (a ∷ b ∷ rest) = if nat_eq a 37 && nat_eq b 100 then holes_of rest 
 abbrev pub Printed : Type 0
 Printed = List (List ℕ) → Bool
 
-abbrev pub each : List Printed → Printed
-each parts = λ forms. list_all (λ test. test forms) parts
+abbrev pub each_filled : List Printed → Printed
+each_filled parts = λ forms. list_all (λ test. test forms) parts
 
 abbrev pub expr_step : Expr-F Printed Printed Printed → Printed
-expr_step e = each (expr_children e)
+expr_step e = each_filled (expr_children e)
 
 abbrev pub touch_step : Touch-F Printed Printed Printed → Printed
-touch_step t = each (touch_children t)
+touch_step t = each_filled (touch_children t)
 
 abbrev pub stmt_step : Stmt-F Printed Printed Printed → Printed
-stmt_step (Stmt-F.Say form xs) = λ forms. nat_le (length xs) 8 && option_map_or (λ text. nat_eq (length xs) (holes_of text)) (slice_get forms form) false && each xs forms
-stmt_step s = each (stmt_children s)
+stmt_step (Stmt-F.Say form xs) = λ forms. option_map_or (λ text. nat_eq (length xs) (holes_of text)) (slice_get forms form) false && each_filled xs forms
+stmt_step s = each_filled (stmt_children s)
+
+abbrev pub expr_texts : Expr → Printed
+expr_texts = fold-Expr Printed Printed Printed expr_step stmt_step touch_step
 
 abbrev pub stmt_texts : Stmt → Printed
 stmt_texts = fold-Stmt Printed Printed Printed expr_step stmt_step touch_step
 
+abbrev pub touch_texts : Touch → Printed
+touch_texts = fold-Touch Printed Printed Printed expr_step stmt_step touch_step
+
 abbrev pub body_fills_texts : List Stmt → Printed
-body_fills_texts ss = each (map stmt_texts ss)
+body_fills_texts ss = each_filled (map stmt_texts ss)
 
 abbrev pub texts_are_filled : Parts → Bool
 texts_are_filled parts =

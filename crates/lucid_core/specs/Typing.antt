@@ -40,15 +40,16 @@ same = pointwise nat_eq
 abbrev pub value : Typed Answer → Typed ℕ
 value x s = x s >>= (λ answer. answer)
 
-abbrev pub all : {A : Type 0} → List (Typed A) → Typed (List A)
-all [] s = Some []
-all (x ∷ xs) s = do
+-- What is known of each of these, in order.
+abbrev pub all_typed : {A : Type 0} → List (Typed A) → Typed (List A)
+all_typed [] s = Some []
+all_typed (x ∷ xs) s = do
   a ← x s
-  as_ ← all xs s
+  as_ ← all_typed xs s
   Some (a ∷ as_)
 
 abbrev pub values : List (Typed Answer) → Typed (List ℕ)
-values xs = all (map value xs)
+values xs = all_typed (map value xs)
 
 -- The cell width of an array.
 abbrev pub cell_width : ArrayName → Typed ℕ
@@ -95,13 +96,13 @@ expr_step (Expr-F.Hash w xs) s = do
 expr_step (Expr-F.Array t) s = t s
 expr_step (Expr-F.Fun k names xs) s = do
   f ← slice_get s.funs k
-  cells ← all (map cell_width names) s
+  cells ← all_typed (map cell_width names) s
   args ← values xs s
   call_answer f cells args
 expr_step (Expr-F.Inlined given ss) s = do
   args ← values (map (λ g. g.1) given) s
-  held ← all (map (λ g. local_width g.0) given) s
-  returns ← all ss s
+  held ← all_typed (map (λ g. local_width g.0) given) s
+  returns ← all_typed ss s
   answer ← one_answer (joined returns)
   given_that (same args held) answer
 
@@ -131,8 +132,8 @@ stmt_step (Stmt-F.Drop x) s = do
   Some []
 stmt_step (Stmt-F.If x ss ts) s = do
   w ← value x s
-  first ← all ss s
-  second ← all ts s
+  first ← all_typed ss s
+  second ← all_typed ts s
   given_that (nat_eq w 1) (joined first ++ joined second)
 stmt_step (Stmt-F.Gen event xs delay to delay_first) s = do
   given ← event_is_given event xs s
@@ -167,7 +168,7 @@ gives_only answer None = false
 gives_only answer (Some returns) = list_all (option_eq nat_eq answer) (joined returns)
 
 abbrev pub body_gives_only : Answer → List Stmt → Scope → Bool
-body_gives_only answer ss s = gives_only answer (all (map returns_of ss) s)
+body_gives_only answer ss s = gives_only answer (all_typed (map returns_of ss) s)
 
 -- In all bodies. A function gives values of its answer's width, or none; a handler gives none.
 abbrev pub widths_agree : Parts → Bool

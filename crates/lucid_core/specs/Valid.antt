@@ -3,9 +3,10 @@ use Rattle.std.specs.Prelude.{◌≡◌, [], IsTrue}
 use Rattle.lucid_core.specs.Parts.{Parts}
 use Rattle.lucid_core.specs.Assigned.{reads_follow_assignments}
 use Rattle.lucid_core.specs.Events.{events_and_handlers_agree}
-use Rattle.lucid_core.specs.Forms.{has_core_forms, has_flat_forms}
+use Rattle.lucid_core.specs.Syntax.{has_core_syntax, has_flat_syntax}
 use Rattle.lucid_core.specs.Limits.{declarations_keep_limits, bodies_keep_limits}
 use Rattle.lucid_core.specs.Names.{names_are_there}
+use Rattle.lucid_core.specs.Numbered.{declarations_are_numbered}
 use Rattle.lucid_core.specs.OutCount.{outs_are_few}
 use Rattle.lucid_core.specs.Returns.{returns_stand_last}
 use Rattle.lucid_core.specs.Texts.{texts_are_filled}
@@ -24,15 +25,16 @@ pub record IsSound (parts : Parts) : Type 0 where
   pub declarations : IsTrue (declarations_keep_limits parts)
   pub bodies : IsTrue (bodies_keep_limits parts)
   pub texts : IsTrue (texts_are_filled parts)
+  pub numbered : IsTrue (declarations_are_numbered parts)
 
 -- A valid core.
 pub record IsValid (parts : Parts) : Type 0 where
   pub sound : IsSound parts
-  pub forms : IsTrue (has_core_forms parts)
+  pub syntax : IsTrue (has_core_syntax parts)
 
 -- A valid flat core.
 pub record IsValidFlat (parts : Parts) : Type 0 where
   pub sound : IsSound parts
-  pub forms : IsTrue (has_flat_forms parts)
+  pub syntax : IsTrue (has_flat_syntax parts)
   pub no_functions : parts.funs ≡ []
   pub inlined : IsTrue (inlined_keep_to_themselves parts)

@@ -6,7 +6,7 @@ use Rattle.std.proofs.lemmas.Bool.{eqb-true}
 use Rattle.lucid_core.specs.declared.defs.EventDef.{EventDef}
 use Rattle.lucid_core.specs.Texts as texts
 use Rattle.lucid_core.specs.Limits as limits
-use Rattle.lucid_core.specs.Forms as forms
+use Rattle.lucid_core.specs.Syntax as syntax
 use Rattle.lucid_core.specs.Assigned as flow
 use Rattle.lucid_core.specs.Returns as returns
 use Rattle.lucid_core.specs.OutCount as outs
@@ -40,15 +40,15 @@ module _ (arrays : ℕ) (events : List EventDef) (locals : ℕ) where
   abbrev Fits : Action → Type 0
   Fits a = action_fits arrays events locals a ≡ true
 
-  forms_arg : (a : Arg) → arg_fold forms.not_inlined forms.any_stmt forms.touch_step a ≡ true
-  forms_arg (arguments.Fixed n) = refl
-  forms_arg (arguments.Local i) = refl
+  syntax_arg : (a : Arg) → arg_fold syntax.not_inlined syntax.any_stmt syntax.touch_step a ≡ true
+  syntax_arg (arguments.Fixed n) = refl
+  syntax_arg (arguments.Local i) = refl
 
-  pub forms_action : (a : Action) → Fits a → action_fold forms.not_inlined forms.any_stmt forms.touch_step a ≡ true
-  forms_action (actions.Set array index value) h = rw (forms_arg index, forms_arg value) refl
-  forms_action (actions.Generate event args) h =
-      rw (no_more (map (arg_fold forms.not_inlined forms.any_stmt forms.touch_step) args))
-      (all_hold (arg_fits locals) (arg_fold forms.not_inlined forms.any_stmt forms.touch_step) (λ b. b) (λ a _. forms_arg a) args (generate_fits arrays events locals event args h).1)
+  pub syntax_action : (a : Action) → Fits a → action_fold syntax.not_inlined syntax.any_stmt syntax.touch_step a ≡ true
+  syntax_action (actions.Set array index value) h = rw (syntax_arg index, syntax_arg value) refl
+  syntax_action (actions.Generate event args) h =
+      rw (no_more (map (arg_fold syntax.not_inlined syntax.any_stmt syntax.touch_step) args))
+      (all_hold (arg_fits locals) (arg_fold syntax.not_inlined syntax.any_stmt syntax.touch_step) (λ b. b) (λ a _. syntax_arg a) args (generate_fits arrays events locals event args h).1)
 
   texts_arg : (said : List (List ℕ)) (a : Arg) → arg_fold texts.expr_step texts.stmt_step texts.touch_step a said ≡ true
   texts_arg said (arguments.Fixed n) = refl

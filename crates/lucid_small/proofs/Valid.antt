@@ -1,5 +1,5 @@
 -- A program that keeps the limits is a valid core, rule by rule.
-use Rattle.std.proofs.Common.{◌≡◌, ℕ, ◌+◌, ◌<◌, ◌≤◌, List, [], ◌∷◌, Option, None, Some, Bool, true, false, cond, ◌&&◌, ◌||◌, length, map, take, nat_eq, nat_lt, nat_le, refl, sym, ◌∙◌, arith}
+use Rattle.std.proofs.Common.{◌≡◌, ℕ, ◌+◌, ◌<◌, ◌≤◌, List, [], ◌∷◌, Option, None, Some, Bool, true, false, cond, ◌&&◌, ◌||◌, length, map, take, nat_eq, nat_lt, nat_le, refl, sym, ap, ◌∙◌, arith}
 use Rattle.std.specs.List.{list_all, list_any, enumerate_from, slice_get, count_by, starts_with}
 use Rattle.std.specs.Option.{option_map_or, option_eq}
 use Rattle.std.proofs.lemmas.Bool.{ltb-true, eqb-true}
@@ -18,9 +18,10 @@ use Rattle.lucid_core.specs.Events as links
 use Rattle.lucid_core.specs.Names as names
 use Rattle.lucid_core.specs.Texts as texts
 use Rattle.lucid_core.specs.Limits as limits
-use Rattle.lucid_core.specs.Forms as forms
+use Rattle.lucid_core.specs.Syntax as syntax
 use Rattle.lucid_core.specs.Assigned as flow
 use Rattle.lucid_core.specs.Returns as returns
+use Rattle.lucid_core.specs.Numbered.{rising}
 use Rattle.lucid_core.specs.OutCount as outs
 use Rattle.lucid_core.specs.Typing as typing
 use Rattle.lucid_core.specs.Uses as uses
@@ -30,10 +31,10 @@ use Rattle.lucid_core.specs.Valid.{IsValid}
 use Rattle.lucid_small.specs.declared.small.Action.{Action}
 use Rattle.lucid_small.specs.declared.small.Handler.{Handler}
 use Rattle.lucid_small.specs.Program.{Declared}
-use Rattle.lucid_small.specs.Small.{are_wide, array_fits, event_fits, is_handled, handles, action_fits, is_out, handler_fits, arrays_fit, events_fit, handlers_fit, is_small}
+use Rattle.lucid_small.specs.Small.{are_wide, array_fits, event_fits, is_handled, handles, action_fits, is_out, handler_fits, arrays_fit, events_fit, handlers_fit, are_numbered, is_small}
 use Rattle.lucid_small.specs.Spelled.{stmt_of, handler_of, parts_of}
 use Rattle.lucid_small.proofs.Folds.{action_fold, action_folds}
-use Rattle.lucid_small.proofs.Rules.{forms_action, texts_action, limits_action, returns_action, outs_action, flow_action, flow_assigns}
+use Rattle.lucid_small.proofs.Rules.{syntax_action, texts_action, limits_action, returns_action, outs_action, flow_action, flow_assigns}
 use Rattle.lucid_small.proofs.Widths.{names_action, widths_action}
 use Rattle.lucid_small.proofs.Holding.{first_holds, second_holds, both_hold, all_hold, all_numbered_hold, all_hold_numbered, without_numbers, is_there, holds_at, test_at_map}
 
@@ -123,7 +124,7 @@ module _ (arrays : ℕ) (events : List EventDef) (locals : ℕ) where
       rw (action_folds outs.expr_step outs.stmt_step outs.touch_step a, outs_action arrays events locals counts a, outs_body counts body) (sym (sum_by-cons (λ x. cond (is_out x) 1 0) a body))
 
   flow_body : (body : List Action) → list_all (action_fits arrays events locals) body ≡ true → (known : List ℕ) → ((i : ℕ) → nat_lt i locals ≡ true → is_in known i ≡ true)
-      → flow.block (map flow.stmt_flow (map stmt_of body)) known ≡ true
+      → flow.block_reads_assigned (map flow.stmt_flow (map stmt_of body)) known ≡ true
   flow_body [] h known has = refl
   flow_body (a ∷ body) h known has =
       let own = flow_action arrays events locals known has a (first_holds (action_fits arrays events locals a) (list_all (action_fits arrays events locals) body) h) in
@@ -145,7 +146,7 @@ module _ (d : Declared) (h : Handler) where
   names_body = all_made names.expr_step names.stmt_step names.touch_step (action_fits (length scope.arrays) d.events (length h.locals)) (λ test. test scope) (names_action scope d.events refl)
 
   module _ (each : list_all event_fits d.events ≡ true) (wide_arrays : are_wide scope.arrays ≡ true) (wide_locals : are_wide h.locals ≡ true) where
-    all_returns : (body : List Action) → Stands body → typing.all (map typing.returns_of (map stmt_of body)) scope ≡ Some (map (λ a. []) body)
+    all_returns : (body : List Action) → Stands body → typing.all_typed (map typing.returns_of (map stmt_of body)) scope ≡ Some (map (λ a. []) body)
     all_returns [] fits = refl
     all_returns (a ∷ body) fits =
         let own = widths_action scope d.events refl each wide_arrays wide_locals a (first_holds (action_fits (length scope.arrays) d.events (length h.locals) a) (list_all (action_fits (length scope.arrays) d.events (length h.locals)) body) fits) in
@@ -158,6 +159,15 @@ module _ (d : Declared) (h : Handler) where
 
     widths_body : (body : List Action) → Stands body → typing.body_gives_only None (map stmt_of body) scope ≡ true
     widths_body body fits = rw (all_returns body fits, none_joined body) refl
+
+-- The numbers of the handlers' declarations are those that were read, and none is that of a function.
+decls : (hs : List Handler) → map (λ h. h.origin.decl) hs ≡ map (λ h. h.decl) (map handler_of hs)
+decls [] = refl
+decls (h ∷ hs) = ap (λ (ns : List ℕ). h.origin.decl ∷ ns) (decls hs)
+
+none_shared : (hs : List Handler) → list_all (λ h. true) (map handler_of hs) ≡ true
+none_shared [] = refl
+none_shared (h ∷ hs) = none_shared hs
 
 -- All handlers pass a test where each that fits does.
 module _ (d : Declared) (each : list_all event_fits d.events ≡ true) (fits : list_all (λ h. handles d.events h.0 h.1 && handler_fits d.arrays d.events h.1) (enumerate_from 0 d.handlers) ≡ true) where
@@ -186,7 +196,7 @@ module _ (d : Declared) (each : list_all event_fits d.events ≡ true) (fits : l
       (λ i below. places_have f.event.params 0 i (omega arith) (let b = ltb-true i (length h.locals) below in let e = f.count in omega arith)))
 
   module _ (wide_arrays : are_wide (map (λ a. a.width) d.arrays) ≡ true) (few : nat_le (length d.arrays) 64 ≡ true) (sizes : list_all (λ a. limits.is_between 1 65536 a.size) d.arrays ≡ true)
-      (handled : list_all (λ e. is_handled d.handlers e.0 e.1) (enumerate_from 0 d.events) ≡ true) where
+      (handled : list_all (λ e. is_handled d.handlers e.0 e.1) (enumerate_from 0 d.events) ≡ true) (numbered : are_numbered d.handlers ≡ true) where
     valid : IsValid (parts_of d)
     valid = record {
       sound = record {
@@ -211,24 +221,27 @@ module _ (d : Declared) (each : list_all event_fits d.events ≡ true) (fits : l
             (λ k h f. all_made limits.expr_step limits.stmt_step limits.touch_step (action_fits (length d.arrays) d.events (length h.locals)) (λ b. b) (limits_action (length d.arrays) d.events (length h.locals) each) h.body f.body);
         texts = handlers_pass (λ h. texts.body_fills_texts h.body [])
             (λ k h f. all_made texts.expr_step texts.stmt_step texts.touch_step (action_fits (length d.arrays) d.events (length h.locals)) (λ test. test []) (texts_action (length d.arrays) d.events (length h.locals) []) h.body f.body);
+        numbered = both_hold (rising 1 (map (λ h. h.decl) (map handler_of d.handlers))) (list_all (λ h. true) (map handler_of d.handlers)) (ap (rising 1) (sym (decls d.handlers)) ∙ numbered) (none_shared d.handlers);
       };
-      forms = handlers_pass (λ h. list_all forms.is_core_stmt h.body)
-          (λ k h f. all_hold (action_fits (length d.arrays) d.events (length h.locals)) stmt_of forms.is_core_stmt
-          (λ a p. rw (action_folds forms.not_inlined forms.any_stmt forms.touch_step a) (forms_action (length d.arrays) d.events (length h.locals) a p)) h.body f.body);
+      syntax = handlers_pass (λ h. list_all syntax.is_core_stmt h.body)
+          (λ k h f. all_hold (action_fits (length d.arrays) d.events (length h.locals)) stmt_of syntax.is_core_stmt
+          (λ a p. rw (action_folds syntax.not_inlined syntax.any_stmt syntax.touch_step a) (syntax_action (length d.arrays) d.events (length h.locals) a p)) h.body f.body);
     }
 
 pub small_is_valid : (d : Declared) → is_small d ≡ true → IsValid (parts_of d)
 unfolding arrays_fit events_fit handlers_fit
 small_is_valid d h =
     let event_test = λ (e : ℕ × EventDef). event_fits e.1 && is_handled d.handlers e.0 e.1 in
-    let front = first_holds (arrays_fit d.arrays && events_fit d.events d.handlers) (handlers_fit d.arrays d.events d.handlers) h in
+    let limits_hold = first_holds (arrays_fit d.arrays && events_fit d.events d.handlers && handlers_fit d.arrays d.events d.handlers) (are_numbered d.handlers) h in
+    let front = first_holds (arrays_fit d.arrays && events_fit d.events d.handlers) (handlers_fit d.arrays d.events d.handlers) limits_hold in
     let arrays : nat_le (length d.arrays) 64 && list_all array_fits d.arrays ≡ true = first_holds (arrays_fit d.arrays) (events_fit d.events d.handlers) front in
     let each_array = second_holds (nat_le (length d.arrays) 64) (list_all array_fits d.arrays) arrays in
     let events : list_all event_test (enumerate_from 0 d.events) ≡ true = second_holds (arrays_fit d.arrays) (events_fit d.events d.handlers) front in
     valid d
     (without_numbers event_test event_fits (λ k e p. first_holds (event_fits e) (is_handled d.handlers k e) p) 0 d.events events)
-    (second_holds (arrays_fit d.arrays && events_fit d.events d.handlers) (handlers_fit d.arrays d.events d.handlers) h)
+    (second_holds (arrays_fit d.arrays && events_fit d.events d.handlers) (handlers_fit d.arrays d.events d.handlers) limits_hold)
     (all_hold array_fits (λ a. a.width) (λ w. nat_eq w 32) (λ a p. first_holds (nat_eq a.width 32) (limits.is_between 1 65536 a.size) p) d.arrays each_array)
     (first_holds (nat_le (length d.arrays) 64) (list_all array_fits d.arrays) arrays)
     (all_follow array_fits (λ a. limits.is_between 1 65536 a.size) (λ a p. second_holds (nat_eq a.width 32) (limits.is_between 1 65536 a.size) p) d.arrays each_array)
     (all_follow event_test (λ e. is_handled d.handlers e.0 e.1) (λ e p. second_holds (event_fits e.1) (is_handled d.handlers e.0 e.1) p) (enumerate_from 0 d.events) events)
+    (second_holds (arrays_fit d.arrays && events_fit d.events d.handlers && handlers_fit d.arrays d.events d.handlers) (are_numbered d.handlers) h)

@@ -1,10 +1,11 @@
 -- Which programs keep the limits, with numbers that agree.
-use Rattle.std.specs.Prelude.{ℕ, List, Some, Bool, true, false, ◌&&◌, length, count_by, nat_eq, nat_lt, nat_le, slice_get}
+use Rattle.std.specs.Prelude.{ℕ, List, Some, Bool, true, false, ◌&&◌, length, map, count_by, nat_eq, nat_lt, nat_le, slice_get}
 use Rattle.std.specs.List.{list_all, enumerate_from}
 use Rattle.std.specs.Option.{option_map_or, option_eq}
 use Rattle.lucid_base.specs.declared.array.ArrayDef.{ArrayDef}
 use Rattle.lucid_core.specs.declared.defs.EventDef.{EventDef}
 use Rattle.lucid_core.specs.Limits.{is_between}
+use Rattle.lucid_core.specs.Numbered.{rising}
 use Rattle.lucid_small.specs.declared.small.Arg.{Arg}
 use Rattle.lucid_small.specs.declared.small.Arg.TheVariants as arguments
 use Rattle.lucid_small.specs.declared.small.Action.{Action}
@@ -64,6 +65,10 @@ events_fit events handlers = list_all (λ e. event_fits e.1 && is_handled handle
 unfoldable pub handlers_fit : List ArrayDef → List EventDef → List Handler → Bool
 handlers_fit arrays events handlers = list_all (λ h. handles events h.0 h.1 && handler_fits arrays events h.1) (enumerate_from 0 handlers)
 
+-- The numbers of the declarations rise along the handlers, as they do where they were read one after another.
+abbrev pub are_numbered : List Handler → Bool
+are_numbered handlers = rising 1 (map (λ h. h.origin.decl) handlers)
+
 -- The limits are kept, events and handlers name each other, so no event has two handlers, and statements name what is there.
 abbrev pub is_small : Declared → Bool
-is_small d = arrays_fit d.arrays && events_fit d.events d.handlers && handlers_fit d.arrays d.events d.handlers
+is_small d = arrays_fit d.arrays && events_fit d.events d.handlers && handlers_fit d.arrays d.events d.handlers && are_numbered d.handlers

@@ -2,7 +2,7 @@
 ghost use Rattle.std.specs.Prelude.{◌≡◌, count_by};
 ghost use Rattle.std.specs.List.{list_all};
 ghost use Rattle.lucid_small.specs.Program.{seen};
-ghost use Rattle.lucid_small.specs.Small.{are_wide, array_fits, arrays_fit, events_fit, handlers_fit, event_fits, is_handled, arg_fits, action_fits, is_out, handler_fits, handles, takes, is_small};
+ghost use Rattle.lucid_small.specs.Small.{are_wide, array_fits, arrays_fit, events_fit, handlers_fit, event_fits, is_handled, arg_fits, action_fits, is_out, handler_fits, handles, takes, are_numbered, is_small};
 
 use crate::program::Program;
 use crate::small::{Action, Arg, Handler};
@@ -24,7 +24,25 @@ pub fn is_small(program: &Program) -> bool
     let arrays = program.arrays.as_slice();
     let events = program.events.as_slice();
     let handlers = program.handlers.as_slice();
-    arrays_fit(arrays) && events_fit(events, handlers) && handlers_fit(arrays, events, handlers)
+    arrays_fit(arrays)
+        && events_fit(events, handlers)
+        && handlers_fit(arrays, events, handlers)
+        && are_numbered(handlers)
+}
+
+// Whether the numbers of the declarations rise along the handlers.
+fn are_numbered(handlers: &[Handler]) -> bool
+    ensures { result ≡ are_numbered handlers.now }
+{
+    let mut least = 1;
+    for handler in handlers {
+        let number = handler.origin.decl as u64;
+        if number < least {
+            return false;
+        }
+        least = number + 1;
+    }
+    true
 }
 
 #[tactic(auto, unfolding(crate::specs::Small::arrays_fit))]

@@ -1,8 +1,8 @@
 // The program of specs/StepExamples.antt, built part by part.
-ghost use Rattle.std.specs.Prelude.{◌≡◌, [], ◌∷◌, IfOk, None, Some, true, false};
+ghost use Rattle.std.specs.Prelude.{◌≡◌, ◌≤◌, [], ◌∷◌, IfOk, None, Some, true, false};
 ghost use Rattle.lucid_base.specs.declared.array.ArrayName.TheVariants.{Global as Declared};
 ghost use Rattle.lucid_core.specs.ExamplePrograms.{number as number_of, local as local_of, one, array as array_of, less, hash as hash_of, call as call_of, plus as plus_of, update_with, say as say_of, bump as bump_of, bumps as bumps_of};
-ghost use Rattle.lucid_core.specs.StepExamples.{declared as declared_of, handler_of, look as look_of, say_bump as say_bump_of, say_unless_small as say_unless_small_of, count as count_of, counting as counting_of, group as group_of, say_hash as say_hash_of, events as events_of, handlers as handlers_of, worked as worked_of};
+ghost use Rattle.lucid_core.specs.StepExamples.{declared as declared_of, handling, look as look_of, say_bump as say_bump_of, say_unless_small as say_unless_small_of, count as count_of, counting as counting_of, group as group_of, say_hash as say_hash_of, events as events_of, handlers as handlers_of, worked as worked_of};
 
 use crate::operate::low_bits;
 use crate::{Core, EventDef, Expr, FunDef, HandlerDef, MemopDef, Stmt, Touch};
@@ -227,15 +227,16 @@ fn declared(alloc: Global, handler: Option<u32>) -> Result<EventDef, Memory>
 }
 
 fn handler(alloc: Global, event: u32, body: Items<Stmt>) -> Result<HandlerDef, Memory>
-    ensures { IfOk result (λ h. h ≡ handler_of event body) }
+    requires { event ≤ 7 }
+    ensures { IfOk result (λ h. h ≡ handling event body) }
 {
     let locals = single(alloc, Width::int())?;
     Ok(HandlerDef {
         event,
         locals,
         body,
-        decl: 5,
-        line: 5,
+        decl: event + 5,
+        line: event + 5,
     })
 }
 
@@ -256,14 +257,15 @@ fn events(alloc: Global) -> Result<Vec<EventDef>, Memory>
 
 /// A handler whose body is two statements.
 fn both(alloc: Global, event: u32, first: Stmt, second: Stmt) -> Result<HandlerDef, Memory>
-    ensures { IfOk result (λ h. h ≡ handler_of event (first ∷ second ∷ [])) }
+    requires { event ≤ 7 }
+    ensures { IfOk result (λ h. h ≡ handling event (first ∷ second ∷ [])) }
 {
     let body = pair(alloc, first, second)?;
     handler(alloc, event, body)
 }
 
 fn look_handler(alloc: Global) -> Result<HandlerDef, Memory>
-    ensures { IfOk result (λ h. h ≡ handler_of 0 (look_of ∷ look_of ∷ [])) }
+    ensures { IfOk result (λ h. h ≡ handling 0 (look_of ∷ look_of ∷ [])) }
 {
     let first = look(alloc)?;
     let second = look(alloc)?;
@@ -271,7 +273,7 @@ fn look_handler(alloc: Global) -> Result<HandlerDef, Memory>
 }
 
 fn bump_handler(alloc: Global) -> Result<HandlerDef, Memory>
-    ensures { IfOk result (λ h. h ≡ handler_of 1 (say_bump_of 0 ∷ say_bump_of 1 ∷ [])) }
+    ensures { IfOk result (λ h. h ≡ handling 1 (say_bump_of 0 ∷ say_bump_of 1 ∷ [])) }
 {
     let first = say_bump(alloc, 0)?;
     let second = say_bump(alloc, 1)?;
@@ -280,35 +282,37 @@ fn bump_handler(alloc: Global) -> Result<HandlerDef, Memory>
 
 /// A handler whose body is one statement.
 fn alone(alloc: Global, event: u32, stmt: Stmt) -> Result<HandlerDef, Memory>
-    ensures { IfOk result (λ h. h ≡ handler_of event (stmt ∷ [])) }
+    requires { event ≤ 7 }
+    ensures { IfOk result (λ h. h ≡ handling event (stmt ∷ [])) }
 {
     let body = single(alloc, stmt)?;
     handler(alloc, event, body)
 }
 
 fn small_handler(alloc: Global) -> Result<HandlerDef, Memory>
-    ensures { IfOk result (λ h. h ≡ handler_of 2 (say_unless_small_of ∷ [])) }
+    ensures { IfOk result (λ h. h ≡ handling 2 (say_unless_small_of ∷ [])) }
 {
     let stmt = say_unless_small(alloc)?;
     alone(alloc, 2, stmt)
 }
 
 fn counting_handler(alloc: Global, event: u32, delay_first: bool) -> Result<HandlerDef, Memory>
-    ensures { IfOk result (λ h. h ≡ handler_of event (counting_of delay_first ∷ [])) }
+    requires { event ≤ 7 }
+    ensures { IfOk result (λ h. h ≡ handling event (counting_of delay_first ∷ [])) }
 {
     let stmt = counting(alloc, delay_first)?;
     alone(alloc, event, stmt)
 }
 
 fn group_handler(alloc: Global) -> Result<HandlerDef, Memory>
-    ensures { IfOk result (λ h. h ≡ handler_of 5 (group_of ∷ [])) }
+    ensures { IfOk result (λ h. h ≡ handling 5 (group_of ∷ [])) }
 {
     let stmt = group(alloc)?;
     alone(alloc, 5, stmt)
 }
 
 fn hash_handler(alloc: Global) -> Result<HandlerDef, Memory>
-    ensures { IfOk result (λ h. h ≡ handler_of 7 (say_hash_of ∷ [])) }
+    ensures { IfOk result (λ h. h ≡ handling 7 (say_hash_of ∷ [])) }
 {
     let stmt = say_hash(alloc)?;
     alone(alloc, 7, stmt)
