@@ -1,10 +1,9 @@
 -- What `begin` and `read` of files in memory make of them, as the trait says it.
-use Rattle.std.proofs.Common.{◌≡◌, ℕ, ◌+◌, ◌<◌, ◌≤◌, ◌++◌, List, [], length, take, drop, min, Option, None, Some, IsSome, unwrap_or, refl, sym, ◌∙◌, ap, subst, arith, Result, Ok, Err, OnOk, OnErr, IfOk, drop-drop, take-append-drop, take_at, length-take-le, length-drop, drop_of_length-le}
-use Rattle.std.specs.Option.{option_map}
+use Rattle.std.proofs.Common.{◌≡◌, ℕ, ◌+◌, ◌<◌, ◌≤◌, ◌++◌, List, [], length, take, drop, min, Option, None, Some, IsSome, refl, sym, ◌∙◌, ap, subst, arith, Result, Ok, Err, OnOk, OnErr, IfOk, drop-drop, take-append-drop, take_at, length-take-le, length-drop, drop_of_length-le}
 use Rattle.std.specs.Io.KnownBytes.{ReadConsumes}
 use Rattle.lucid_io.specs.Counts.{Rose, NoneFell, AllRose, OthersKept}
 use Rattle.lucid_io.specs.Contents.{SameHeld}
-use Rattle.lucid_io.specs.MemFiles.{MemFilesView, place_of, bytes_at, blamed_files, bytes_of, faults_of, left_of, unread, IsBegun, after_begin, after_failed_begin, after_read, after_failed_read}
+use Rattle.lucid_io.specs.MemFiles.{MemFilesView, place_of, bytes_at, blamed_files, bytes_of, faults_of, left_at, unread, IsBegun, after_begin, after_failed_begin, after_read, after_failed_read}
 use Rattle.lucid_io.proofs.FilesInMemory.{bytes_at-blamed_files}
 use Rattle.lucid_io.proofs.Faults.{Blames, bytes_of-blamed, faults_later, faults_rose, faults_other, place_some, names_one, place_of-blamed_files}
 
@@ -93,22 +92,23 @@ module _ {E : Type 0} where
       faults_other s t s.begun other (failed_read s t err) (λ same. none (subst (λ (o : Option ℕ). IsSome o) same some, same)) told
 
   pub read_bytes : (r : Result ℕ E) (s t : MemFilesView) (room room' : List ℕ) → IfOk r (λ n. n ≡ min (length room) (length (unread s))) → IfOk r (λ n. room' ≡ take n (unread s) ++ drop n room) →
-      length room' ≡ length room → IfOk r (λ n. t ≡ after_read s n) → OnErr r (t ≡ after_failed_read s) → ReadConsumes (left_of s) (left_of t) r room'
+      length room' ≡ length room → IfOk r (λ n. t ≡ after_read s n) → OnErr r (t ≡ after_failed_read s) → ReadConsumes (Some (unread s)) (Some (unread t)) r room'
   read_bytes (Ok n) s t room room' count filled long ok err =
-      subst (λ (v : MemFilesView). ReadConsumes {E = E} (left_of s) (left_of v) (Ok n) room') (sym ok) (at s.begun count filled)
+      subst (λ (v : MemFilesView). ReadConsumes {E = E} (Some (unread s)) (Some (unread v)) (Ok n) room') (sym ok) (at s.begun count filled)
     where
-      at : (begun : Option ℕ) → n ≡ min (length room) (length (unwrap_or (option_map (λ i. drop s.given (bytes_at s.files i)) begun) [])) →
-          room' ≡ take n (unwrap_or (option_map (λ i. drop s.given (bytes_at s.files i)) begun) []) ++ drop n room →
-          ReadConsumes {E = E} (option_map (λ i. drop s.given (bytes_at s.files i)) begun) (option_map (λ i. drop (s.given + n) (bytes_at s.files i)) begun) (Ok n) room'
-      at None count filled = (tt, λ none some. tt)
+      at : (begun : Option ℕ) → n ≡ min (length room) (length (left_at s.files begun s.given)) → room' ≡ take n (left_at s.files begun s.given) ++ drop n room →
+          ReadConsumes {E = E} (Some (left_at s.files begun s.given)) (Some (left_at s.files begun (s.given + n))) (Ok n) room'
+      at None count filled =
+          let nothing : n ≡ 0 = omega (arith, count) in
+          let gave : List ℕ → ℕ → Type 0 = λ taken k. [] ≡ take k taken ++ [] in (subst (gave room') (sym nothing) refl, λ none some. refl)
       at (Some i) count filled =
           let bytes = bytes_at s.files i in (
             subst (λ (l : List ℕ). drop s.given bytes ≡ take n l ++ drop (s.given + n) bytes) (sym filled) (moved bytes (drop n room) s.given n (omega (arith, count))),
             λ none some. ended bytes s.given n (length room) count none (omega (arith, some, long)),
           )
   read_bytes (Err x) s t room room' count filled long ok err =
-      subst (λ (v : MemFilesView). ReadConsumes {E = E} (left_of s) (left_of v) (Err x) room') (sym err) (at s.begun)
+      subst (λ (v : MemFilesView). ReadConsumes {E = E} (Some (unread s)) (Some (unread v)) (Err x) room') (sym err) (at s.begun)
     where
-      at : (begun : Option ℕ) → ReadConsumes {E = E} (option_map (λ i. drop s.given (bytes_at s.files i)) begun) (option_map (λ i. drop s.given (bytes_at (blamed_files s.files s.begun) i)) begun) (Err x) room'
-      at None = tt
+      at : (begun : Option ℕ) → left_at (blamed_files s.files s.begun) begun s.given ≡ left_at s.files begun s.given
+      at None = refl
       at (Some i) = ap (drop s.given) (bytes_at-blamed_files s.files s.begun i)

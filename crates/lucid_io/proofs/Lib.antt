@@ -1,3 +1,4 @@
 pub mod FilesInMemory
 pub mod Faults
 pub mod FileCalls
+pub mod Leaves

@@ -3,4 +3,4 @@ pub mod Counts
 pub mod MemFiles
 pub mod MemFilesFields
 pub mod MemSink
-pub mod Pieces
+pub mod Puts

@@ -1,5 +1,5 @@
 -- Files that are kept in memory, and what each call of `begin` and `read` makes of them.
-use Rattle.std.specs.Prelude.{◌≡◌, ℕ, ◌+◌, Bool, ◌||◌, if◌then◌else◌, zero, suc, List, [], ◌∷◌, drop, Option, None, Some, IsSome, is_none, unwrap_or, slice_get}
+use Rattle.std.specs.Prelude.{◌≡◌, ℕ, ◌+◌, Bool, ◌||◌, if◌then◌else◌, zero, suc, List, [], ◌∷◌, drop, Option, None, Some, IsSome, is_none, slice_get}
 use Rattle.std.specs.Option.{option_map, option_map_or}
 use Rattle.std.specs.Str.{bytes_eq}
 use Rattle.lucid_io.specs.Counts.{raised, is_failing}
@@ -45,17 +45,13 @@ faults_of s name = option_map_or (faults_at s.files) (place_of s.files name) s.a
 abbrev pub IsBegun : MemFilesView → List ℕ → Type 0
 IsBegun s name = IsSome s.begun × (place_of s.files name ≡ s.begun)
 
--- the bytes that the begun file still has after those it gave
-abbrev pub left_at : List FileView → Option ℕ → ℕ → Option (List ℕ)
-left_at files begun given = option_map (λ i. drop given (bytes_at files i)) begun
+-- the bytes that the begun file still has after those it gave; nothing, where nothing is begun
+abbrev pub left_at : List FileView → Option ℕ → ℕ → List ℕ
+left_at files begun given = option_map_or (λ i. drop given (bytes_at files i)) begun []
 
 -- the bytes of the begun file that are still unread
-abbrev pub left_of : MemFilesView → Option (List ℕ)
-left_of s = left_at s.files s.begun s.given
-
--- what the next read may give; nothing, where nothing is begun
 abbrev pub unread : MemFilesView → List ℕ
-unread s = unwrap_or (left_of s) []
+unread s = left_at s.files s.begun s.given
 
 -- the file at a place met one fault more
 abbrev pub raised_at : List FileView → ℕ → List FileView

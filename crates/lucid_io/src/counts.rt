@@ -1,6 +1,6 @@
 // Counts that stand still at the last u64: of faults, and of the calls that a fake numbers.
-ghost use Rattle.std.specs.Prelude.{◌≡◌};
-ghost use Rattle.lucid_io.specs.Counts.{raised, is_failing};
+ghost use Rattle.std.specs.Prelude.{◌≡◌, ℕ, ◌-◌, ◌^◌, ◌<◌, ◌≤◌};
+ghost use Rattle.lucid_io.specs.Counts.{raised, is_failing, Rose};
 
 // One more; at the last u64 a count stands still.
 pub(crate) fn raise(count: &mut u64)
@@ -18,3 +18,9 @@ pub(crate) fn next_fails(fails: &Vec<u64>, calls: &mut u64) -> bool
     raise(calls);
     fails
 }
+
+/// A count that rose is greater than it was, unless it stood at the last u64; and so only there it may rise and be the same.
+pub fn rises_are_seen()
+    ensures greater { (before now : ℕ) → Rose before now → before < 2 ^ 64 - 1 → before < now }
+    ensures still { (n : ℕ) → Rose n n → 2 ^ 64 - 1 ≤ n }
+{}

@@ -10,14 +10,17 @@ mod mem_sink;
 mod reading;
 mod real_files;
 mod real_out;
+mod room;
 mod sink;
 mod writing;
 
+pub use counts::rises_are_seen;
 pub use files::{Failed, Files};
 pub use mem_files::{MemFile, MemFiles};
 pub use mem_sink::MemSink;
 pub use reading::{Take, read_all};
 pub use real_files::RealFiles;
 pub use real_out::RealOut;
+pub use room::{ROOM, Room, hold, release};
 pub use sink::Sink;
 pub use writing::{WriteFault, put_all};

@@ -1,10 +1,10 @@
 // Files in memory, which fail at the calls that their maker chooses. They tell everything.
-ghost use Rattle.std.specs.Prelude.{◌≡◌, ◌↔◌, ℕ, ◌+◌, ◌-◌, ◌^◌, ◌<◌, ◌≤◌, ◌++◌, List, [], Option, Some, length, map, min, take, drop, IsTrue, IsErr, IsSome, IfOk, OnOk, OnErr, MatchResult, unwrap_or};
+ghost use Rattle.std.specs.Prelude.{◌≡◌, ◌↔◌, ℕ, ◌+◌, ◌-◌, ◌^◌, ◌<◌, ◌≤◌, ◌++◌, List, [], Option, Some, length, map, min, take, drop, IsTrue, IsErr, IsSome, IfOk, OnOk, OnErr, MatchResult};
 ghost use Rattle.std.specs.Io.{ReadsAtMost};
 ghost use Rattle.std.specs.Io.KnownBytes.{ReadConsumes};
 ghost use Rattle.lucid_io.specs.Contents.{SameHeld, Tells};
 ghost use Rattle.lucid_io.specs.Counts.{plus_capped, Rose, NoneFell, SameCounts, AllRose, OthersKept, is_failing};
-ghost use Rattle.lucid_io.specs.MemFiles.{bytes_of, IsBegun, left_of, unread, faults_of, begin_fails, after_begin, after_failed_begin, after_read, after_failed_read, place_of, blamed_files, blamed_absent, left_at};
+ghost use Rattle.lucid_io.specs.MemFiles.{bytes_of, IsBegun, unread, faults_of, begin_fails, after_begin, after_failed_begin, after_read, after_failed_read, place_of, blamed_files, blamed_absent, left_at};
 
 use crate::counts::{next_fails, raise};
 use crate::files::{Failed, Files};
@@ -113,7 +113,7 @@ impl Files for MemFiles {
 
     ghost begun = { IsBegun };
 
-    ghost left = { left_of };
+    ghost left = { λ s. Some (unread s) };
 
     ghost given = { λ s. s.given };
 
@@ -130,7 +130,7 @@ impl Files for MemFiles {
         ensures held { SameHeld (bytes_of self.old) (bytes_of self.new) }
         ensures begun { OnOk result (IsBegun self.new name.now) }
         ensures one { OnOk result ((other : List ℕ) → IsBegun self.new other → IsSome (bytes_of self.old other) → other ≡ name.now) }
-        ensures left { OnOk result (Tells (bytes_of self.old name.now) (left_of self.new)) }
+        ensures left { OnOk result (Tells (bytes_of self.old name.now) (Some (unread self.new))) }
         ensures given { self.new.given ≡ 0 }
         ensures later { NoneFell (faults_of self.old) (faults_of self.new) }
         ensures quiet { OnOk result (SameCounts (faults_of self.old) (faults_of self.new)) }
@@ -154,7 +154,7 @@ impl Files for MemFiles {
         ensures begun { (name : List ℕ) → IsBegun self.old name → IsBegun self.new name }
         ensures no_other { (name : List ℕ) → IsBegun self.new name → IsBegun self.old name }
         ensures bound { ReadsAtMost result room.new }
-        ensures bytes { ReadConsumes (left_of self.old) (left_of self.new) result room.new }
+        ensures bytes { ReadConsumes (Some (unread self.old)) (Some (unread self.new)) result room.new }
         ensures given { MatchResult result (λ n. self.new.given ≡ plus_capped self.old.given n) (λ _. self.new.given ≡ self.old.given) }
         ensures later { NoneFell (faults_of self.old) (faults_of self.new) }
         ensures quiet { OnOk result (SameCounts (faults_of self.old) (faults_of self.new)) }
@@ -206,8 +206,8 @@ fn blame(files: &mut Vec<CountedFile>, absent: &mut u64, place: Option<usize>)
 fn copy_rest(files: &Vec<CountedFile>, begun: Option<usize>, given: usize, room: &mut [u8]) -> usize
     requires there { IsThere (map file_view files.now.items) begun }
     requires within { IsWithin (map file_view files.now.items) begun given }
-    ensures count { result ≡ min (length room.old) (length (unwrap_or (left_at (map file_view files.now.items) begun given) [])) }
-    ensures room { room.new ≡ take result (unwrap_or (left_at (map file_view files.now.items) begun given) []) ++ drop result room.old }
+    ensures count { result ≡ min (length room.old) (length (left_at (map file_view files.now.items) begun given)) }
+    ensures room { room.new ≡ take result (left_at (map file_view files.now.items) begun given) ++ drop result room.old }
     ensures still { IsWithin (map file_view files.now.items) begun (given + result) }
     ensures small { given + result < 2 ^ 64 }
 {

@@ -94,7 +94,7 @@ fn read_some<F: Read>(file: &mut Option<F>, room: &mut [u8]) -> Result<usize, Fa
 
 #[cfg(test)]
 mod tests {
-    use crate::{RealFiles, Take, read_all};
+    use crate::{Failed, Files, RealFiles, Take, read_all};
     use std::fs;
     use std::test::Fail;
 
@@ -110,6 +110,16 @@ mod tests {
             read_all(rt.alloc(), &mut files, PATH, 10).err(),
             Some(Take::TooLong)
         );
+
+        // Nothing is read of the file before, once a `begin` failed.
+        let mut room = [0u8; 4];
+        assert_eq!(rt; files.begin(PATH), Ok(()));
+        assert_eq!(rt; files.read(&mut room[..1]), Ok(1));
+        assert_eq!(rt; files.read(&mut room), Ok(4));
+        assert_eq!(rt; room.as_slice(), b"vent".as_slice());
+        assert_eq!(rt; files.begin("lucid_io_no_file.txt"), Err(Failed));
+        assert_eq!(rt; files.read(&mut room), Err(Failed));
+
         fs::remove_file(&rt, PATH)?;
         for name in [PATH, "."] {
             assert_eq!(rt;

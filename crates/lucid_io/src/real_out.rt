@@ -47,8 +47,9 @@ impl<W: Write + Drop> Sink for RealOut<W> {
 #[cfg(test)]
 mod tests {
     use crate::{RealOut, WriteFault, put_all};
-    use std::fs;
+    use std::io::Write;
     use std::test::Fail;
+    use std::{fs, io};
 
     const PATH: &str = "lucid_io_real_out.txt";
 
@@ -72,6 +73,58 @@ mod tests {
         assert_eq!(rt; put_all(&mut closed, b""), Ok(()));
         assert_eq!(rt; put_all(&mut closed, b"lost"), Err(WriteFault));
         fs::remove_file(&rt, PATH)?;
+        Ok(())
+    }
+
+    /// A stream that takes at most so many bytes a call, and keeps them.
+    #[derive(Drop)]
+    struct Narrow {
+        bytes: Vec<u8>,
+        most: usize,
+        calls: u64,
+    }
+
+    impl Write for Narrow {
+        fn write(&mut self, piece: &[u8]) -> io::Result<usize> {
+            let count = piece.len().min(self.most);
+            self.bytes.extend_from_slice(&piece[..count])?;
+            self.calls = self.calls.saturating_add(1);
+            Ok(count)
+        }
+
+        fn flush(&mut self) -> io::Result<()> {
+            Ok(())
+        }
+    }
+
+    #[test]
+    fn whole_pieces_reach_the_stream(rt: HostRuntime) -> Result<(), Fail> {
+        let alloc = rt.alloc();
+        for (length, most, calls) in [
+            (1usize, 1usize, 1),
+            (1, 4096, 1),
+            (3, 1, 3),
+            (10_000, 10_000, 1),
+            (10_000, 4096, 3),
+        ] {
+            let piece = vec![in alloc; b'x'; length]?;
+            let mut out = RealOut::new(Narrow {
+                bytes: Vec::new(alloc),
+                most,
+                calls: 0,
+            });
+            assert_eq!(rt; put_all(&mut out, piece.as_slice()), Ok(()));
+            assert_eq!(rt; out.stream.calls, calls, "{length} by {most}");
+            assert_eq!(rt; out.stream.bytes.as_slice(), piece.as_slice());
+        }
+
+        // A stream that takes no byte has failed.
+        let mut out = RealOut::new(Narrow {
+            bytes: Vec::new(alloc),
+            most: 0,
+            calls: 0,
+        });
+        assert_eq!(rt; put_all(&mut out, b"lost"), Err(WriteFault));
         Ok(())
     }
 }

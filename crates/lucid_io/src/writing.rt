@@ -1,8 +1,6 @@
 // A whole piece, written.
-ghost use Rattle.std.specs.Prelude.{◌≡◌, ◌≤◌, OnOk, OnErr};
-ghost use Rattle.std.specs.Io.KnownBytes.{Appends};
-ghost use Rattle.lucid_io.specs.Counts.{Rose};
-ghost use Rattle.lucid_io.specs.Pieces.{AppendsProperPrefix};
+ghost use Rattle.std.specs.Prelude.{OnOk, OnErr};
+ghost use Rattle.lucid_io.specs.Puts.{PutsAll, PutsPart};
 
 use crate::sink::Sink;
 
@@ -12,13 +10,8 @@ pub struct WriteFault;
 
 /// Writes the whole piece, or, where the sink's count of faults rose in this call, a proper prefix of it. Takes no memory.
 pub fn put_all<S: Sink>(sink: &mut S, piece: &[u8]) -> Result<(), WriteFault>
-    ensures ok { OnOk result (Appends (S.written sink.old) (S.written sink.new) piece.now) }
-    ensures cut { OnErr result (AppendsProperPrefix (S.written sink.old) (S.written sink.new) piece.now) }
-
-    // the count
-    ensures later { S.faults sink.old ≤ S.faults sink.new }
-    ensures quiet { OnOk result (S.faults sink.new ≡ S.faults sink.old) }
-    ensures cause { OnErr result (Rose (S.faults sink.old) (S.faults sink.new)) }
+    ensures all { OnOk result (PutsAll S.written S.faults sink.old sink.new piece.now) }
+    ensures part { OnErr result (PutsPart S.written S.faults sink.old sink.new piece.now) }
 {
     let mut at = 0;
     'put: while at < piece.len() {

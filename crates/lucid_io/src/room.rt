@@ -1,0 +1,118 @@
+// A room in which bytes wait to be written, so that many short pieces become one write.
+ghost use Rattle.std.specs.Prelude.{◌≡◌, ◌+◌, ◌≤◌, [], ◌++◌, length, nat_le, if◌then◌else◌, IsOk, OnOk, OnErr};
+ghost use Rattle.lucid_io.specs.Puts.{PutsAll, PutsPart, Leaves};
+
+use crate::sink::Sink;
+use crate::writing::{WriteFault, put_all};
+use std::marker::Model;
+
+/// For how many bytes there is room.
+pub const ROOM: usize = 4096;
+
+/// A room for bytes that wait to be written, on the stack. It takes no memory. Contracts see the bytes that wait in it.
+#[derive(Drop)]
+pub struct Room {
+    bytes: [u8; ROOM],
+    len: usize,
+}
+
+impl Model for Room {
+    ghost use Rattle.std.specs.Prelude.{List, ℕ, ◌≤◌, take};
+
+    ghost Value = { List ℕ };
+
+    ghost view = { λ room. take room.len room.bytes };
+
+    ghost invariant = { λ room. room.len ≤ 4096 };
+}
+
+impl Room {
+    /// An empty room.
+    pub fn new() -> Room
+        ensures { result ≡ [] }
+    {
+        Room {
+            bytes: [0; ROOM],
+            len: 0,
+        }
+    }
+
+    // Lets the piece wait behind what waits already, and says whether there was room for it.
+    fn admit(&mut self, piece: &[u8]) -> bool
+        ensures fits { result ≡ nat_le (length self.old + length piece.now) ROOM }
+        ensures after { self.new ≡ (if result then self.old ++ piece.now else self.old) }
+    {
+        if piece.len() > ROOM - self.len {
+            return false;
+        }
+        let end = self.len + piece.len();
+        self.bytes[self.len..end].copy_from_slice(piece);
+        self.len = end;
+        true
+    }
+}
+
+/// Lets the piece wait in the room, behind what waits there already. Where it doesn't fit, what waits is written first, and a piece that is
+/// longer than the room is written too.
+///
+/// Of both together all was put but what waits then; or, where the sink's count of faults rose in this call, a proper prefix
+/// was put, and nothing waits. Nothing is written where both fit the room.
+pub fn hold<S: Sink>(sink: &mut S, room: &mut Room, piece: &[u8]) -> Result<(), WriteFault>
+    ensures all { OnOk result (Leaves S.written S.faults sink.old sink.new (room.old ++ piece.now) room.new) }
+    ensures part { OnErr result (PutsPart S.written S.faults sink.old sink.new (room.old ++ piece.now)) }
+    ensures fits { length room.old + length piece.now ≤ ROOM → IsOk result × (room.new ≡ room.old ++ piece.now) × (sink.new ≡ sink.old) }
+    ensures lost { OnErr result (room.new ≡ []) }
+{
+    if room.admit(piece) {
+        return Ok(());
+    }
+    release(sink, room)?;
+    if room.admit(piece) {
+        return Ok(());
+    }
+    put_all(sink, piece)
+}
+
+/// Writes all that waits in the room, or, where the sink's count of faults rose in this call, a proper prefix of it. Then nothing waits.
+pub fn release<S: Sink>(sink: &mut S, room: &mut Room) -> Result<(), WriteFault>
+    ensures all { OnOk result (PutsAll S.written S.faults sink.old sink.new room.old) }
+    ensures part { OnErr result (PutsPart S.written S.faults sink.old sink.new room.old) }
+    ensures emptied { room.new ≡ [] }
+{
+    let put = put_all(sink, &room.bytes[..room.len]);
+    room.len = 0;
+    put
+}
+
+#[cfg(test)]
+mod tests {
+    use super::{Room, hold, release};
+    use crate::{MemSink, WriteFault};
+    use std::test::Fail;
+
+    #[test]
+    fn pieces_that_fit_are_one_write(rt: HostRuntime) -> Result<(), Fail> {
+        let alloc = rt.alloc();
+
+        // Write 0 goes well, and write 1 fails.
+        let mut sink = MemSink::new(alloc, 8192, [1].to_vec(alloc)?)?;
+        let mut room = Room::new();
+        for _ in 0..512 {
+            assert_eq!(rt; hold(&mut sink, &mut room, b"s0 a[0] "), Ok(()));
+        }
+        assert!(rt; sink.bytes().is_empty());
+        assert_eq!(rt; hold(&mut sink, &mut room, b"\n"), Ok(()));
+        assert_eq!(rt; sink.bytes().len(), 4096);
+        assert_eq!(rt; release(&mut sink, &mut room), Err(WriteFault));
+        assert_eq!(rt; release(&mut sink, &mut room), Ok(()));
+
+        // A piece that is longer than the room.
+        let long = vec![in alloc; b'x'; 4000]?;
+        assert_eq!(rt; hold(&mut sink, &mut room, long.as_slice()), Ok(()));
+        assert_eq!(rt; hold(&mut sink, &mut room, long.as_slice()), Ok(()));
+        assert_eq!(rt; sink.bytes().len(), 8096);
+        assert_eq!(rt; release(&mut sink, &mut room), Err(WriteFault));
+        assert_eq!(rt; sink.bytes().len(), 8192);
+        Ok(())
+    }
+}
