@@ -1,5 +1,7 @@
 pub mod Alike
 pub mod Climbs
+pub mod Cycles
+pub mod Matching
 pub mod OrderProofs
 pub mod OwnNumbers
 pub mod PathProofs

@@ -12,19 +12,8 @@ use Rattle.lucid_order.specs.Cycle.{CallsThen, ComesFirst, IsCycle}
 use Rattle.lucid_order.specs.Examples.{PathExamples, ProgramExamples, first, funs, in_turn, second}
 use Rattle.lucid_order.specs.Order.{Body, InOrder, bodies}
 use Rattle.lucid_order.specs.Paths.{Path, paths}
-use Rattle.lucid_order.proofs.OrderProofs.{bumps_in_order, handles_in_order, never_twice, swapped}
-
-pub path_examples : PathExamples
-path_examples = record {
-  one_after_another = simp folds refl;
-  by_branch = simp folds refl;
-  index_first = simp folds refl;
-  target_first = simp folds refl;
-  delay_first = simp folds refl;
-  of_a_function = simp folds refl;
-  of_its_calls = simp folds refl;
-  body_put_in = simp folds refl;
-}
+use Rattle.lucid_order.proofs.OrderProofs.{bumps_in_order, handles_in_order, never_twice, order_examples, swapped}
+use Rattle.lucid_order.proofs.Cycles.{cycles_refuse}
 
 -- A body of two calls has one path.
 one_path : (a b : ArrayName) (before : List FunDef) → Any (CallsThen a b) (paths before (in_turn a b))
@@ -45,6 +34,21 @@ before_itself = record {
   distinct = λ i j d h l. absurd (omega arith);
   leads = (inl (one_path (Param 0) (Param 0) []), tt);
   earliest = λ k d l. absurd (omega arith);
+}
+
+pub path_examples : PathExamples
+path_examples = record {
+  one_after_another = simp folds refl;
+  by_branch = simp folds refl;
+  index_first = simp folds refl;
+  target_first = simp folds refl;
+  delay_first = simp folds refl;
+  of_a_function = simp folds refl;
+  of_its_calls = simp folds refl;
+  body_put_in = simp folds refl;
+  cycle = second_before_first;
+  begins_with_the_earliest = λ cycle. let early = cycle.earliest 0 first (omega arith) in absurd (omega arith);
+  none_in_order = λ cycle. cycles_refuse 2 funs (in_turn first second) first (second ∷ []) cycle order_examples.rising;
 }
 
 pub program_examples : ProgramExamples

@@ -6,6 +6,7 @@ use Rattle.lucid_core.specs.declared.body.Expr.{Expr}
 use Rattle.lucid_core.specs.declared.body.Stmt.{Stmt}
 use Rattle.lucid_core.specs.declared.defs.FunDef.{FunDef}
 use Rattle.lucid_core.specs.ExamplePrograms.{local, yes, call, drop_value, choose, generate_with, plus, update, bump, bumps, bump_put_in, program, small, flat}
+use Rattle.lucid_order.specs.Cycle.{IsCycle}
 use Rattle.lucid_order.specs.Order.{InOrder, IsAccepted}
 use Rattle.lucid_order.specs.Paths.{paths}
 use Rattle.lucid_order.specs.Refused.{IsFirstRefused}
@@ -79,6 +80,9 @@ pub record PathExamples : Type 0 where
   pub of_a_function : paths [] bumps ≡ (Param 0 ∷ []) ∷ []
   pub of_its_calls : paths funs (bump_both second first) ≡ (second ∷ first ∷ []) ∷ []
   pub body_put_in : paths funs (drop_value bump_put_in ∷ []) ≡ (first ∷ []) ∷ []
+  pub cycle : IsCycle 2 (paths funs (in_turn second first)) first (second ∷ [])
+  pub begins_with_the_earliest : ¬ IsCycle 2 (paths funs (in_turn second first)) second (first ∷ [])
+  pub none_in_order : ¬ IsCycle 2 (paths funs (in_turn first second)) first (second ∷ [])
 
 -- What is said of whole programs.
 pub record ProgramExamples : Type 0 where

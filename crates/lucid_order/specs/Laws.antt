@@ -1,13 +1,18 @@
 -- What the order of arrays promises of a program.
-use Rattle.std.specs.Prelude.{◌≡◌, ◌<◌, ◌↔◌, ℕ, List, [], Some, AllPairs, length, slice_get}
+use Rattle.std.specs.Prelude.{◌≡◌, ◌<◌, ◌↔◌, ℕ, ◌+◌, ◌≤◌, List, [], ◌∷◌, Some, All, AllPairs, Any, length, slice_get}
+use Rattle.lucid_base.specs.declared.array.ArrayName.{ArrayName}
 use Rattle.lucid_base.specs.declared.array.ArrayName.TheVariants.{Global, Param}
 use Rattle.lucid_base.specs.declared.event.Event.{Event}
+use Rattle.lucid_core.specs.declared.body.Stmt.{Stmt}
+use Rattle.lucid_core.specs.declared.defs.FunDef.{FunDef}
 use Rattle.lucid_core.specs.declared.defs.HandlerDef.{HandlerDef}
 use Rattle.lucid_core.specs.Acts.{array_of}
 use Rattle.lucid_core.specs.Parts.{Parts}
 use Rattle.lucid_core.specs.Step.{touches}
+use Rattle.lucid_order.specs.Cycle.{IsCycle}
 use Rattle.lucid_order.specs.Ends.{Numbering, Derives, body_end, ends_of}
 use Rattle.lucid_order.specs.Order.{InOrder}
+use Rattle.lucid_order.specs.Paths.{Path, paths}
 
 -- Every event calls each array at most once, in the order of their declarations.
 abbrev pub TouchesRise : Parts → Type 0
@@ -32,3 +37,26 @@ pub record Agree (arrays params : ℕ) (N M : Numbering) : Type 0 where
 abbrev pub EndsTurnOnDeclared : Parts → Type 0
 EndsTurnOnDeclared parts = (k : ℕ) (h : HandlerDef) → slice_get parts.handlers k ≡ Some h → (N M : Numbering) → Agree (length parts.arrays) 0 N M →
     (c : ℕ) → body_end h.body (ends_of parts.funs) N c ≡ body_end h.body (ends_of parts.funs) M c
+
+-- Along this path the numbering rises: each call needs a place that isn't beyond its array's number, and leaves the one behind it.
+abbrev pub RisesAlong : Numbering → ℕ → Path → Type 0
+RisesAlong N c [] = Unit {0}
+RisesAlong N c (a ∷ path) = (c ≤ N a) × RisesAlong N (N a + 1) path
+
+-- Where the path ends: behind the last array that it calls, or where it began.
+abbrev pub path_end : Numbering → ℕ → Path → ℕ
+path_end N c [] = c
+path_end N c (a ∷ path) = path_end N (N a + 1) path
+
+-- A body has a derivation exactly where the numbering rises along each of its paths.
+abbrev pub PathsDecide : Type 0
+PathsDecide = (funs : List FunDef) (body : List Stmt) (N : Numbering) (c : ℕ) → ((end : ℕ) × Derives funs N c body end) ↔ All (RisesAlong N c) (paths funs body)
+
+-- It ends at the greatest place at which one of them ends.
+abbrev pub EndsAreGreatest : Type 0
+EndsAreGreatest = (funs : List FunDef) (body : List Stmt) (N : Numbering) (c end : ℕ) → Derives funs N c body end →
+    All (λ p. path_end N c p ≤ end) (paths funs body) × Any (λ p. path_end N c p ≡ end) (paths funs body)
+
+-- A body that has a cycle is not in order.
+abbrev pub CyclesRefuse : Type 0
+CyclesRefuse = (arrays : ℕ) (funs : List FunDef) (body : List Stmt) (first : ArrayName) (others : List ArrayName) → IsCycle arrays (paths funs body) first others → ¬ InOrder arrays funs body

@@ -1,5 +1,5 @@
 // Laws of the order, each on a function that does nothing.
-ghost use Rattle.lucid_order.specs.Laws.{TouchesRise, OwnNumbersDecide, EndsTurnOnDeclared};
+ghost use Rattle.lucid_order.specs.Laws.{TouchesRise, OwnNumbersDecide, EndsTurnOnDeclared, PathsDecide, EndsAreGreatest, CyclesRefuse};
 ghost use Rattle.lucid_order.specs.Order.{IsAccepted};
 
 use lucid_core::{Core, Flat};
@@ -32,3 +32,11 @@ pub fn ends_turn_on_declared(core: &Core)
 {
     let _valid = core.arrays();
 }
+
+/// Where a body ends, by its paths: it has a derivation exactly where the numbering rises along each of them, and then ends at the
+/// greatest place at which one of them ends. So a body that has a cycle is not in order.
+pub fn paths_decide()
+    ensures derived { PathsDecide }
+    ensures end { EndsAreGreatest }
+    ensures cycles { CyclesRefuse }
+{}

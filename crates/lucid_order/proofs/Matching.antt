@@ -1,0 +1,375 @@
+-- Where a body ends and its paths: it has a derivation where the numbering rises along each path, and ends at the greatest of their ends.
+use Rattle.std.proofs.Common.{◌≡◌, ℕ, zero, suc, ◌+◌, ◌<◌, ◌≤◌, max, List, [], ◌∷◌, ◌++◌, Bool, true, false, if◌then◌else◌, Option, None, Some, map, fold, refl, sym, ap, subst, ◌∙◌, arith, option_map, option_and_then, nat_le, slice_get, slice_index_or, ◌⊎◌, inl, inr}
+use Rattle.std.specs.Option.{option_map_or}
+use Rattle.std.proofs.lemmas.Bool.{cases_lt, leb-true, le-leb}
+use Rattle.lucid_base.specs.Arrays.{name_at}
+use Rattle.lucid_base.specs.declared.array.ArrayName.{ArrayName}
+use Rattle.lucid_core.specs.declared.body.Expr.{Expr}
+use Rattle.lucid_core.specs.declared.body.Stmt.{Stmt}
+use Rattle.lucid_core.specs.declared.body.Touch.{Touch}
+use Rattle.lucid_core.specs.declared.body.Expr.TheOpen.{Expr-F, Stmt-F, Touch-F}
+use Rattle.lucid_core.specs.declared.body.Expr.TheViews.{roll-Expr, roll-Stmt, roll-Touch}
+use Rattle.lucid_core.specs.declared.body.Expr.TheFolds.{fold-roll-Expr, fold-roll-Stmt, fold-roll-Touch, ind-Stmt, map-Expr, map-Stmt, map-Touch}
+use Rattle.lucid_core.specs.declared.defs.FunDef.{FunDef}
+use Rattle.lucid_core.proofs.Pairwise.{Pairwise, one_more}
+use Rattle.lucid_order.specs.Ends as o
+use Rattle.lucid_order.specs.Ends.{End, FunEnd, Numbering, body_end, expr_end, stmt_end, touch_end}
+use Rattle.lucid_order.specs.Laws.{RisesAlong, path_end}
+use Rattle.lucid_order.specs.Paths as u
+use Rattle.lucid_order.specs.Paths.{Path, Paths, each_then, body_paths, expr_paths, stmt_paths, touch_paths}
+use Rattle.lucid_order.proofs.Transfer.{some_then}
+
+-- ---- members of lists
+
+abbrev pub In : {A : Type 0} → A → List A → Type 0
+In y [] = ⊥
+In y (x ∷ xs) = (x ≡ y) ⊎ In y xs
+
+in_left : {A : Type 0} (y : A) (xs ys : List A) → In y xs → In y (xs ++ ys)
+in_left y [] ys h = absurd h
+in_left y (x ∷ xs) ys (inl e) = inl e
+in_left y (x ∷ xs) ys (inr h) = inr (in_left y xs ys h)
+
+in_right : {A : Type 0} (y : A) (xs ys : List A) → In y ys → In y (xs ++ ys)
+in_right y [] ys h = h
+in_right y (x ∷ xs) ys h = inr (in_right y xs ys h)
+
+in_either : {A : Type 0} (y : A) (xs ys : List A) → In y (xs ++ ys) → In y xs ⊎ In y ys
+in_either y [] ys h = inr h
+in_either y (x ∷ xs) ys (inl e) = inl (inl e)
+in_either y (x ∷ xs) ys (inr h) = of (in_either y xs ys h)
+  where
+    of : In y xs ⊎ In y ys → ((x ≡ y) ⊎ In y xs) ⊎ In y ys
+    of (inl k) = inl (inr k)
+    of (inr k) = inr k
+
+in_map : {A B : Type 0} (f : A → B) (y : A) (xs : List A) → In y xs → In (f y) (map f xs)
+in_map f y [] h = h
+in_map f y (x ∷ xs) (inl e) = inl (ap f e)
+in_map f y (x ∷ xs) (inr h) = inr (in_map f y xs h)
+
+of_map : {A B : Type 0} (f : A → B) (z : B) (xs : List A) → In z (map f xs) → (y : A) × In y xs × (f y ≡ z)
+of_map f z [] h = absurd h
+of_map f z (x ∷ xs) (inl e) = (x, inl refl, e)
+of_map f z (x ∷ xs) (inr h) = let rest = of_map f z xs h in (rest.0, inr rest.1, rest.2)
+
+in_then : (p q : Path) (ps qs : List Path) → In p ps → In q qs → In (p ++ q) (each_then ps qs)
+in_then p q [] qs h k = absurd h
+in_then p q (x ∷ ps) qs (inl e) k = in_left (p ++ q) (map (λ r. x ++ r) qs) (each_then ps qs) (subst (λ (z : Path). In (z ++ q) (map (λ r. x ++ r) qs)) e (in_map (λ r. x ++ r) q qs k))
+in_then p q (x ∷ ps) qs (inr h) k = in_right (p ++ q) (map (λ r. x ++ r) qs) (each_then ps qs) (in_then p q ps qs h k)
+
+of_then : (r : Path) (ps qs : List Path) → In r (each_then ps qs) → (p : Path) × (q : Path) × In p ps × In q qs × (p ++ q ≡ r)
+of_then r [] qs h = absurd h
+of_then r (x ∷ ps) qs h = of (in_either r (map (λ q. x ++ q) qs) (each_then ps qs) h) (of_then r ps qs)
+  where
+    of : In r (map (λ q. x ++ q) qs) ⊎ In r (each_then ps qs) → (In r (each_then ps qs) → (p : Path) × (q : Path) × In p ps × In q qs × (p ++ q ≡ r)) →
+        (p : Path) × (q : Path) × ((x ≡ p) ⊎ In p ps) × In q qs × (p ++ q ≡ r)
+    of (inl k) later = let found = of_map (λ q. x ++ q) r qs k in (x, found.0, inl refl, found.1, found.2)
+    of (inr k) later = let found = later k in (found.0, found.1, inr found.2, found.3, found.4)
+
+-- ---- paths under a numbering
+
+-- The numbering rises along the path, from this place, and the path ends at `d` or before it.
+abbrev pub Climbs : Numbering → ℕ → Path → ℕ → Type 0
+Climbs N c [] d = c ≤ d
+Climbs N c (a ∷ p) d = (c ≤ N a) × Climbs N (N a + 1) p d
+
+climbs_later : (N : Numbering) (c : ℕ) (p : Path) (d e : ℕ) → d ≤ e → Climbs N c p d → Climbs N c p e
+climbs_later N c [] d e h k = omega arith
+climbs_later N c (a ∷ p) d e h k = (k.0, climbs_later N (N a + 1) p d e h k.1)
+
+climbs_from : (N : Numbering) (c e : ℕ) (p : Path) (d : ℕ) → c ≤ e → Climbs N e p d → Climbs N c p d
+climbs_from N c e [] d h k = omega arith
+climbs_from N c e (a ∷ p) d h k = let le = k.0 in (omega arith, k.1)
+
+climbs_on : (N : Numbering) (c : ℕ) (p q : Path) (e d : ℕ) → Climbs N c p e → Climbs N e q d → Climbs N c (p ++ q) d
+climbs_on N c [] q e d h k = climbs_from N c e q d h k
+climbs_on N c (a ∷ p) q e d h k = (h.0, climbs_on N (N a + 1) p q e d h.1 k)
+
+pub climbs_rise : (N : Numbering) (c : ℕ) (p : Path) (d : ℕ) → Climbs N c p d → RisesAlong N c p × (path_end N c p ≤ d)
+climbs_rise N c [] d h = (tt, h)
+climbs_rise N c (a ∷ p) d h = let rest = climbs_rise N (N a + 1) p d h.1 in ((h.0, rest.0), rest.1)
+
+rises_first : (N : Numbering) (c : ℕ) (p q : Path) → RisesAlong N c (p ++ q) → RisesAlong N c p
+rises_first N c [] q h = tt
+rises_first N c (a ∷ p) q h = (h.0, rises_first N (N a + 1) p q h.1)
+
+pub rises_next : (N : Numbering) (c : ℕ) (p q : Path) → RisesAlong N c (p ++ q) → RisesAlong N (path_end N c p) q
+rises_next N c [] q h = h
+rises_next N c (a ∷ p) q h = rises_next N (N a + 1) p q h.1
+
+ends_next : (N : Numbering) (c : ℕ) (p q : Path) → path_end N c (p ++ q) ≡ path_end N (path_end N c p) q
+ends_next N c [] q = refl
+ends_next N c (a ∷ p) q = ends_next N (N a + 1) p q
+
+-- ---- a part and its paths
+
+-- Under this numbering: where a part ends, each path climbs to there; where the numbering rises along each path, the part ends, and one path ends at the same place.
+pub record Matches (N : Numbering) (f : ℕ → Option ℕ) (ps : List Path) : Type 0 where
+  pub some : (p : Path) × In p ps
+  pub climbs : (c d : ℕ) → f c ≡ Some d → (p : Path) → In p ps → Climbs N c p d
+  pub ends : (c : ℕ) → ((p : Path) → In p ps → RisesAlong N c p) → (d : ℕ) × (f c ≡ Some d) × (p : Path) × In p ps × (path_end N c p ≡ d)
+
+silent : (N : Numbering) → Matches N (λ c. Some c) ([] ∷ [])
+silent N = record {
+  some = ([], inl refl);
+  climbs = λ c d h p k. empty c d h p k;
+  ends = λ c all. (c, refl, [], inl refl, refl);
+}
+  where
+    empty : (c d : ℕ) → Some c ≡ Some d → (p : Path) → ([] ≡ p) ⊎ ⊥ → Climbs N c p d
+    empty c d h p (inl e) = let same : c ≡ d = cc in subst (λ (q : Path). Climbs N c q d) e (omega arith)
+    empty c d h p (inr k) = absurd k
+
+passing : (N : Numbering) (a : ArrayName) → Matches N (λ c. if nat_le c (N a) then Some (N a + 1) else None) ((a ∷ []) ∷ [])
+passing N a = record {
+  some = (a ∷ [], inl refl);
+  climbs = λ c d h p k. one c d p k (nat_le c (N a)) refl h;
+  ends = λ c all. (N a + 1, ap (λ (b : Bool). if b then Some (N a + 1) else None) (le-leb c (N a) (all (a ∷ []) (inl refl)).0), a ∷ [], inl refl, refl);
+}
+  where
+    one : (c d : ℕ) (p : Path) → ((a ∷ []) ≡ p) ⊎ ⊥ → (b : Bool) → nat_le c (N a) ≡ b → (if b then Some (N a + 1) else None) ≡ Some d → Climbs N c p d
+    one c d p (inr k) b t h = absurd k
+    one c d p (inl e) true t h = let last : N a + 1 ≡ d = cc in subst (λ (q : Path). Climbs N c q d) e (leb-true c (N a) t, omega arith)
+    one c d p (inl e) false t h = cc
+
+module _ (N : Numbering) where
+  in_turn : (f g : ℕ → Option ℕ) (ps qs : List Path) → Matches N f ps → Matches N g qs → Matches N (λ c. option_and_then g (f c)) (each_then ps qs)
+  in_turn f g ps qs h k = record {
+    some = (h.some.0 ++ k.some.0, in_then h.some.0 k.some.0 ps qs h.some.1 k.some.1);
+    climbs = λ c d e r m. climbing c d e r (of_then r ps qs m);
+    ends = ending;
+  }
+    where
+      climbing : (c d : ℕ) → option_and_then g (f c) ≡ Some d → (r : Path) → (p : Path) × (q : Path) × In p ps × In q qs × (p ++ q ≡ r) → Climbs N c r d
+      climbing c d e r m =
+          let split = some_then g (f c) d e in
+          subst (λ (x : Path). Climbs N c x d) m.4 (climbs_on N c m.0 m.1 split.0 d (h.climbs c split.0 split.1 m.0 m.2) (k.climbs split.0 d split.2 m.1 m.3))
+
+      ending : (c : ℕ) → ((r : Path) → In r (each_then ps qs) → RisesAlong N c r) → (d : ℕ) × (option_and_then g (f c) ≡ Some d) × (r : Path) × In r (each_then ps qs) × (path_end N c r ≡ d)
+      ending c all =
+          let a = h.ends c (λ p m. rises_first N c p k.some.0 (all (p ++ k.some.0) (in_then p k.some.0 ps qs m k.some.1))) in
+          let b = k.ends a.0 (λ q m. subst (λ x. RisesAlong N x q) a.4 (rises_next N c a.2 q (all (a.2 ++ q) (in_then a.2 q ps qs a.3 m)))) in
+          (b.0, ap (option_and_then g) a.1 ∙ b.1, a.2 ++ b.2, in_then a.2 b.2 ps qs a.3 b.3, ends_next N c a.2 b.2 ∙ ap (λ x. path_end N x b.2) a.4 ∙ b.4)
+
+  of_either : (f g : ℕ → Option ℕ) (ps qs : List Path) → Matches N f ps → Matches N g qs → Matches N (λ c. option_and_then (λ d. option_and_then (λ e. Some (max d e)) (g c)) (f c)) (ps ++ qs)
+  of_either f g ps qs h k = record {
+    some = (h.some.0, in_left h.some.0 ps qs h.some.1);
+    climbs = λ c d e r m. climbing c d e r (in_either r ps qs m);
+    ends = ending;
+  }
+    where
+      climbing : (c d : ℕ) → option_and_then (λ x. option_and_then (λ y. Some (max x y)) (g c)) (f c) ≡ Some d → (r : Path) → In r ps ⊎ In r qs → Climbs N c r d
+      climbing c d e r m =
+          let left = some_then (λ x. option_and_then (λ y. Some (max x y)) (g c)) (f c) d e in
+          let right = some_then (λ y. Some (max left.0 y)) (g c) d left.2 in
+          let most : max left.0 right.0 ≡ d = let z = right.2 in cc in
+          of left.0 right.0 left.1 right.1 most m
+        where
+          of : (x y : ℕ) → f c ≡ Some x → g c ≡ Some y → max x y ≡ d → In r ps ⊎ In r qs → Climbs N c r d
+          of x y fx gy most (inl i) = climbs_later N c r x d (omega arith) (h.climbs c x fx r i)
+          of x y fx gy most (inr i) = climbs_later N c r y d (omega arith) (k.climbs c y gy r i)
+
+      ending : (c : ℕ) → ((r : Path) → In r (ps ++ qs) → RisesAlong N c r) →
+          (d : ℕ) × (option_and_then (λ x. option_and_then (λ y. Some (max x y)) (g c)) (f c) ≡ Some d) × (r : Path) × In r (ps ++ qs) × (path_end N c r ≡ d)
+      ending c all =
+          let a = h.ends c (λ p m. all p (in_left p ps qs m)) in
+          let b = k.ends c (λ q m. all q (in_right q ps qs m)) in
+          let best = greatest a.0 b.0 a.2 b.2 a.3 b.3 a.4 b.4 (cases_lt a.0 b.0) in
+          (max a.0 b.0, ap (option_and_then (λ x. option_and_then (λ y. Some (max x y)) (g c))) a.1 ∙ ap (option_and_then (λ y. Some (max a.0 y))) b.1, best.0, best.1, best.2)
+        where
+          greatest : (x y : ℕ) (p q : Path) → In p ps → In q qs → path_end N c p ≡ x → path_end N c q ≡ y → (x < y) ⊎ (y ≤ x) → (r : Path) × In r (ps ++ qs) × (path_end N c r ≡ max x y)
+          greatest x y p q i j e f (inl l) = (q, in_right q ps qs j, omega arith)
+          greatest x y p q i j e f (inr l) = (p, in_left p ps qs i, omega arith)
+
+-- The paths of a function in its caller's names, where the caller's numbering is seen through these names.
+module _ (N : Numbering) (name : ArrayName → ArrayName) where
+  climbs_named : (c : ℕ) (p : Path) (d : ℕ) → Climbs (λ y. N (name y)) c p d → Climbs N c (map name p) d
+  climbs_named c [] d h = h
+  climbs_named c (a ∷ p) d h = (h.0, climbs_named (N (name a) + 1) p d h.1)
+
+  rises_named : (c : ℕ) (p : Path) → RisesAlong N c (map name p) → RisesAlong (λ y. N (name y)) c p
+  rises_named c [] h = tt
+  rises_named c (a ∷ p) h = (h.0, rises_named (N (name a) + 1) p h.1)
+
+  ends_named : (c : ℕ) (p : Path) → path_end N c (map name p) ≡ path_end (λ y. N (name y)) c p
+  ends_named c [] = refl
+  ends_named c (a ∷ p) = ends_named (N (name a) + 1) p
+
+  named : (f : ℕ → Option ℕ) (ps : List Path) → Matches (λ y. N (name y)) f ps → Matches N f (map (map name) ps)
+  named f ps h = record {
+    some = (map name h.some.0, in_map (map name) h.some.0 ps h.some.1);
+    climbs = λ c d e r m. let found = of_map (map name) r ps m in subst (λ (x : Path). Climbs N c x d) found.2 (climbs_named c found.0 d (h.climbs c d e found.0 found.1));
+    ends = λ c all. let a = h.ends c (λ p m. rises_named c p (all (map name p) (in_map (map name) p ps m))) in (a.0, a.1, map name a.2, in_map (map name) a.2 ps a.3, ends_named c a.2 ∙ a.4);
+  }
+
+abbrev pub FunMatches : FunEnd → List Path → Type 0
+FunMatches g qs = (N : Numbering) → Matches N (g N) qs
+
+-- ---- the trees
+
+module _ (fs : List FunEnd) (gs : List (List Path)) (ok : Pairwise FunMatches fs gs) (N : Numbering) where
+  abbrev pub Agrees : End → Paths → Type 0
+  Agrees end paths = Matches N (end fs N) (paths gs)
+
+  found : (name : ArrayName → ArrayName) (fs : List FunEnd) (gs : List (List Path)) → Pairwise FunMatches fs gs → (k : ℕ) →
+      Matches N (λ c. option_map_or (λ f. f (λ y. N (name y)) c) (slice_get fs k) (Some c)) (map (map name) (slice_index_or gs k ([] ∷ [])))
+  found name [] [] all k = silent N
+  found name [] (g ∷ gs) all k = absurd all
+  found name (f ∷ fs) [] all k = absurd all
+  found name (f ∷ fs) (g ∷ gs) all zero = named N name (f (λ y. N (name y))) g (all.0 (λ y. N (name y)))
+  found name (f ∷ fs) (g ∷ gs) all (suc k) = found name fs gs all.1 k
+
+  both_agree : (f g : End) (p q : Paths) → Agrees f p → Agrees g q → Matches N (λ c. option_and_then (g fs N) (f fs N c)) (each_then (p gs) (q gs))
+  both_agree f g p q h k = in_turn N (f fs N) (g fs N) (p gs) (q gs) h k
+
+  abbrev pub E : Type 0
+  E = (e : Expr) × Agrees (expr_end e) (expr_paths e)
+
+  abbrev pub S : Type 0
+  S = (e : Stmt) × Agrees (stmt_end e) (stmt_paths e)
+
+  abbrev pub T : Type 0
+  T = (e : Touch) × Agrees (touch_end e) (touch_paths e)
+
+  abbrev exprs : List E → List Expr
+  exprs es = map (λ (e : E). e.0) es
+
+  abbrev stmts : List S → List Stmt
+  stmts es = map (λ (e : S). e.0) es
+
+  abbrev given_trees : List (ℕ × E) → List (ℕ × Expr)
+  given_trees xs = map (λ (g : ℕ × E). (g.0, g.1.0)) xs
+
+  abbrev given_ends : List (ℕ × E) → List End
+  given_ends xs = map (λ (g : ℕ × End). g.1) (map (λ (g : ℕ × Expr). (g.0, expr_end g.1)) (given_trees xs))
+
+  abbrev given_paths : List (ℕ × E) → List Paths
+  given_paths xs = map (λ (g : ℕ × Paths). g.1) (map (λ (g : ℕ × Expr). (g.0, expr_paths g.1)) (given_trees xs))
+
+  exprs_agree : (es : List E) → Agrees (o.sequence (map expr_end (exprs es))) (u.sequence (map expr_paths (exprs es)))
+  exprs_agree [] = silent N
+  exprs_agree (e ∷ es) = both_agree (expr_end e.0) (o.sequence (map expr_end (exprs es))) (expr_paths e.0) (u.sequence (map expr_paths (exprs es))) e.1 (exprs_agree es)
+
+  stmts_agree : (es : List S) → Agrees (o.sequence (map stmt_end (stmts es))) (u.sequence (map stmt_paths (stmts es)))
+  stmts_agree [] = silent N
+  stmts_agree (e ∷ es) = both_agree (stmt_end e.0) (o.sequence (map stmt_end (stmts es))) (stmt_paths e.0) (u.sequence (map stmt_paths (stmts es))) e.1 (stmts_agree es)
+
+  given_agree : (xs : List (ℕ × E)) → Agrees (o.sequence (given_ends xs)) (u.sequence (given_paths xs))
+  given_agree [] = silent N
+  given_agree (g ∷ xs) = both_agree (expr_end g.1.0) (o.sequence (given_ends xs)) (expr_paths g.1.0) (u.sequence (given_paths xs)) g.1.1 (given_agree xs)
+
+  abbrev pub expr_tree : Expr-F E S T → Expr-F Expr Stmt Touch
+  expr_tree = map-Expr E S T Expr Stmt Touch (λ e. e.0) (λ e. e.0) (λ e. e.0)
+
+  abbrev pub touch_tree : Touch-F E S T → Touch-F Expr Stmt Touch
+  touch_tree = map-Touch E S T Expr Stmt Touch (λ e. e.0) (λ e. e.0) (λ e. e.0)
+
+  abbrev pub stmt_tree : Stmt-F E S T → Stmt-F Expr Stmt Touch
+  stmt_tree = map-Stmt E S T Expr Stmt Touch (λ e. e.0) (λ e. e.0) (λ e. e.0)
+
+  expr_level : (y : Expr-F E S T) → Agrees (o.expr_step (map-Expr Expr Stmt Touch End End End expr_end stmt_end touch_end (expr_tree y)))
+      (u.expr_step (map-Expr Expr Stmt Touch Paths Paths Paths expr_paths stmt_paths touch_paths (expr_tree y)))
+  expr_level (Expr-F.Fixed b) = silent N
+  expr_level (Expr-F.Local i) = silent N
+  expr_level Expr-F.Now = silent N
+  expr_level Expr-F.Me = silent N
+  expr_level (Expr-F.Un op e) = e.1
+  expr_level (Expr-F.Bin op e f) = both_agree (expr_end e.0) (expr_end f.0) (expr_paths e.0) (expr_paths f.0) e.1 f.1
+  expr_level (Expr-F.Cmp op e f) = both_agree (expr_end e.0) (expr_end f.0) (expr_paths e.0) (expr_paths f.0) e.1 f.1
+  expr_level (Expr-F.Cast w e) = e.1
+  expr_level (Expr-F.Hash w es) = exprs_agree es
+  expr_level (Expr-F.Array e) = e.1
+  expr_level (Expr-F.Fun k names es) =
+      both_agree (o.sequence (map expr_end (exprs es))) (o.goes_through k names) (u.sequence (map expr_paths (exprs es))) (u.goes_through k names) (exprs_agree es) (found (name_at names) fs gs ok k)
+  expr_level (Expr-F.Inlined given es) =
+      both_agree (o.sequence (given_ends given)) (o.sequence (map stmt_end (stmts es))) (u.sequence (given_paths given)) (u.sequence (map stmt_paths (stmts es))) (given_agree given) (stmts_agree es)
+
+  touch_level : (y : Touch-F E S T) → Agrees (o.touch_step (map-Touch Expr Stmt Touch End End End expr_end stmt_end touch_end (touch_tree y)))
+      (u.touch_step (map-Touch Expr Stmt Touch Paths Paths Paths expr_paths stmt_paths touch_paths (touch_tree y)))
+  touch_level y =
+      let last = passing N y.array in
+      let set = in_turn N (expr_end y.set_arg.0 fs N) (o.passes y.array fs N) (expr_paths y.set_arg.0 gs) (u.calls y.array gs) y.set_arg.1 last in
+      let get = in_turn N (expr_end y.get_arg.0 fs N) (λ c. option_and_then (o.passes y.array fs N) (expr_end y.set_arg.0 fs N c)) (expr_paths y.get_arg.0 gs) (each_then (expr_paths y.set_arg.0 gs) (u.calls y.array gs)) y.get_arg.1 set in
+      in_turn N (expr_end y.index.0 fs N) (λ c. option_and_then (λ d. option_and_then (o.passes y.array fs N) (expr_end y.set_arg.0 fs N d)) (expr_end y.get_arg.0 fs N c)) (expr_paths y.index.0 gs)
+      (each_then (expr_paths y.get_arg.0 gs) (each_then (expr_paths y.set_arg.0 gs) (u.calls y.array gs))) y.index.1 get
+
+  optional_agree : (e : Option E) → Agrees (o.optional (option_map (λ (x : E). expr_end x.0) e)) (u.optional (option_map (λ (x : E). expr_paths x.0) e))
+  optional_agree None = silent N
+  optional_agree (Some e) = e.1
+
+  ordered_agree : (first : Bool) (f g : End) (p q : Paths) → Agrees f p → Agrees g q → Agrees (o.both first f g) (u.both first p q)
+  ordered_agree true f g p q h k = both_agree f g p q h k
+  ordered_agree false f g p q h k = both_agree g f q p k h
+
+  gen_agrees : (event : ℕ) (es : List E) (delay to : Option E) (first : Bool) →
+      Agrees (o.stmt_step (Stmt-F.Gen event (map expr_end (exprs es)) (option_map (λ (x : E). expr_end x.0) delay) (option_map (λ (x : E). expr_end x.0) to) first))
+      (u.stmt_step (Stmt-F.Gen event (map expr_paths (exprs es)) (option_map (λ (x : E). expr_paths x.0) delay) (option_map (λ (x : E). expr_paths x.0) to) first))
+  gen_agrees event es delay to first =
+      let de = o.optional (option_map (λ (x : E). expr_end x.0) delay) in
+      let te = o.optional (option_map (λ (x : E). expr_end x.0) to) in
+      let dp = u.optional (option_map (λ (x : E). expr_paths x.0) delay) in
+      let tp = u.optional (option_map (λ (x : E). expr_paths x.0) to) in
+      both_agree (o.sequence (map expr_end (exprs es))) (o.both first de te) (u.sequence (map expr_paths (exprs es))) (u.both first dp tp) (exprs_agree es)
+      (ordered_agree first de te dp tp (optional_agree delay) (optional_agree to))
+
+  multi_agrees : (event : ℕ) (es : List E) (delay : Option E) (members : List ℕ) →
+      Agrees (o.stmt_step (Stmt-F.Multi event (map expr_end (exprs es)) (option_map (λ (x : E). expr_end x.0) delay) members))
+      (u.stmt_step (Stmt-F.Multi event (map expr_paths (exprs es)) (option_map (λ (x : E). expr_paths x.0) delay) members))
+  multi_agrees event es delay members =
+      both_agree (o.sequence (map expr_end (exprs es))) (o.optional (option_map (λ (x : E). expr_end x.0) delay)) (u.sequence (map expr_paths (exprs es))) (u.optional (option_map (λ (x : E). expr_paths x.0) delay))
+      (exprs_agree es) (optional_agree delay)
+
+  stmt_level : (y : Stmt-F E S T) → Agrees (o.stmt_step (map-Stmt Expr Stmt Touch End End End expr_end stmt_end touch_end (stmt_tree y)))
+      (u.stmt_step (map-Stmt Expr Stmt Touch Paths Paths Paths expr_paths stmt_paths touch_paths (stmt_tree y)))
+  stmt_level (Stmt-F.Assign i e) = e.1
+  stmt_level (Stmt-F.Drop e) = e.1
+  stmt_level (Stmt-F.If e ss ts) =
+      let left = o.sequence (map stmt_end (stmts ss)) in
+      let right = o.sequence (map stmt_end (stmts ts)) in
+      let lefts = u.sequence (map stmt_paths (stmts ss)) in
+      let rights = u.sequence (map stmt_paths (stmts ts)) in
+      both_agree (expr_end e.0) (o.larger left right) (expr_paths e.0) (u.either lefts rights) e.1 (of_either N (left fs N) (right fs N) (lefts gs) (rights gs) (stmts_agree ss) (stmts_agree ts))
+  stmt_level (Stmt-F.Gen event es None None first) = gen_agrees event es None None first
+  stmt_level (Stmt-F.Gen event es None (Some t) first) = gen_agrees event es None (Some t) first
+  stmt_level (Stmt-F.Gen event es (Some e) None first) = gen_agrees event es (Some e) None first
+  stmt_level (Stmt-F.Gen event es (Some e) (Some t) first) = gen_agrees event es (Some e) (Some t) first
+  stmt_level (Stmt-F.Multi event es None members) = multi_agrees event es None members
+  stmt_level (Stmt-F.Multi event es (Some e) members) = multi_agrees event es (Some e) members
+  stmt_level (Stmt-F.Say form es) = exprs_agree es
+  stmt_level (Stmt-F.Return None) = silent N
+  stmt_level (Stmt-F.Return (Some e)) = e.1
+
+  along : (f g : End) (p q : Paths) → f ≡ g → p ≡ q → Agrees g q → Agrees f p
+  along f g p q e h is = subst (λ (x : End). Agrees x p) (sym e) (subst (λ (y : Paths). Agrees g y) (sym h) is)
+
+  of_expr : (y : Expr-F E S T) → Agrees (expr_end (roll-Expr (expr_tree y))) (expr_paths (roll-Expr (expr_tree y)))
+  of_expr y = along _ _ _ _ (fold-roll-Expr End End End o.expr_step o.stmt_step o.touch_step (expr_tree y)) (fold-roll-Expr Paths Paths Paths u.expr_step u.stmt_step u.touch_step (expr_tree y)) (expr_level y)
+
+  of_stmt : (y : Stmt-F E S T) → Agrees (stmt_end (roll-Stmt (stmt_tree y))) (stmt_paths (roll-Stmt (stmt_tree y)))
+  of_stmt y = along _ _ _ _ (fold-roll-Stmt End End End o.expr_step o.stmt_step o.touch_step (stmt_tree y)) (fold-roll-Stmt Paths Paths Paths u.expr_step u.stmt_step u.touch_step (stmt_tree y)) (stmt_level y)
+
+  of_touch : (y : Touch-F E S T) → Agrees (touch_end (roll-Touch (touch_tree y))) (touch_paths (roll-Touch (touch_tree y)))
+  of_touch y = along _ _ _ _ (fold-roll-Touch End End End o.expr_step o.stmt_step o.touch_step (touch_tree y)) (fold-roll-Touch Paths Paths Paths u.expr_step u.stmt_step u.touch_step (touch_tree y)) (touch_level y)
+
+  stmt_agrees : (e : Stmt) → Agrees (stmt_end e) (stmt_paths e)
+  stmt_agrees = ind-Stmt (λ e. Agrees (expr_end e) (expr_paths e)) (λ e. Agrees (stmt_end e) (stmt_paths e)) (λ e. Agrees (touch_end e) (touch_paths e))
+      (λ e y is. subst (λ z. Agrees (expr_end (roll-Expr z)) (expr_paths (roll-Expr z))) is (of_expr y))
+      (λ e y is. subst (λ z. Agrees (stmt_end (roll-Stmt z)) (stmt_paths (roll-Stmt z))) is (of_stmt y))
+      (λ e y is. subst (λ z. Agrees (touch_end (roll-Touch z)) (touch_paths (roll-Touch z))) is (of_touch y))
+
+  body_agrees : (ss : List Stmt) → Agrees (body_end ss) (body_paths ss)
+  body_agrees [] = silent N
+  body_agrees (e ∷ es) = both_agree (stmt_end e) (body_end es) (stmt_paths e) (body_paths es) (stmt_agrees e) (body_agrees es)
+
+-- Functions, each behind those before it.
+funs_agree : (ends : List FunEnd) (known : List (List Path)) (funs : List FunDef) → Pairwise FunMatches ends known →
+    Pairwise FunMatches (fold (λ before f. before ++ body_end f.body before ∷ []) ends funs) (fold (λ before f. before ++ body_paths f.body before ∷ []) known funs)
+funs_agree ends known [] all = all
+funs_agree ends known (f ∷ funs) all =
+    funs_agree (ends ++ body_end f.body ends ∷ []) (known ++ body_paths f.body known ∷ []) funs
+    (one_more FunMatches ends known (body_end f.body ends) (body_paths f.body known) all (λ N. body_agrees ends known all N f.body))
+
+-- A body, where it ends and its paths.
+pub body_matches : (funs : List FunDef) (body : List Stmt) (N : Numbering) → Matches N (body_end body (o.ends_of funs) N) (u.paths funs body)
+body_matches funs body N = body_agrees (o.ends_of funs) (u.paths_of funs) (funs_agree [] [] funs tt) N body
