@@ -14,18 +14,12 @@ use Rattle.lucid_core.specs.declared.body.Expr.TheViews.{roll-Expr, roll-Stmt, r
 use Rattle.lucid_core.specs.declared.body.Expr.TheFolds.{fold-Expr, fold-Touch, fold-roll-Expr, fold-roll-Stmt, fold-roll-Touch, ind-Stmt, map-Expr, map-Stmt, map-Touch}
 use Rattle.lucid_core.specs.declared.defs.FunDef.{FunDef}
 use Rattle.lucid_core.specs.Names as n
-use Rattle.lucid_core.specs.Names.{is_array, stmt_names}
+use Rattle.lucid_core.specs.Names.{expr_names, is_array, stmt_names, touch_names}
 use Rattle.lucid_core.specs.Parts.{Parts}
 use Rattle.lucid_core.specs.Scope.{Scope, Test, each, fun_scope, funs_pass}
 use Rattle.lucid_core.proofs.Fine.{both_pass}
 use Rattle.lucid_order.specs.Ends as o
 use Rattle.lucid_order.specs.Ends.{End, FunEnd, Numbering, ◌⨾◌, larger, body_end, expr_end, stmt_end, touch_end}
-
-abbrev expr_names : Expr → Test
-expr_names = fold-Expr Test Test Test n.expr_step n.stmt_step n.touch_step
-
-abbrev touch_names : Touch → Test
-touch_names = fold-Touch Test Test Test n.expr_step n.stmt_step n.touch_step
 
 -- From related places: where the first ends, the second ends too, and their ends are related.
 abbrev pub Transfers : (ℕ → ℕ → Type 0) → (ℕ → Option ℕ) → (ℕ → Option ℕ) → Type 0
