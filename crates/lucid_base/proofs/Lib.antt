@@ -1,4 +1,5 @@
 pub mod BitsLemmas
+pub mod CellsFit
 pub mod Folds
 pub mod Laws
 pub mod Small

@@ -1,5 +1,5 @@
 -- In a sound program each body keeps the state fine, so all that a handler sends out fits.
-use Rattle.std.proofs.Common.{◌≡◌, ℕ, ◌≤◌, List, [], ◌∷◌, ◌++◌, true, false, ◌&&◌, ◌||◌, not, map, length, Option, None, Some, refl, sym, ap, subst, arith, append_assoc, append-nil, All, IsTrue, is_some, nat_le, slice_get, option_and_then}
+use Rattle.std.proofs.Common.{◌≡◌, ℕ, ◌≤◌, List, [], ◌∷◌, ◌++◌, true, false, ◌&&◌, ◌||◌, not, map, take, length, Option, None, Some, refl, sym, ap, subst, arith, append_assoc, append-nil, All, IsTrue, is_some, nat_le, slice_get, option_and_then}
 use Rattle.std.specs.List.{list_all}
 use Rattle.std.proofs.lemmas.Bool.{and_parts, leb-true}
 use Rattle.std.proofs.lemmas.List.Elements.{All-weaker}
@@ -16,7 +16,8 @@ use Rattle.lucid_core.specs.declared.body.Expr.TheFolds.{fold-roll-Expr, fold-ro
 use Rattle.lucid_core.specs.declared.defs.FunDef.{FunDef}
 use Rattle.lucid_core.specs.declared.defs.HandlerDef.{HandlerDef}
 use Rattle.lucid_core.specs.Acts.{Act, Effect, Frame, Fun, State, begun_with}
-use Rattle.lucid_core.specs.Fits.{carried, out_fits}
+use Rattle.lucid_base.specs.Cells.{zero_cells}
+use Rattle.lucid_core.specs.Fits.{carried, cells_fit, out_fits}
 use Rattle.lucid_core.specs.Limits.{body_keeps_limits}
 use Rattle.lucid_core.specs.Meaning as m
 use Rattle.lucid_core.specs.Meaning.{value_of, effect_of, touch_of, fun_of}
@@ -25,14 +26,16 @@ use Rattle.lucid_core.specs.Parts.{Parts}
 use Rattle.lucid_core.specs.Returns as r
 use Rattle.lucid_core.specs.Returns.{Returns, expr_returns, stmt_returns, touch_returns, body_returns}
 use Rattle.lucid_core.specs.Scope.{Scope, fun_scope, handler_scope, funs_pass}
-use Rattle.lucid_core.specs.Step.{handled, started, step, taken_at}
+use Rattle.lucid_core.specs.Step.{Entry, Steps, after, handled, ran, started, step, taken_at}
 use Rattle.lucid_core.specs.Texts as x
 use Rattle.lucid_core.specs.Texts.{Printed, body_fills_texts}
 use Rattle.lucid_core.specs.Typing as t
 use Rattle.lucid_core.specs.Typing.{Answer, Typed, answer_of, returns_of, touch_answer, body_gives_only}
 use Rattle.lucid_core.specs.Valid.{IsSound}
 use Rattle.lucid_core.specs.Values.{nothing}
-use Rattle.lucid_core.proofs.Fine.{IsFine, FunFits, Stands, answer_given, goes_out, once}
+use Rattle.lucid_core.proofs.Arrays.{nothing_there, zero_cells-fit}
+use Rattle.lucid_core.proofs.Entries.{one_more_step, steps_from}
+use Rattle.lucid_core.proofs.Fine.{Asked, IsFine, FunFits, Stands, answer_given, goes_out, once}
 use Rattle.lucid_core.proofs.Funs.{funs_from}
 use Rattle.lucid_core.proofs.Pairwise.{Pairwise, one_more}
 use Rattle.lucid_core.proofs.Prints.{body_prints, prints_step, expr_prints, stmt_prints, touch_prints}
@@ -46,39 +49,39 @@ opened : {A B C D : Type 0} (P : A → B → C → D → Type 0) {a x : A} {b y 
 opened P {a} {x} {b} {y} {c} {z} {d} {w} e f g h is =
     subst (λ v. P v b c d) (sym e) (subst (λ v. P x v c d) (sym f) (subst (λ v. P x y v d) (sym g) (subst (λ v. P x y z v) (sym h) is)))
 
-module _ (core : Parts) (s : Scope) (p : Frame) (stands : Stands core s p) where
+module _ (asked : Asked) (core : Parts) (s : Scope) (p : Frame) (stands : Stands asked core s p) where
   abbrev ExprHolds : Expr → Type 0
-  ExprHolds e = ExprFits core s p stands (value_of e) (answer_of e) (expr_prints e) (expr_returns e)
+  ExprHolds e = ExprFits asked core s p stands (value_of e) (answer_of e) (expr_prints e) (expr_returns e)
 
   abbrev StmtHolds : Stmt → Type 0
-  StmtHolds e = StmtFits core s p stands (effect_of e) (returns_of e) (stmt_prints e) (stmt_returns e)
+  StmtHolds e = StmtFits asked core s p stands (effect_of e) (returns_of e) (stmt_prints e) (stmt_returns e)
 
   abbrev TouchHolds : Touch → Type 0
-  TouchHolds e = ExprFits core s p stands (touch_of e) (touch_answer e) (touch_prints e) (touch_returns e)
+  TouchHolds e = ExprFits asked core s p stands (touch_of e) (touch_answer e) (touch_prints e) (touch_returns e)
 
-  of_expr : (y : Expr-F (E core s p stands) (S core s p stands) (T core s p stands)) → ExprHolds (roll-Expr (expr_tree core s p stands y))
-  of_expr y = let tree = expr_tree core s p stands y in opened (ExprFits core s p stands)
+  of_expr : (y : Expr-F (E asked core s p stands) (S asked core s p stands) (T asked core s p stands)) → ExprHolds (roll-Expr (expr_tree asked core s p stands y))
+  of_expr y = let tree = expr_tree asked core s p stands y in opened (ExprFits asked core s p stands)
       (fold-roll-Expr (Act Bits) Effect (Act Bits) m.expr_step m.stmt_step m.touch_step tree)
       (fold-roll-Expr (Typed Answer) (Typed (List Answer)) (Typed Answer) t.expr_step t.stmt_step t.touch_step tree)
       (fold-roll-Expr Printed Printed Printed x.expr_step prints_step x.touch_step tree)
       (fold-roll-Expr Returns Returns Returns r.expr_step r.stmt_step r.touch_step tree)
-      (expr_level core s p stands y)
+      (expr_level asked core s p stands y)
 
-  of_touch : (y : Touch-F (E core s p stands) (S core s p stands) (T core s p stands)) → TouchHolds (roll-Touch (touch_tree core s p stands y))
-  of_touch y = let tree = touch_tree core s p stands y in opened (ExprFits core s p stands)
+  of_touch : (y : Touch-F (E asked core s p stands) (S asked core s p stands) (T asked core s p stands)) → TouchHolds (roll-Touch (touch_tree asked core s p stands y))
+  of_touch y = let tree = touch_tree asked core s p stands y in opened (ExprFits asked core s p stands)
       (fold-roll-Touch (Act Bits) Effect (Act Bits) m.expr_step m.stmt_step m.touch_step tree)
       (fold-roll-Touch (Typed Answer) (Typed (List Answer)) (Typed Answer) t.expr_step t.stmt_step t.touch_step tree)
       (fold-roll-Touch Printed Printed Printed x.expr_step prints_step x.touch_step tree)
       (fold-roll-Touch Returns Returns Returns r.expr_step r.stmt_step r.touch_step tree)
-      (touch_level core s p stands y)
+      (touch_level asked core s p stands y)
 
-  of_stmt : (y : Stmt-F (E core s p stands) (S core s p stands) (T core s p stands)) → StmtHolds (roll-Stmt (stmt_tree core s p stands y))
-  of_stmt y = let tree = stmt_tree core s p stands y in opened (StmtFits core s p stands)
+  of_stmt : (y : Stmt-F (E asked core s p stands) (S asked core s p stands) (T asked core s p stands)) → StmtHolds (roll-Stmt (stmt_tree asked core s p stands y))
+  of_stmt y = let tree = stmt_tree asked core s p stands y in opened (StmtFits asked core s p stands)
       (fold-roll-Stmt (Act Bits) Effect (Act Bits) m.expr_step m.stmt_step m.touch_step tree)
       (fold-roll-Stmt (Typed Answer) (Typed (List Answer)) (Typed Answer) t.expr_step t.stmt_step t.touch_step tree)
       (fold-roll-Stmt Printed Printed Printed x.expr_step prints_step x.touch_step tree)
       (fold-roll-Stmt Returns Returns Returns r.expr_step r.stmt_step r.touch_step tree)
-      (stmt_level core s p stands y)
+      (stmt_level asked core s p stands y)
 
   -- By induction on all three.
   stmt_holds : (e : Stmt) → StmtHolds e
@@ -88,16 +91,16 @@ module _ (core : Parts) (s : Scope) (p : Frame) (stands : Stands core s p) where
       (λ e y is. subst (λ z. TouchHolds (roll-Touch z)) is (of_touch y))
 
   -- With their proofs.
-  proved : List Stmt → List (S core s p stands)
+  proved : List Stmt → List (S asked core s p stands)
   proved ss = map (λ e. (e, stmt_holds e)) ss
 
-  stmts-proved : (ss : List Stmt) → stmts core s p stands (proved ss) ≡ ss
+  stmts-proved : (ss : List Stmt) → stmts asked core s p stands (proved ss) ≡ ss
   unfolding proved
   stmts-proved [] = refl
   stmts-proved (e ∷ es) = ap (λ (q : List Stmt). e ∷ q) (stmts-proved es)
 
-  body_fits : (ss : List Stmt) → BodyFits core s p stands ss
-  body_fits ss = subst (BodyFits core s p stands) (stmts-proved ss) (block_fits core s p stands (proved ss))
+  body_fits : (ss : List Stmt) → BodyFits asked core s p stands ss
+  body_fits ss = subst (BodyFits asked core s p stands) (stmts-proved ss) (block_fits asked core s p stands (proved ss))
 
 -- No event has more than 8 parameters.
 abbrev EventsAreSmall : Parts → Type 0
@@ -111,49 +114,55 @@ record IsSoundFun (parts : Parts) (before : List FunDef) (f : FunDef) : Type 0 w
   returns : ((body_returns f.body).last && (not (is_some f.answer) || (body_returns f.body).always)) ≡ true
 
 -- A sound function gives a value of its answer's width.
-fun_fits : (parts : Parts) → EventsAreSmall parts → (now me : ℕ) (before : List FunDef) (known : List Fun) (f : FunDef) → Pairwise (FunFits parts) before known → IsSoundFun parts before f →
-    FunFits parts f (fun_of now me known f)
-fun_fits parts few now me before known f pairs sound arrays vs width ws a s fine =
+fun_fits : (asked : Asked) (parts : Parts) → EventsAreSmall parts → (now me : ℕ) (before : List FunDef) (known : List Fun) (f : FunDef) → Pairwise (FunFits asked parts) before known → IsSoundFun parts before f →
+    FunFits asked parts f (fun_of now me known f)
+fun_fits asked parts few now me before known f pairs sound arrays vs width wide ws a s fine =
     let place : Frame = record { now = now; me = me; arrays = arrays; funs = known } in
     let rule = body_rule (fun_scope parts before f) f.answer (map returns_of f.body) sound.widths in
     let own : State = record s { locals = begun_with vs f.locals; answer = nothing } in
-    let begun : IsFine parts f.locals (once false f.answer) own = record { locals = widths-begun vs f.params f.locals width; answer = tt; outs = fine.outs } in
+    let begun : IsFine asked parts f.locals (once false f.answer) own = record { locals = widths-begun vs f.params f.locals width; answer = tt; outs = fine.outs; cells = fine.cells } in
     let ends = and_parts _ _ sound.returns in
-    let done = body_fits parts (fun_scope parts before f) place (record { events = refl; few = few; funs = pairs }) f.body (body_prints parts.forms f.body sound.texts sound.limits) ends.0 rule.0 rule.1 f.answer rule.2 false own begun in
+    let done = body_fits asked parts (fun_scope parts before f) place (record { events = refl; few = few; funs = pairs; arrays = refl; params = wide }) f.body (λ is. body_prints parts.forms f.body sound.texts sound.limits) ends.0 rule.0 rule.1 f.answer rule.2 false own begun in
     record {
-      gives = answer_given parts f.locals f.answer (is_some f.answer) (body_returns f.body).always _ (λ w e. ap is_some e) ends.1 done;
-      fine = record { locals = fine.locals; answer = fine.answer; outs = done.outs };
+      gives = answer_given asked parts f.locals f.answer (is_some f.answer) (body_returns f.body).always _ (λ w e. ap is_some e) ends.1 done;
+      fine = record { locals = fine.locals; answer = fine.answer; outs = done.outs; cells = done.cells };
     }
 
 -- Behind sound functions, each function is sound.
-funs_fit : (parts : Parts) → EventsAreSmall parts → (now me : ℕ) (before : List FunDef) (known : List Fun) (fs : List FunDef) → Pairwise (FunFits parts) before known →
+pub funs_fit : (asked : Asked) (parts : Parts) → EventsAreSmall parts → (now me : ℕ) (before : List FunDef) (known : List Fun) (fs : List FunDef) → Pairwise (FunFits asked parts) before known →
     funs_pass (λ earlier f. body_gives_only f.answer f.body (fun_scope parts earlier f)) before fs ≡ true →
     list_all (λ f. body_fills_texts f.body parts.forms) fs ≡ true →
     list_all (λ f. body_keeps_limits f.body) fs ≡ true →
     list_all (λ f. (body_returns f.body).last && (not (is_some f.answer) || (body_returns f.body).always)) fs ≡ true →
-    Pairwise (FunFits parts) (before ++ fs) (funs_from now me known fs)
-funs_fit parts few now me before known [] pairs widths texts limits returns = subst (λ (q : List FunDef). Pairwise (FunFits parts) q known) (sym (append-nil before)) pairs
-funs_fit parts few now me before known (f ∷ fs) pairs widths texts limits returns =
+    Pairwise (FunFits asked parts) (before ++ fs) (funs_from now me known fs)
+funs_fit asked parts few now me before known [] pairs widths texts limits returns = subst (λ (q : List FunDef). Pairwise (FunFits asked parts) q known) (sym (append-nil before)) pairs
+funs_fit asked parts few now me before known (f ∷ fs) pairs widths texts limits returns =
     let width = and_parts _ _ widths in
     let text = and_parts _ _ texts in
     let limit = and_parts _ _ limits in
     let return = and_parts _ _ returns in
-    let one = fun_fits parts few now me before known f pairs (record { widths = width.0; texts = text.0; limits = limit.0; returns = return.0 }) in
-    let more = one_more (FunFits parts) before known f (fun_of now me known f) pairs one in
-    let all = funs_fit parts few now me (before ++ f ∷ []) (known ++ fun_of now me known f ∷ []) fs more width.1 text.1 limit.1 return.1 in
-    subst (λ (q : List FunDef). Pairwise (FunFits parts) q (funs_from now me (known ++ fun_of now me known f ∷ []) fs)) (append_assoc before (f ∷ []) fs) all
+    let one = fun_fits asked parts few now me before known f pairs (record { widths = width.0; texts = text.0; limits = limit.0; returns = return.0 }) in
+    let more = one_more (FunFits asked parts) before known f (fun_of now me known f) pairs one in
+    let all = funs_fit asked parts few now me (before ++ f ∷ []) (known ++ fun_of now me known f ∷ []) fs more width.1 text.1 limit.1 return.1 in
+    subst (λ (q : List FunDef). Pairwise (FunFits asked parts) q (funs_from now me (known ++ fun_of now me known f ∷ []) fs)) (append_assoc before (f ∷ []) fs) all
 
--- What is sent out fits and carries few numbers, and is at most 8 outs.
-abbrev OutsFit : Parts → List Out → Type 0
-OutsFit parts outs = (list_all (goes_out parts) outs ≡ true) × (length outs ≤ 8)
+-- After an event's handler, what is sent out fits and carries few numbers, and is at most 8 outs; and the cells fit, where they did before.
+record Ends (parts : Parts) (cells : List (List ℕ)) (after : State) : Type 0 where
+  outs : list_all (goes_out parts) after.outs ≡ true
+  few : length after.outs ≤ 8
+  cells_fit : cells_fit parts cells ≡ true → cells_fit parts after.cells ≡ true
 
 module _ (parts : Parts) (sound : IsSound parts) (cells : List (List ℕ)) (now me : ℕ) (args : List ℕ) where
+  -- All is asked, of the cells where they fit at the start.
+  abbrev asked : Asked
+  asked = record { outs = true; cells = cells_fit parts cells }
+
   few_counted : (k : ℕ) (h : HandlerDef) → slice_get parts.handlers k ≡ Some h → body_outs h.body (funs_outs [] parts.funs) ≤ 8
   few_counted k h is = leb-true _ _ (passes_at (λ g. nat_le (body_outs g.body (funs_outs [] parts.funs)) 8) parts.handlers k h (and_parts _ _ sound.outs).1 is)
 
   -- Whatever its arguments are, a handler begins with locals of their widths.
-  started_fine : (h : HandlerDef) → IsFine parts h.locals (once false None) (started cells (begun_with (taken_at h.locals args) h.locals))
-  started_fine h = record { locals = widths-begun (taken_at h.locals args) (length args) h.locals (widths-taken h.locals args); answer = tt; outs = refl }
+  started_fine : (h : HandlerDef) → IsFine asked parts h.locals (once false None) (started cells (begun_with (taken_at h.locals args) h.locals))
+  started_fine h = record { locals = widths-begun (taken_at h.locals args) (length args) h.locals (widths-taken h.locals args); answer = tt; outs = λ is. refl; cells = λ is. is }
 
   sent_few : (k : ℕ) (h : HandlerDef) → slice_get parts.handlers k ≡ Some h → length (handled (Some h) parts cells now me args).after.outs ≤ 8
   sent_few k h is =
@@ -161,29 +170,29 @@ module _ (parts : Parts) (sound : IsSound parts) (cells : List (List ℕ)) (now 
       let counted = handler_keeps h parts cells now me args in
       omega arith
 
-  handler_fits : (k : ℕ) (h : HandlerDef) → slice_get parts.handlers k ≡ Some h → OutsFit parts (handled (Some h) parts cells now me args).after.outs
+  handler_fits : (k : ℕ) (h : HandlerDef) → slice_get parts.handlers k ≡ Some h → Ends parts cells (handled (Some h) parts cells now me args).after
   handler_fits k h is =
       let widths = and_parts _ _ sound.widths in
       let texts = and_parts _ _ sound.texts in
       let limits = and_parts _ _ sound.bodies in
       let returns = and_parts _ _ sound.returns in
       let few : EventsAreSmall parts = (and_parts _ _ (and_parts _ _ sound.declarations).0).1 in
-      let pairs = funs_fit parts few now me [] [] parts.funs tt widths.0 texts.0 limits.0 returns.0 in
+      let pairs = funs_fit asked parts few now me [] [] parts.funs tt widths.0 texts.0 limits.0 returns.0 in
       let place : Frame = record { now = now; me = me; arrays = []; funs = funs_from now me [] parts.funs } in
       let rule = body_rule (handler_scope parts h) None (map returns_of h.body) (passes_at _ parts.handlers k h widths.1 is) in
       let begun = started_fine h in
       let text = body_prints parts.forms h.body (passes_at _ parts.handlers k h texts.1 is) (passes_at _ parts.handlers k h limits.1 is) in
       let return = passes_at _ parts.handlers k h returns.1 is in
-      let done = body_fits parts (handler_scope parts h) place (record { events = refl; few = few; funs = pairs }) h.body text return rule.0 rule.1 None rule.2 false (started cells (begun_with (taken_at h.locals args) h.locals)) begun in
-      (done.outs, sent_few k h is)
+      let done = body_fits asked parts (handler_scope parts h) place (record { events = refl; few = few; funs = pairs; arrays = refl; params = λ is i w none. absurd (nothing_there i w none) }) h.body (λ is. text) return rule.0 rule.1 None rule.2 false (started cells (begun_with (taken_at h.locals args) h.locals)) begun in
+      record { outs = done.outs refl; few = sent_few k h is; cells_fit = done.cells }
 
   -- An event without a handler sends nothing.
-  at_handler : (k : ℕ) (found : Option HandlerDef) → slice_get parts.handlers k ≡ found → OutsFit parts (handled found parts cells now me args).after.outs
-  at_handler k None is = (refl, omega arith)
+  at_handler : (k : ℕ) (found : Option HandlerDef) → slice_get parts.handlers k ≡ found → Ends parts cells (handled found parts cells now me args).after
+  at_handler k None is = record { outs = refl; few = omega arith; cells_fit = λ fit. fit }
   at_handler k (Some h) is = handler_fits k h is
 
-  handled_fits : (k : Option ℕ) → OutsFit parts (handled (option_and_then (slice_get parts.handlers) k) parts cells now me args).after.outs
-  handled_fits None = (refl, omega arith)
+  handled_fits : (k : Option ℕ) → Ends parts cells (handled (option_and_then (slice_get parts.handlers) k) parts cells now me args).after
+  handled_fits None = record { outs = refl; few = omega arith; cells_fit = λ fit. fit }
   handled_fits (Some k) = at_handler k (slice_get parts.handlers k) refl
 
 -- In a sound program, what an event's handler sends out fits and carries few numbers, and is at most 8 outs.
@@ -192,12 +201,26 @@ pub record SendsFew (parts : Parts) (outs : List Out) : Type 0 where
   pub small : All (λ out. length (carried out) ≤ 8) outs
   pub few : length outs ≤ 8
 
+ends : (parts : Parts) → IsSound parts → (cells : List (List ℕ)) (now me : ℕ) (event : Event) → Ends parts cells (ran parts cells now me event).after
+ends parts sound cells now me event = handled_fits parts sound cells now me event.args (option_and_then (λ e. e.handler) (slice_get parts.events event.id))
+
 pub outs_fit : (parts : Parts) → IsSound parts → (cells : List (List ℕ)) (now me : ℕ) (event : Event) → SendsFew parts (step parts cells now me event).outs
 outs_fit parts sound cells now me event =
-    let fit = handled_fits parts sound cells now me event.args (option_and_then (λ e. e.handler) (slice_get parts.events event.id)) in
-    let all = AllPass-from_list_all (goes_out parts) _ fit.0 in
+    let fit = ends parts sound cells now me event in
+    let all = AllPass-from_list_all (goes_out parts) _ fit.outs in
     record {
       each = All-weaker (λ out. goes_out parts out ≡ true) (λ out. IsTrue (out_fits parts out)) (λ out fits. (and_parts _ _ fits).0) _ all;
       small = All-weaker (λ out. goes_out parts out ≡ true) (λ out. length (carried out) ≤ 8) (λ out fits. leb-true _ _ (and_parts _ _ fits).1) _ all;
-      few = fit.1;
+      few = fit.few;
     }
+
+-- Cells that fit stay so at each step, and so after any list of events from cells that are all 0.
+pub cells_stay_fit : (parts : Parts) → IsSound parts → (cells : List (List ℕ)) (now me : ℕ) (event : Event) → cells_fit parts cells ≡ true → cells_fit parts (step parts cells now me event).cells ≡ true
+cells_stay_fit parts sound cells now me event fit = (ends parts sound cells now me event).cells_fit fit
+
+steps_fit : (parts : Parts) → IsSound parts → (entries : List Entry) (so_far : Steps) → cells_fit parts so_far.cells ≡ true → cells_fit parts (steps_from parts so_far entries).cells ≡ true
+steps_fit parts sound [] so_far fit = fit
+steps_fit parts sound (e ∷ es) so_far fit = steps_fit parts sound es (one_more_step parts so_far e) (cells_stay_fit parts sound so_far.cells e.now e.me e.event fit)
+
+pub after_fits : (parts : Parts) → IsSound parts → (entries : List Entry) (n : ℕ) → cells_fit parts (after parts entries n) ≡ true
+after_fits parts sound entries n = steps_fit parts sound (take n entries) (record { cells = zero_cells parts.arrays; outs = [] }) (zero_cells-fit parts)

@@ -1,16 +1,16 @@
 -- What holds of the state of a body all along, and acts that keep it so.
-use Rattle.std.proofs.Common.{◌≡◌, ℕ, zero, suc, List, [], ◌∷◌, ◌++◌, Bool, true, false, not, ◌&&◌, ◌||◌, ◌⊎◌, inl, inr, is_some, if◌then◌else◌, map, take, Option, None, Some, refl, sym, ap, subst, ◌∙◌, length, slice_get, nat_eq, nat_le}
-use Rattle.std.specs.List.{list_all, list_any}
+use Rattle.std.proofs.Common.{◌≡◌, ℕ, zero, suc, List, [], ◌∷◌, ◌++◌, Bool, true, false, not, ◌&&◌, ◌||◌, if◌then◌else◌, map, take, Option, None, Some, refl, sym, ap, subst, ◌∙◌, length, slice_get, slice_index, nat_eq, nat_le}
+use Rattle.std.specs.List.{list_all}
 use Rattle.std.specs.Option.{option_eq, option_map_or}
-use Rattle.std.proofs.lemmas.List.Folds.{list_all-append, list_any-append}
-use Rattle.std.proofs.lemmas.Bool.{and_from, and_parts, eqb-true, eq-eqb, or_cases, or_left, or_right}
+use Rattle.std.proofs.lemmas.List.Folds.{list_all-append}
+use Rattle.std.proofs.lemmas.Bool.{and_from, and_parts, eqb-true, eq-eqb}
 use Rattle.lucid_base.specs.declared.bits.Bits.{Bits}
 use Rattle.lucid_base.specs.declared.event.Out.{Out}
 use Rattle.lucid_base.specs.declared.event.Target.{Target}
 use Rattle.lucid_base.specs.declared.event.Target.TheVariants.{At}
 use Rattle.lucid_core.specs.declared.defs.FunDef.{FunDef}
 use Rattle.lucid_core.specs.Acts.{Act, Frame, Fun, State, Ran, both}
-use Rattle.lucid_core.specs.Fits.{carried, out_fits}
+use Rattle.lucid_core.specs.Fits.{carried, cells_fit, out_fits}
 use Rattle.lucid_core.specs.Meaning.{call, generated}
 use Rattle.lucid_core.specs.Parts.{Parts}
 use Rattle.lucid_core.specs.Scope.{Scope}
@@ -33,27 +33,43 @@ once false a = None
 abbrev pub goes_out : Parts → Out → Bool
 goes_out core out = out_fits core out && nat_le (length (carried out)) 8
 
--- Each local has its width, so has the answer, and all that was sent out fits and carries few numbers.
-pub record IsFine (core : Parts) (ws : List ℕ) (a : Answer) (s : State) : Type 0 where
+-- What is asked of a state beyond widths: whether its outs fit, and whether its cells do.
+pub record Asked : Type 0 where
+  pub outs : Bool
+  pub cells : Bool
+
+-- Each local has its width, and so has the answer; where it is asked, all that was sent out fits and carries few numbers, and the cells fit.
+pub record IsFine (k : Asked) (core : Parts) (ws : List ℕ) (a : Answer) (s : State) : Type 0 where
   pub locals : widths s.locals ≡ ws
   pub answer : Has a s.answer
-  pub outs : list_all (goes_out core) s.outs ≡ true
+  pub outs : k.outs ≡ true → list_all (goes_out core) s.outs ≡ true
+  pub cells : k.cells ≡ true → cells_fit core s.cells ≡ true
 
 -- A run gives what P holds of, and leaves a state that is fine.
-pub record Goes {A : Type 0} (core : Parts) (ws : List ℕ) (a : Answer) (P : A → Type 0) (ran : Ran A) : Type 0 where
+pub record Goes {A : Type 0} (k : Asked) (core : Parts) (ws : List ℕ) (a : Answer) (P : A → Type 0) (ran : Ran A) : Type 0 where
   pub gives : P ran.gives
-  pub fine : IsFine core ws a ran.after
+  pub fine : IsFine k core ws a ran.after
+
+-- Array `a` has cells of this width.
+abbrev pub IsWide : Parts → ℕ → ℕ → Type 0
+IsWide core a w = slice_get (map (λ d. d.width) core.arrays) a ≡ Some w
+
+-- Each array parameter of these widths stands for an array of its width.
+abbrev pub AreWide : Parts → List ℕ → List ℕ → Type 0
+AreWide core params arrays = (i w : ℕ) → slice_get params i ≡ Some w → IsWide core (slice_index arrays i) w
 
 -- A function that is given values of its parameters' widths gives a value of its answer's width, and its caller's state stays fine.
-abbrev pub FunFits : Parts → FunDef → Fun → Type 0
-FunFits core f g = (arrays : List ℕ) (vs : List Bits) → widths vs ≡ take f.params f.locals →
-    (ws : List ℕ) (a : Answer) (s : State) → IsFine core ws a s → Goes core ws a (Has f.answer) (g arrays vs s)
+abbrev pub FunFits : Asked → Parts → FunDef → Fun → Type 0
+FunFits k core f g = (arrays : List ℕ) (vs : List Bits) → widths vs ≡ take f.params f.locals → (k.cells ≡ true → AreWide core f.arrays arrays) →
+    (ws : List ℕ) (a : Answer) (s : State) → IsFine k core ws a s → Goes k core ws a (Has f.answer) (g arrays vs s)
 
 -- A body runs where its scope says.
-pub record Stands (core : Parts) (s : Scope) (p : Frame) : Type 0 where
+pub record Stands (k : Asked) (core : Parts) (s : Scope) (p : Frame) : Type 0 where
   pub events : s.events ≡ map (λ e. e.params) core.events
   pub few : list_all (λ e. nat_le (length e.params) 8) core.events ≡ true
-  pub funs : Pairwise (FunFits core) s.funs p.funs
+  pub funs : Pairwise (FunFits k core) s.funs p.funs
+  pub arrays : s.arrays ≡ map (λ d. d.width) core.arrays
+  pub params : k.cells ≡ true → AreWide core s.params p.arrays
 
 -- Ways to have the width that is answered.
 pub has : (a : Answer) (w : ℕ) (v : Bits) → a ≡ Some w → v.width ≡ w → Has a v
@@ -67,37 +83,37 @@ pub has_none : (a : Answer) (v : Bits) → a ≡ None → Has a v
 has_none a v e = subst (λ (b : Answer). Has b v) (sym e) tt
 
 -- A call of a declared function.
-pub call_fits : (core : Parts) (p : Frame) (fs : List FunDef) (gs : List Fun) → Pairwise (FunFits core) fs gs → (k : ℕ) (f : FunDef) → slice_get fs k ≡ Some f →
-    FunFits core f (λ arrays vs. call k arrays vs (record p { funs = gs }))
-call_fits core p [] [] all k f h = absurd (cc)
-call_fits core p (d ∷ fs) (g ∷ gs) all zero f h = let e : d ≡ f = cc in subst (λ (x : FunDef). FunFits core x g) e all.0
-call_fits core p (d ∷ fs) (g ∷ gs) all (suc k) f h = call_fits core p fs gs all.1 k f h
-call_fits core p [] (g ∷ gs) all k f h = absurd all
-call_fits core p (d ∷ fs) [] all k f h = absurd all
+pub call_fits : (k : Asked) (core : Parts) (p : Frame) (fs : List FunDef) (gs : List Fun) → Pairwise (FunFits k core) fs gs → (i : ℕ) (f : FunDef) → slice_get fs i ≡ Some f →
+    FunFits k core f (λ arrays vs. call i arrays vs (record p { funs = gs }))
+call_fits k core p [] [] all i f h = absurd (cc)
+call_fits k core p (d ∷ fs) (g ∷ gs) all zero f h = let e : d ≡ f = cc in subst (λ (x : FunDef). FunFits k core x g) e all.0
+call_fits k core p (d ∷ fs) (g ∷ gs) all (suc i) f h = call_fits k core p fs gs all.1 i f h
+call_fits k core p [] (g ∷ gs) all i f h = absurd all
+call_fits k core p (d ∷ fs) [] all i f h = absurd all
 
-module _ (core : Parts) (ws : List ℕ) where
+module _ (k : Asked) (core : Parts) (ws : List ℕ) where
   -- Of an answer that is not given, nothing is asked.
-  pub forget : (a : Answer) (s : State) → IsFine core ws a s → IsFine core ws None s
-  forget a s fine = record { locals = fine.locals; answer = tt; outs = fine.outs }
+  pub forget : (a : Answer) (s : State) → IsFine k core ws a s → IsFine k core ws None s
+  forget a s fine = record { locals = fine.locals; answer = tt; outs = fine.outs; cells = fine.cells }
 
   -- After what never returns.
-  pub still : (given : Bool) (a : Answer) (s : State) → IsFine core ws (once given a) s → IsFine core ws (once (given || false) a) s
+  pub still : (given : Bool) (a : Answer) (s : State) → IsFine k core ws (once given a) s → IsFine k core ws (once (given || false) a) s
   still true a s fine = fine
   still false a s fine = fine
 
   -- After one statement and the rest of its block.
-  pub or_later : (given first later : Bool) (a : Answer) (s : State) → IsFine core ws (once ((given || first) || later) a) s → IsFine core ws (once (given || (first || later)) a) s
+  pub or_later : (given first later : Bool) (a : Answer) (s : State) → IsFine k core ws (once ((given || first) || later) a) s → IsFine k core ws (once (given || (first || later)) a) s
   or_later true first later a s fine = fine
   or_later false first later a s fine = fine
 
   -- After either branch of an if.
-  pub on_the_first : (given first second : Bool) (a : Answer) (s : State) → IsFine core ws (once (given || first) a) s → IsFine core ws (once (given || (first && second)) a) s
+  pub on_the_first : (given first second : Bool) (a : Answer) (s : State) → IsFine k core ws (once (given || first) a) s → IsFine k core ws (once (given || (first && second)) a) s
   on_the_first true first second a s fine = fine
   on_the_first false true true a s fine = fine
   on_the_first false true false a s fine = forget a s fine
   on_the_first false false second a s fine = fine
 
-  pub on_the_second : (given first second : Bool) (a : Answer) (s : State) → IsFine core ws (once (given || second) a) s → IsFine core ws (once (given || (first && second)) a) s
+  pub on_the_second : (given first second : Bool) (a : Answer) (s : State) → IsFine k core ws (once (given || second) a) s → IsFine k core ws (once (given || (first && second)) a) s
   on_the_second true first second a s fine = fine
   on_the_second false true second a s fine = fine
   on_the_second false false true a s fine = forget a s fine
@@ -105,24 +121,25 @@ module _ (core : Parts) (ws : List ℕ) where
 
   -- An act after which the state is fine, whatever it gives.
   abbrev pub StaysFine : {A : Type 0} → Frame → Act A → Type 0
-  StaysFine p act = (a : Answer) (s : State) → IsFine core ws a s → IsFine core ws a (act p s).after
+  StaysFine p act = (a : Answer) (s : State) → IsFine k core ws a s → IsFine k core ws a (act p s).after
 
   pub both_stay : {A B : Type 0} (p : Frame) (first : Bool) (f : Act A) (g : Act B) → StaysFine p f → StaysFine p g → StaysFine p (both first f g)
   both_stay p true f g one two a s fine = two a (f p s).after (one a s fine)
   both_stay p false f g one two a s fine = one a (g p s).after (two a s fine)
 
   -- Outs that fit may follow.
-  pub sent_too : (a : Answer) (s : State) (outs : List Out) → IsFine core ws a s → list_all (goes_out core) outs ≡ true → IsFine core ws a (record s { outs = s.outs ++ outs })
+  pub sent_too : (a : Answer) (s : State) (outs : List Out) → IsFine k core ws a s → (k.outs ≡ true → list_all (goes_out core) outs ≡ true) → IsFine k core ws a (record s { outs = s.outs ++ outs })
   sent_too a s outs fine fit = record {
     locals = fine.locals;
     answer = fine.answer;
-    outs = list_all-append (goes_out core) s.outs outs ∙ and_from _ _ fine.outs fit;
+    outs = λ asked. list_all-append (goes_out core) s.outs outs ∙ and_from _ _ (fine.outs asked) (fit asked);
+    cells = fine.cells;
   }
 
 -- An event with values of the widths of its parameters fits, wherever it goes.
-pub generated_fits : (core : Parts) (s : Scope) (p : Frame) → Stands core s p → (event : ℕ) (params : List ℕ) (vs : List Bits) (delay : ℕ) (to : Target) →
+pub generated_fits : (k : Asked) (core : Parts) (s : Scope) (p : Frame) → Stands k core s p → (event : ℕ) (params : List ℕ) (vs : List Bits) (delay : ℕ) (to : Target) →
     slice_get s.events event ≡ Some params → widths vs ≡ params → goes_out core (generated event vs delay to) ≡ true
-generated_fits core s p stands event params vs delay to declared e =
+generated_fits k core s p stands event params vs delay to declared e =
     let is : slice_get (map (λ d. d.params) core.events) event ≡ Some params = ap (λ (es : List (List ℕ)). slice_get es event) (sym stands.events) ∙ declared in
     let few = params_are_few core.events event params is stands.few in
     and_from _ _ (event_is_fit core.events event params vs is e) (ap (λ n. nat_le n 8) (numbers-as_many vs params e) ∙ few)
@@ -152,27 +169,21 @@ both_pass test xs ys h = and_parts _ _ (sym (list_all-append test xs ys) ∙ h)
 pub both_pass_of : {A : Type 0} (test : A → Bool) (all xs ys : List A) → all ≡ xs ++ ys → list_all test all ≡ true → (list_all test xs ≡ true) × (list_all test ys ≡ true)
 both_pass_of test all xs ys e h = both_pass test xs ys (subst (λ zs. list_all test zs ≡ true) e h)
 
--- Where a return gives a value, the rule for returns knows it.
-abbrev pub IsSeen : List Answer → Bool → Type 0
-IsSeen rs value = list_any is_some rs ≡ true → value ≡ true
+-- The same of what is known where it is asked.
+pub parts_asked : {asked a b : Bool} → (asked ≡ true → (a && b) ≡ true) → (asked ≡ true → a ≡ true) × (asked ≡ true → b ≡ true)
+parts_asked {a = a} {b = b} h = (λ is. (and_parts a b (h is)).0, λ is. (and_parts a b (h is)).1)
 
-pub none_seen : (rs : List Answer) (value : Bool) → rs ≡ [] → IsSeen rs value
-none_seen rs value e h = let no : list_any (is_some {T = ℕ}) [] ≡ true = subst (λ (q : List Answer). list_any is_some q ≡ true) e h in absurd (cc)
-
-pub either_seen : (first second rs : List Answer) (one two : Bool) → rs ≡ first ++ second → IsSeen first one → IsSeen second two → IsSeen rs (one || two)
-either_seen first second rs one two e here there h = of_either (or_cases _ _ (sym (list_any-append is_some first second) ∙ ap (λ (q : List Answer). list_any is_some q) (sym e) ∙ h))
-  where
-    of_either : (list_any is_some first ≡ true) ⊎ (list_any is_some second ≡ true) → (one || two) ≡ true
-    of_either (inl some) = or_left _ _ (here some)
-    of_either (inr some) = or_right _ _ (there some)
+pub both_asked : {A : Type 0} {asked : Bool} (test : A → Bool) (xs ys : List A) → (asked ≡ true → list_all test (xs ++ ys) ≡ true) →
+    (asked ≡ true → list_all test xs ≡ true) × (asked ≡ true → list_all test ys ≡ true)
+both_asked test xs ys h = (λ is. (both_pass test xs ys (h is)).0, λ is. (both_pass test xs ys (h is)).1)
 
 -- A body that returns a value always returns.
-pub answer_given : (core : Parts) (ws : List ℕ) (a : Answer) (value always : Bool) (s : State) → ((w : ℕ) → a ≡ Some w → value ≡ true) → (not value || always) ≡ true →
-    IsFine core ws (once (false || always) a) s → Has a s.answer
-answer_given core ws None value always s seen rule fine = tt
-answer_given core ws (Some w) true true s seen rule fine = fine.answer
-answer_given core ws (Some w) true false s seen rule fine = absurd (cc)
-answer_given core ws (Some w) false always s seen rule fine = let no : false ≡ true = seen w refl in absurd (cc)
+pub answer_given : (k : Asked) (core : Parts) (ws : List ℕ) (a : Answer) (value always : Bool) (s : State) → ((w : ℕ) → a ≡ Some w → value ≡ true) → (not value || always) ≡ true →
+    IsFine k core ws (once (false || always) a) s → Has a s.answer
+answer_given k core ws None value always s seen rule fine = tt
+answer_given k core ws (Some w) true true s seen rule fine = fine.answer
+answer_given k core ws (Some w) true false s seen rule fine = absurd (cc)
+answer_given k core ws (Some w) false always s seen rule fine = let no : false ≡ true = seen w refl in absurd (cc)
 
 -- A call of an array gives a value where it answers.
 pub touched_has : (answers : Bool) (w : ℕ) (a : Answer) (v : Bits) → a ≡ (if answers then Some w else None) → v.width ≡ w → Has a v
@@ -180,9 +191,6 @@ touched_has true w a v e width = has a w v e width
 touched_has false w a v e width = has_none a v e
 
 -- What returns give, where all give a.
-pub none_given : (rs : List Answer) → rs ≡ None ∷ [] → list_any is_some rs ≡ true → false ≡ true
-none_given rs e h = subst (λ (q : List Answer). list_any is_some q ≡ true) e h
-
 pub is_none : (a : Answer) → option_eq nat_eq a None ≡ true → a ≡ None
 is_none None h = refl
 is_none (Some w) h = absurd (cc)

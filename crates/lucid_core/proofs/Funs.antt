@@ -1,8 +1,8 @@
 -- The functions before a function.
-use Rattle.std.proofs.Common.{◌≡◌, ℕ, zero, suc, ◌+◌, ◌<◌, ◌≤◌, List, [], ◌∷◌, ◌++◌, length, map, take, None, Some, refl, arith, length-append}
-use Rattle.std.specs.Prelude.{fold, slice_get, Result}
+use Rattle.std.proofs.Common.{◌≡◌, ℕ, zero, suc, ◌+◌, ◌<◌, ◌≤◌, List, [], ◌∷◌, map, take, None, Some, refl, arith}
+use Rattle.std.specs.Prelude.{slice_get, Result}
 use Rattle.std.specs.Option.{option_map}
-use Rattle.std.proofs.lemmas.Option.{slice_get_past, slice_get_within}
+use Rattle.std.proofs.lemmas.Option.{slice_get_within}
 use denote.Param.Weighed.{most}
 use Rattle.lucid_base.specs.declared.bits.Bits.{Bits}
 use Rattle.lucid_base.specs.declared.memory.Memory.{Memory}
@@ -14,38 +14,14 @@ use Rattle.lucid_core.specs.Meaning.{call, effect_of, fun_of, funs_of}
 use Rattle.lucid_core.specs.Running.{Running, Does}
 use Rattle.lucid_core.specs.Values.{nothing}
 use Rattle.lucid_core.specs.Weight.{weight}
-
-get_before : {A : Type 0} (xs : List A) (x : A) (i : ℕ) (f : A) → slice_get xs i ≡ Some f → slice_get (xs ++ x ∷ []) i ≡ Some f
-get_before [] x i f is = absurd (let past : i < 0 = slice_get_within [] i f is in omega arith)
-get_before (y ∷ ys) x zero f is = is
-get_before (y ∷ ys) x (suc i) f is = get_before ys x i f is
-
-get_last : {A : Type 0} (xs : List A) (x : A) → slice_get (xs ++ x ∷ []) (length xs) ≡ Some x
-get_last [] x = refl
-get_last (y ∷ ys) x = get_last ys x
+use Rattle.lucid_core.proofs.Grown.{grow, grow-at}
 
 -- What functions do, behind those already known.
 abbrev pub funs_from : ℕ → ℕ → List Fun → List FunDef → List Fun
-funs_from now me known fs = fold (λ before f. before ++ fun_of now me before f ∷ []) known fs
-
--- What is known stays where it is.
-funs_from-known : (now me : ℕ) (known : List Fun) (fs : List FunDef) (i : ℕ) (f : Fun) → slice_get known i ≡ Some f → slice_get (funs_from now me known fs) i ≡ Some f
-funs_from-known now me known [] i f is = is
-funs_from-known now me known (g ∷ fs) i f is = funs_from-known now me (known ++ fun_of now me known g ∷ []) fs i f (get_before known (fun_of now me known g) i f is)
-
-funs_from-at : (now me : ℕ) (known : List Fun) (fs : List FunDef) (k : ℕ) →
-    slice_get (funs_from now me known fs) (length known + k) ≡ option_map (λ f. fun_of now me (funs_from now me known (take k fs)) f) (slice_get fs k)
-funs_from-at now me known [] k = slice_get_past known (length known + k) (omega arith)
-funs_from-at now me known (f ∷ fs) zero =
-    let e : length known + 0 ≡ length known = omega arith in
-    rw e (funs_from-known now me (known ++ fun_of now me known f ∷ []) fs (length known) (fun_of now me known f) (get_last known (fun_of now me known f)))
-funs_from-at now me known (f ∷ fs) (suc k) =
-    let more = known ++ fun_of now me known f ∷ [] in
-    let e : length known + suc k ≡ length more + k = simp length-append (omega arith) in
-    rw e (funs_from-at now me more fs k)
+funs_from now me known fs = grow (fun_of now me) known fs
 
 pub funs_of-at : (now me : ℕ) (fs : List FunDef) (k : ℕ) → slice_get (funs_of now me fs) k ≡ option_map (λ f. fun_of now me (funs_of now me (take k fs)) f) (slice_get fs k)
-funs_of-at now me fs k = let e : 0 + k ≡ k = omega arith in rw e at (funs_from-at now me [] fs k)
+funs_of-at now me fs k = let e : 0 + k ≡ k = omega arith in rw e at (grow-at (fun_of now me) [] fs k)
 
 pub weight-at : (fs : List FunDef) (k : ℕ) (f : FunDef) → slice_get fs k ≡ Some f → weight (take k fs) + most (λ x. size-Stmt x) f.body + 1 ≤ weight fs
 weight-at [] k f is = absurd (let past : k < 0 = slice_get_within [] k f is in omega arith)

@@ -1,12 +1,17 @@
+pub mod Arrays
 pub mod BodiesFit
 pub mod CellsLemmas
+pub mod Entries
 pub mod ExampleProofs
 pub mod Fine
 pub mod Folds
 pub mod Funs
+pub mod Grown
+pub mod Handled
 pub mod MeaningLemmas
 pub mod Pairwise
 pub mod Prints
+pub mod Seen
 pub mod SentCount
 pub mod SentFit
 pub mod StepProofs

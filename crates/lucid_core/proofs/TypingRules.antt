@@ -14,16 +14,16 @@ use Rattle.lucid_core.specs.Scope.{Scope}
 use Rattle.lucid_core.specs.Typing.{Answer, Typed, ◌>>=◌, given_that, same, value, all_typed, values, cell_width, local_width, joined, one_answer, expr_step, touch_step, event_is_given, stmt_step, gives_only}
 
 -- Where the second of two gives something, so does the first.
-first_of_two : {A B : Type 0} (o : Option A) (f : A → Option B) (b : B) → (o >>= f) ≡ Some b → (a : A) × (o ≡ Some a) × (f a ≡ Some b)
+pub first_of_two : {A B : Type 0} (o : Option A) (f : A → Option B) (b : B) → (o >>= f) ≡ Some b → (a : A) × (o ≡ Some a) × (f a ≡ Some b)
 first_of_two None f b h = absurd (cc)
 first_of_two (Some a) f b h = (a, refl, h)
 
 -- Where x is given that a test holds.
-holds : {A : Type 0} (test : Bool) (x y : A) → given_that test x ≡ Some y → (test ≡ true) × (x ≡ y)
+pub holds : {A : Type 0} (test : Bool) (x y : A) → given_that test x ≡ Some y → (test ≡ true) × (x ≡ y)
 holds true x y h = (refl, cc)
 holds false x y h = absurd (cc)
 
-is_value : (o : Option Answer) (w : ℕ) → (o >>= (λ answer. answer)) ≡ Some w → o ≡ Some (Some w)
+pub is_value : (o : Option Answer) (w : ℕ) → (o >>= (λ answer. answer)) ≡ Some w → o ≡ Some (Some w)
 is_value None w h = absurd (cc)
 is_value (Some None) w h = absurd (cc)
 is_value (Some (Some v)) w h = cc
@@ -108,14 +108,16 @@ module _ (s : Scope) where
   give_parts (x ∷ xs) ys h = let rest = give_parts xs ys h.1 in ((h.0, rest.0), rest.1)
 
   pub call_rule : (k : ℕ) (names : List ArrayName) (xs : List (Typed Answer)) (a : Answer) → expr_step (Expr-F.Fun k names xs) s ≡ Some a →
-      (f : FunDef) × (slice_get s.funs k ≡ Some f) × (values xs s ≡ Some (take f.params f.locals)) × (a ≡ f.answer)
+      (f : FunDef) × (slice_get s.funs k ≡ Some f) × (values xs s ≡ Some (take f.params f.locals)) × (all_typed (map cell_width names) s ≡ Some f.arrays) × (a ≡ f.answer)
   call_rule k names xs a h =
       let fun = first_of_two (slice_get s.funs k) _ a h in
       let cells = first_of_two (all_typed (map cell_width names) s) _ a fun.2 in
       let args = first_of_two (values xs s) _ a cells.2 in
       let agree = holds (same cells.0 fun.0.arrays && same args.0 (take fun.0.params fun.0.locals)) fun.0.answer a args.2 in
-      let e : args.0 ≡ take fun.0.params fun.0.locals = same_text _ _ (sym (and_parts _ _ agree.0).1) in
-      (fun.0, fun.1, args.1 ∙ ap (λ (ws : List ℕ). Some ws) e, sym agree.1)
+      let both = and_parts _ _ agree.0 in
+      let e : args.0 ≡ take fun.0.params fun.0.locals = same_text _ _ (sym both.1) in
+      let f : cells.0 ≡ fun.0.arrays = same_text _ _ (sym both.0) in
+      (fun.0, fun.1, args.1 ∙ ap (λ (ws : List ℕ). Some ws) e, cells.1 ∙ ap (λ (ws : List ℕ). Some ws) f, sym agree.1)
 
   -- Each argument has the width of the local that is to hold it.
   abbrev pub Matched : List (ℕ × Typed Answer) → Type 0
@@ -163,6 +165,7 @@ module _ (s : Scope) where
     pub get : (w : ℕ) × Gives t.get_arg w
     pub set : (w : ℕ) × Gives t.set_arg w
     pub answer : a ≡ (if t.answers then Some t.get.width else None)
+    pub cell : cell_width t.array s ≡ Some t.set.width
 
   pub touch_rule : (t : Touch-F (Typed Answer) (Typed (List Answer)) (Typed Answer)) (a : Answer) → touch_step t s ≡ Some a → Touching t a
   touch_rule t a h =
@@ -171,12 +174,15 @@ module _ (s : Scope) where
       let get = first_of_two (value t.get_arg s) _ a index.2 in
       let set = first_of_two (value t.set_arg s) _ a get.2 in
       let agree = holds (list_all (nat_eq cell.0) (t.get.width ∷ t.set.width ∷ get.0 ∷ set.0 ∷ [])) (if t.answers then Some cell.0 else None) a set.2 in
-      let e : cell.0 ≡ t.get.width = eqb-true _ _ (and_parts _ _ agree.0).0 in
+      let widths = and_parts _ _ agree.0 in
+      let e : cell.0 ≡ t.get.width = eqb-true _ _ widths.0 in
+      let f : cell.0 ≡ t.set.width = eqb-true _ _ (and_parts _ _ widths.1).0 in
       record {
         index = (index.0, gives t.index index.0 index.1);
         get = (get.0, gives t.get_arg get.0 get.1);
         set = (set.0, gives t.set_arg set.0 set.1);
         answer = sym agree.1 ∙ ap (λ (w : ℕ). if t.answers then Some w else None) e;
+        cell = cell.1 ∙ ap (λ (w : ℕ). Some w) f;
       }
 
   pub assign_rule : (i : ℕ) (x : Typed Answer) (rs : List Answer) → stmt_step (Stmt-F.Assign i x) s ≡ Some rs → (w : ℕ) × Gives x w × (slice_get s.locals i ≡ Some w) × (rs ≡ [])

@@ -1,6 +1,7 @@
--- Events and prints that fit a program.
+-- Events, prints and cells that fit a program.
 use Rattle.std.specs.Prelude.{ℕ, ◌^◌, List, [], ◌∷◌, Bool, true, false, ◌&&◌, nat_eq, nat_lt, length, slice_get}
 use Rattle.std.specs.Option.{option_map_or}
+use Rattle.lucid_base.specs.Cells.{rows_fit}
 use Rattle.lucid_base.specs.declared.event.Event.{Event}
 use Rattle.lucid_base.specs.declared.event.Out.{Out}
 use Rattle.lucid_base.specs.declared.event.Out.TheVariants.{Gen, Say}
@@ -30,3 +31,7 @@ carried (Say form numbers) = numbers
 abbrev pub out_fits : Parts → Out → Bool
 out_fits parts (Gen event delay to) = event_fits parts event
 out_fits parts (Say form numbers) = say_fits parts form numbers
+
+-- The cells are those of the program's arrays: lists of the declared sizes, of numbers within the cell widths.
+abbrev pub cells_fit : Parts → List (List ℕ) → Bool
+cells_fit parts cells = rows_fit parts.arrays cells

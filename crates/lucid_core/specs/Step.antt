@@ -1,6 +1,6 @@
 -- The whole step: what an event does when its handler runs whole, and what a list of events does, one after another.
-use Rattle.std.specs.Prelude.{ℕ, List, [], ◌∷◌, ◌++◌, Option, None, Some, fold, map, take, zip, slice_get, slice_index_or}
-use Rattle.std.specs.Option.{option_and_then}
+use Rattle.std.specs.Prelude.{ℕ, List, [], ◌∷◌, ◌++◌, Option, None, Some, fold, map, take, zip, slice_get}
+use Rattle.std.specs.Option.{option_and_then, option_map_or}
 use Rattle.lucid_base.specs.Bits.{bits_of}
 use Rattle.lucid_base.specs.declared.bits.Bits.{Bits}
 use Rattle.lucid_base.specs.declared.event.Event.{Event}
@@ -65,6 +65,6 @@ steps parts entries = fold (λ so_far e. let next = step parts so_far.cells e.no
 abbrev pub after : Parts → List Entry → ℕ → List (List ℕ)
 after parts entries n = (steps parts (take n entries)).cells
 
--- The outs of event j.
+-- The outs of event j: what it sends out on the cells after the events before it. None where there is no such event.
 abbrev pub outs : Parts → List Entry → ℕ → List Out
-outs parts entries j = slice_index_or (steps parts entries).outs j []
+outs parts entries j = option_map_or (λ e. (step parts (after parts entries j) e.now e.me e.event).outs) (slice_get entries j) []

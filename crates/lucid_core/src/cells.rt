@@ -1,9 +1,11 @@
 // The cells of a program's arrays.
-ghost use Rattle.std.specs.Prelude.{◌≡◌, [], IfOk, slice_index, slice_set};
+ghost use Rattle.std.specs.Prelude.{◌≡◌, [], IfOk, IsTrue, slice_index, slice_set};
 ghost use Rattle.lucid_base.specs.Cells.{zero_cells, cell_at, with_cell, place_of};
+ghost use Rattle.lucid_core.specs.Fits.{cells_fit};
 
 use crate::Core;
-use lucid_base::{Items, Memory};
+use crate::laws::cells_stay_fit;
+use lucid_base::{ArrayDef, Items, Memory};
 use std::alloc::Global;
 use std::marker::Model;
 
@@ -22,16 +24,13 @@ impl Model for Cells {
 }
 
 impl Cells {
-    /// The cells of the program's arrays, all 0.
+    /// The cells of the program's arrays, all 0, which fit it.
     pub fn new(alloc: Global, core: &Core) -> Result<Cells, Memory>
-        ensures { IfOk result (λ cells. cells ≡ zero_cells core.now.arrays) }
+        ensures zero { IfOk result (λ cells. cells ≡ zero_cells core.now.arrays) }
+        ensures fit { IfOk result (λ cells. IsTrue (cells_fit core.now cells)) }
     {
-        let mut arrays = Vec::new(alloc);
-        for array in core.arrays() {
-            let row = vec![in alloc; 0; array.size as usize]?;
-            arrays.push(Items::from_vec(row))?;
-        }
-        Ok(Cells { arrays })
+        cells_stay_fit(core);
+        zeros(alloc, core.arrays())
     }
 
     /// No arrays.
@@ -54,7 +53,7 @@ impl Cells {
     }
 
     /// Lets a cell of an array hold `value`, where it is there. Cell `i` is `i` modulo the size.
-    pub fn set(&mut self, array: u32, cell: u64, value: u64)
+    pub(crate) fn set(&mut self, array: u32, cell: u64, value: u64)
         ensures { self.new ≡ with_cell self.old array cell value }
     {
         if (array as usize) < self.arrays.len() {
@@ -62,6 +61,17 @@ impl Cells {
             write(row, cell, value);
         }
     }
+}
+
+fn zeros(alloc: Global, arrays: &[ArrayDef]) -> Result<Cells, Memory>
+    ensures { IfOk result (λ cells. cells ≡ zero_cells arrays.now) }
+{
+    let mut rows = Vec::new(alloc);
+    for array in arrays {
+        let row = vec![in alloc; 0; array.size as usize]?;
+        rows.push(Items::from_vec(row))?;
+    }
+    Ok(Cells { arrays: rows })
 }
 
 fn read(row: &[u64], cell: u64) -> u64

@@ -24,6 +24,6 @@ mod whole;
 pub use body::{Expr, Stmt, Touch};
 pub use cells::Cells;
 pub use defs::{EventDef, FunDef, HandlerDef, MemopDef};
-pub use laws::{flat_outs_fit, outs_fit};
+pub use laws::{cells_stay_fit, flat_cells_stay_fit, flat_outs_fit, outs_are_of_steps, outs_fit};
 pub use program::{Core, Flat};
 pub use whole::run_whole;

@@ -2,13 +2,13 @@
 ghost use Rattle.std.specs.Prelude.{◌≡◌, ◌≤◌, [], All, IfOk, IsTrue, OnOk, OnErr, length, map};
 ghost use Rattle.std.specs.Option.{option_map};
 ghost use Rattle.lucid_core.specs.Acts.{block};
-ghost use Rattle.lucid_core.specs.Fits.{carried, out_fits};
+ghost use Rattle.lucid_core.specs.Fits.{carried, cells_fit, out_fits};
 ghost use Rattle.lucid_core.specs.Meaning.{effect_of};
 ghost use Rattle.lucid_core.specs.Running.{frame, with_state};
 ghost use Rattle.lucid_core.specs.Step.{handled, handler_of as handler_in, step, taken_at};
 
 use crate::interpret::{effects, with_zeros};
-use crate::laws::outs_fit;
+use crate::laws::{cells_stay_fit, outs_fit};
 use crate::operate::low_bits;
 use crate::place::{Moment, Place};
 use crate::run::Run;
@@ -18,7 +18,8 @@ use std::alloc::Global;
 use std::mem;
 
 /// Runs the handler of an event that enters switch `me` at tick `now`, and gives what it sends out.
-/// An event without a handler changes nothing. What it sends out fits the program. It takes memory for locals and arguments, and copies no arrays.
+/// An event without a handler changes nothing. What it sends out fits the program, and so do the cells after it, where they did before.
+/// It takes memory for locals and arguments, and copies no arrays.
 pub fn run_whole(
     alloc: Global,
     core: &Core,
@@ -31,8 +32,10 @@ pub fn run_whole(
     ensures fits { IfOk result (λ outs. All (λ out. IsTrue (out_fits core.now out)) outs) }
     ensures cells { OnOk result (cells.new ≡ (step core.now cells.old now me event.now).cells) }
     ensures unchanged { OnErr result (cells.new ≡ cells.old) }
+    ensures fit { IsTrue (cells_fit core.now cells.old) → IsTrue (cells_fit core.now cells.new) }
 {
-    outs_fit(core, cells, now, me, event);
+    outs_fit(core);
+    cells_stay_fit(core);
     match handler_of(core, event.id) {
         None => Ok(Outs::new()),
         Some(handler) => handle(
