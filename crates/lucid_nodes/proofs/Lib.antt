@@ -1,0 +1,4 @@
+pub mod Built
+pub mod Expressions
+pub mod Parts
+pub mod Statements

@@ -1,0 +1,13 @@
+-- Where a part of a body stands.
+use Rattle.std.specs.Prelude.{ℕ, List, ◌++◌, Bool}
+use Rattle.lucid_core.specs.Scope.{Scope}
+
+-- What the part may name, the locals that are assigned there, and whether it is a flat program's.
+pub record Place : Type 0 where
+  pub scope : Scope
+  pub known : List ℕ
+  pub flat : Bool
+
+-- Behind an assignment of these.
+abbrev pub behind : Place → List ℕ → Place
+behind p locals = record p { known = p.known ++ locals }

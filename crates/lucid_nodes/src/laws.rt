@@ -1,0 +1,16 @@
+// The laws, each on a function that does nothing.
+ghost use Rattle.lucid_nodes.specs.ExprNodes.{ExprNodes};
+ghost use Rattle.lucid_nodes.specs.Programs.{CoreIsValid, FlatIsValid};
+ghost use Rattle.lucid_nodes.specs.StmtNodes.{StmtNodes};
+
+/// An expression, a statement or a block keeps every rule of a valid program where its parts do.
+pub fn nodes_keep_the_rules()
+    ensures expressions { ExprNodes }
+    ensures statements { StmtNodes }
+{}
+
+/// A program whose bodies keep the rules is valid.
+pub fn built_programs_are_valid()
+    ensures core { CoreIsValid }
+    ensures flat { FlatIsValid }
+{}
