@@ -1,4 +1,6 @@
+pub mod Assigning
 pub mod Built
 pub mod Expressions
 pub mod Parts
+pub mod SmallPrograms
 pub mod Statements

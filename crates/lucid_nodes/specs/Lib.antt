@@ -1,4 +1,5 @@
 pub mod Allowed
+pub mod AssigningNodes
 pub mod Endings
 pub mod ExprNodes
 pub mod Few

@@ -1,4 +1,5 @@
 // The laws, each on a function that does nothing.
+ghost use Rattle.lucid_nodes.specs.AssigningNodes.{AssigningNodes};
 ghost use Rattle.lucid_nodes.specs.ExprNodes.{ExprNodes};
 ghost use Rattle.lucid_nodes.specs.Programs.{CoreIsValid, FlatIsValid};
 ghost use Rattle.lucid_nodes.specs.StmtNodes.{StmtNodes};
@@ -7,6 +8,7 @@ ghost use Rattle.lucid_nodes.specs.StmtNodes.{StmtNodes};
 pub fn nodes_keep_the_rules()
     ensures expressions { ExprNodes }
     ensures statements { StmtNodes }
+    ensures assigning { AssigningNodes }
 {}
 
 /// A program whose bodies keep the rules is valid.
