@@ -35,7 +35,7 @@ impl Draft {
             } => {
                 let event = Event {
                     id: *event,
-                    args: copied(args.as_slice()),
+                    args: Args::from_slice(args.as_slice()),
                 };
                 Out::Gen {
                     event,
@@ -45,19 +45,8 @@ impl Draft {
             }
             Draft::Say { form, args } => Out::Say {
                 form: *form,
-                args: copied(args.as_slice()),
+                args: Args::from_slice(args.as_slice()),
             },
         }
     }
-}
-
-fn copied(numbers: &[u64]) -> Args
-    requires { length numbers.now ≤ 8 }
-    ensures { result ≡ numbers.now }
-{
-    let mut args = Args::new();
-    for number in numbers {
-        args.push(*number);
-    }
-    args
 }

@@ -9,7 +9,7 @@ ghost use Rattle.lucid_base.specs.declared.event.Target.TheVariants.{At};
 ghost use Rattle.lucid_core.specs.declared.body.Expr.TheOpen.{Expr-F};
 
 use crate::draft::Draft;
-use crate::operate::{binary, comparison, hashed, low_bits, narrowed, nothing, numbers, unary};
+use crate::operate::{binary, comparison, hashed, nothing, numbers, unary};
 use crate::place::Place;
 use crate::run::Run;
 use crate::{Expr, FunDef, Stmt, Touch};
@@ -24,8 +24,8 @@ pub fn value(place: Place, run: &mut Run, e: &Expr) -> Result<Bits, Memory>
     match e {
         Expr::Fixed(n) => Ok(*n),
         Expr::Local(i) => Ok(run.local(*i)),
-        Expr::Now => Ok(low_bits(Width::int(), place.moment.now)),
-        Expr::Me => Ok(low_bits(Width::int(), place.moment.me as u64)),
+        Expr::Now => Ok(Bits::low(Width::int(), place.moment.now)),
+        Expr::Me => Ok(Bits::low(Width::int(), place.moment.me as u64)),
         Expr::Un(op, a) => Ok(unary(*op, value(place, run, a.get())?)),
         Expr::Bin(op, a, b) => {
             let a = value(place, run, a.get())?;
@@ -37,7 +37,10 @@ pub fn value(place: Place, run: &mut Run, e: &Expr) -> Result<Bits, Memory>
             let b = value(place, run, b.get())?;
             Ok(comparison(*op, a, b))
         }
-        Expr::Cast(width, a) => Ok(narrowed(value(place, run, a.get())?, *width)),
+        Expr::Cast(width, a) => {
+            let a = value(place, run, a.get())?;
+            Ok(Bits::low(*width, a.value))
+        }
         Expr::Hash(width, operands) => {
             let operands = values(place, run, operands.as_slice())?;
             hashed(place.alloc, *width, operands.as_slice())
@@ -321,7 +324,7 @@ pub fn with_zeros(values: Items<Bits>, widths: &[Width]) -> Result<Items<Bits>, 
 {
     let mut locals = values;
     for i in locals.len()..widths.len() {
-        locals.push(low_bits(widths[i], 0))?;
+        locals.push(Bits::low(widths[i], 0))?;
     }
     Ok(locals)
 }

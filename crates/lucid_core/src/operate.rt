@@ -1,30 +1,11 @@
 // Operations on values, each equal to its definition. Unlike those below them they take any operands.
 ghost use Rattle.std.specs.Prelude.{◌≡◌, IfOk};
-ghost use Rattle.lucid_base.specs.Bits.{bits_of};
-ghost use Rattle.lucid_core.specs.Values.{unary as unary_of, binary as binary_of, comparison as comparison_of, hashed as hash_of_values, memop as memop_of, numbers as numbers_of, nothing as no_value};
+ghost use Rattle.lucid_core.specs.Values.{unary as unary_of, binary as binary_of, comparison as comparison_of, hashed as hash_of_values, numbers as numbers_of, nothing as no_value};
 
 use lucid_base::{
-    BinOp, Bits, CmpOp, Items, MemAlu, Memory, UnOp, Width, apply_bin, apply_un, cast, compare,
-    hash_bits,
+    BinOp, Bits, CmpOp, Items, Memory, UnOp, Width, apply_bin, apply_un, cast, compare, hash_bits,
 };
 use std::alloc::Global;
-
-/// The low bits of a number.
-pub fn low_bits(width: Width, n: u64) -> Bits
-    ensures { result ≡ bits_of width n }
-{
-    cast(word(n), width)
-}
-
-/// A number in 64 bits.
-fn word(n: u64) -> Bits
-    ensures { result.value ≡ n }
-{
-    Bits {
-        width: Width::new(64).unwrap(),
-        value: n,
-    }
-}
 
 /// What stands where no value is given.
 pub fn nothing() -> Bits
@@ -54,12 +35,6 @@ pub fn comparison(op: CmpOp, a: Bits, b: Bits) -> Bits
     Bits::from_bool(compare(op, a, cast(b, a.width)))
 }
 
-pub fn narrowed(a: Bits, width: Width) -> Bits
-    ensures { result ≡ bits_of width a.value }
-{
-    cast(a, width)
-}
-
 pub fn hashed(alloc: Global, width: Width, values: &[Bits]) -> Result<Bits, Memory>
     ensures { IfOk result (λ v. v ≡ hash_of_values width values.now) }
 {
@@ -75,15 +50,4 @@ pub fn numbers(alloc: Global, values: &[Bits]) -> Result<Items<u64>, Memory>
         all.push(value.value)?;
     }
     Ok(all)
-}
-
-pub fn memop(m: &MemAlu, stored: u64, arg: Bits) -> Bits
-    ensures { result ≡ memop_of m.now stored arg }
-{
-    let stored = low_bits(m.width, stored).value;
-    let arg = cast(arg, m.width).value;
-    Bits {
-        width: m.width,
-        value: m.apply(stored, arg),
-    }
 }

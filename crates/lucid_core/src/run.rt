@@ -8,7 +8,7 @@ ghost use Rattle.lucid_core.specs.Values.{memop as memop_of, nothing as no_value
 
 use crate::Cells;
 use crate::draft::Draft;
-use crate::operate::{memop, nothing};
+use crate::operate::nothing;
 use lucid_base::{Bits, Items, MemAlu, Memory, Outs};
 use std::alloc::Global;
 use std::marker::Model;
@@ -169,8 +169,8 @@ impl Run {
             old,
         })?;
         self.cells
-            .set(array, index, memop(&set, old, set_arg).value);
-        Ok(memop(&get, old, get_arg))
+            .set(array, index, set.apply_low(old, set_arg.value).value);
+        Ok(get.apply_low(old, get_arg.value))
     }
 }
 

@@ -9,7 +9,6 @@ ghost use Rattle.lucid_core.specs.Step.{handled, handler_of as handler_in, step,
 
 use crate::interpret::{effects, with_zeros};
 use crate::laws::{cells_stay_fit, outs_fit};
-use crate::operate::low_bits;
 use crate::place::{Moment, Place};
 use crate::run::Run;
 use crate::{Cells, Core, HandlerDef, Stmt};
@@ -112,7 +111,7 @@ fn taken(alloc: Global, widths: &[Width], args: &[u64]) -> Result<Items<Bits>, M
 {
     let mut values = Items::new(alloc);
     for (width, arg) in widths.iter().zip(args) {
-        values.push(low_bits(*width, *arg))?;
+        values.push(Bits::low(*width, *arg))?;
     }
     Ok(values)
 }

@@ -121,10 +121,7 @@ fn expr(arg: Arg) -> Expr
     ensures { result ≡ expr_of arg }
 {
     match arg {
-        Arg::Fixed(n) => Expr::Fixed(Bits {
-            width: Width::int(),
-            value: u64::from(n),
-        }),
+        Arg::Fixed(n) => Expr::Fixed(Bits::new(Width::int(), u64::from(n))),
         Arg::Local(i) => Expr::Local(i),
     }
 }
