@@ -6,18 +6,18 @@ use Rattle.std.proofs.lemmas.List.Elements.{All-weaker}
 use Rattle.std.proofs.lemmas.List.Sums.{AllPass-from_list_all}
 use Rattle.lucid_base.specs.declared.bits.Bits.{Bits}
 use Rattle.lucid_base.specs.declared.event.Event.{Event}
-use Rattle.lucid_base.specs.declared.event.Out.{Out}
 use Rattle.lucid_core.specs.declared.body.Expr.{Expr}
 use Rattle.lucid_core.specs.declared.body.Stmt.{Stmt}
 use Rattle.lucid_core.specs.declared.body.Touch.{Touch}
 use Rattle.lucid_core.specs.declared.body.Expr.TheOpen.{Expr-F, Stmt-F, Touch-F}
 use Rattle.lucid_core.specs.declared.body.Expr.TheViews.{roll-Expr, roll-Stmt, roll-Touch}
-use Rattle.lucid_core.specs.declared.body.Expr.TheFolds.{fold-roll-Expr, fold-roll-Stmt, fold-roll-Touch, ind-Stmt}
+use Rattle.lucid_core.specs.declared.body.Expr.TheFolds.{fold-roll-Expr, fold-roll-Stmt, fold-roll-Touch, ind-Expr, ind-Stmt}
 use Rattle.lucid_core.specs.declared.defs.FunDef.{FunDef}
 use Rattle.lucid_core.specs.declared.defs.HandlerDef.{HandlerDef}
 use Rattle.lucid_core.specs.Acts.{Act, Effect, Frame, Fun, State, begun_with}
 use Rattle.lucid_base.specs.Cells.{zero_cells}
 use Rattle.lucid_core.specs.Fits.{carried, cells_fit, out_fits}
+use Rattle.lucid_core.specs.Laws.{CellsStayFit, OutsFit}
 use Rattle.lucid_core.specs.Limits.{body_keeps_limits}
 use Rattle.lucid_core.specs.Meaning as m
 use Rattle.lucid_core.specs.Meaning.{value_of, effect_of, touch_of, fun_of}
@@ -26,7 +26,7 @@ use Rattle.lucid_core.specs.Parts.{Parts}
 use Rattle.lucid_core.specs.Returns as r
 use Rattle.lucid_core.specs.Returns.{Returns, expr_returns, stmt_returns, touch_returns, body_returns}
 use Rattle.lucid_core.specs.Scope.{Scope, fun_scope, handler_scope, funs_pass}
-use Rattle.lucid_core.specs.Step.{Entry, Steps, after, handled, ran, started, step, taken_at}
+use Rattle.lucid_core.specs.Step.{Entry, Steps, handled, ran, started, step, taken_at}
 use Rattle.lucid_core.specs.Texts as x
 use Rattle.lucid_core.specs.Texts.{Printed, body_fills_texts}
 use Rattle.lucid_core.specs.Typing as t
@@ -90,6 +90,12 @@ module _ (asked : Asked) (core : Parts) (s : Scope) (p : Frame) (stands : Stands
       (λ e y is. subst (λ z. StmtHolds (roll-Stmt z)) is (of_stmt y))
       (λ e y is. subst (λ z. TouchHolds (roll-Touch z)) is (of_touch y))
 
+  pub expr_holds : (e : Expr) → ExprHolds e
+  expr_holds = ind-Expr ExprHolds StmtHolds TouchHolds
+      (λ e y is. subst (λ z. ExprHolds (roll-Expr z)) is (of_expr y))
+      (λ e y is. subst (λ z. StmtHolds (roll-Stmt z)) is (of_stmt y))
+      (λ e y is. subst (λ z. TouchHolds (roll-Touch z)) is (of_touch y))
+
   -- With their proofs.
   proved : List Stmt → List (S asked core s p stands)
   proved ss = map (λ e. (e, stmt_holds e)) ss
@@ -103,18 +109,18 @@ module _ (asked : Asked) (core : Parts) (s : Scope) (p : Frame) (stands : Stands
   body_fits ss = subst (BodyFits asked core s p stands) (stmts-proved ss) (block_fits asked core s p stands (proved ss))
 
 -- No event has more than 8 parameters.
-abbrev EventsAreSmall : Parts → Type 0
+abbrev pub EventsAreSmall : Parts → Type 0
 EventsAreSmall parts = list_all (λ e. nat_le (length e.params) 8) parts.events ≡ true
 
 -- The rules for a function, behind those before it.
-record IsSoundFun (parts : Parts) (before : List FunDef) (f : FunDef) : Type 0 where
-  widths : body_gives_only f.answer f.body (fun_scope parts before f) ≡ true
-  texts : body_fills_texts f.body parts.forms ≡ true
-  limits : body_keeps_limits f.body ≡ true
-  returns : ((body_returns f.body).last && (not (is_some f.answer) || (body_returns f.body).always)) ≡ true
+pub record IsSoundFun (parts : Parts) (before : List FunDef) (f : FunDef) : Type 0 where
+  pub widths : body_gives_only f.answer f.body (fun_scope parts before f) ≡ true
+  pub texts : body_fills_texts f.body parts.forms ≡ true
+  pub limits : body_keeps_limits f.body ≡ true
+  pub returns : ((body_returns f.body).last && (not (is_some f.answer) || (body_returns f.body).always)) ≡ true
 
 -- A sound function gives a value of its answer's width.
-fun_fits : (asked : Asked) (parts : Parts) → EventsAreSmall parts → (now me : ℕ) (before : List FunDef) (known : List Fun) (f : FunDef) → Pairwise (FunFits asked parts) before known → IsSoundFun parts before f →
+pub fun_fits : (asked : Asked) (parts : Parts) → EventsAreSmall parts → (now me : ℕ) (before : List FunDef) (known : List Fun) (f : FunDef) → Pairwise (FunFits asked parts) before known → IsSoundFun parts before f →
     FunFits asked parts f (fun_of now me known f)
 fun_fits asked parts few now me before known f pairs sound arrays vs width wide ws a s fine =
     let place : Frame = record { now = now; me = me; arrays = arrays; funs = known } in
@@ -195,32 +201,31 @@ module _ (parts : Parts) (sound : IsSound parts) (cells : List (List ℕ)) (now 
   handled_fits None = record { outs = refl; few = omega arith; cells_fit = λ fit. fit }
   handled_fits (Some k) = at_handler k (slice_get parts.handlers k) refl
 
--- In a sound program, what an event's handler sends out fits and carries few numbers, and is at most 8 outs.
-pub record SendsFew (parts : Parts) (outs : List Out) : Type 0 where
-  pub each : All (λ out. IsTrue (out_fits parts out)) outs
-  pub small : All (λ out. length (carried out) ≤ 8) outs
-  pub few : length outs ≤ 8
-
 ends : (parts : Parts) → IsSound parts → (cells : List (List ℕ)) (now me : ℕ) (event : Event) → Ends parts cells (ran parts cells now me event).after
 ends parts sound cells now me event = handled_fits parts sound cells now me event.args (option_and_then (λ e. e.handler) (slice_get parts.events event.id))
 
-pub outs_fit : (parts : Parts) → IsSound parts → (cells : List (List ℕ)) (now me : ℕ) (event : Event) → SendsFew parts (step parts cells now me event).outs
-outs_fit parts sound cells now me event =
-    let fit = ends parts sound cells now me event in
-    let all = AllPass-from_list_all (goes_out parts) _ fit.outs in
-    record {
-      each = All-weaker (λ out. goes_out parts out ≡ true) (λ out. IsTrue (out_fits parts out)) (λ out fits. (and_parts _ _ fits).0) _ all;
-      small = All-weaker (λ out. goes_out parts out ≡ true) (λ out. length (carried out) ≤ 8) (λ out fits. leb-true _ _ (and_parts _ _ fits).1) _ all;
-      few = fit.few;
-    }
+-- In a sound program, what an event's handler sends out fits and carries few numbers, and is at most 8 outs.
+pub outs_fit : (parts : Parts) → IsSound parts → OutsFit parts
+outs_fit parts sound = record {
+  each = λ cells now me event. All-weaker (λ out. goes_out parts out ≡ true) (λ out. IsTrue (out_fits parts out)) (λ out fits. (and_parts _ _ fits).0) _ (all_go_out cells now me event);
+  small = λ cells now me event. All-weaker (λ out. goes_out parts out ≡ true) (λ out. length (carried out) ≤ 8) (λ out fits. leb-true _ _ (and_parts _ _ fits).1) _ (all_go_out cells now me event);
+  few = λ cells now me event. (ends parts sound cells now me event).few;
+}
+  where
+    all_go_out : (cells : List (List ℕ)) (now me : ℕ) (event : Event) → All (λ out. goes_out parts out ≡ true) (step parts cells now me event).outs
+    all_go_out cells now me event = AllPass-from_list_all (goes_out parts) _ (ends parts sound cells now me event).outs
 
--- Cells that fit stay so at each step, and so after any list of events from cells that are all 0.
-pub cells_stay_fit : (parts : Parts) → IsSound parts → (cells : List (List ℕ)) (now me : ℕ) (event : Event) → cells_fit parts cells ≡ true → cells_fit parts (step parts cells now me event).cells ≡ true
-cells_stay_fit parts sound cells now me event fit = (ends parts sound cells now me event).cells_fit fit
+step_fits : (parts : Parts) → IsSound parts → (cells : List (List ℕ)) (now me : ℕ) (event : Event) → cells_fit parts cells ≡ true → cells_fit parts (step parts cells now me event).cells ≡ true
+step_fits parts sound cells now me event fit = (ends parts sound cells now me event).cells_fit fit
 
 steps_fit : (parts : Parts) → IsSound parts → (entries : List Entry) (so_far : Steps) → cells_fit parts so_far.cells ≡ true → cells_fit parts (steps_from parts so_far entries).cells ≡ true
 steps_fit parts sound [] so_far fit = fit
-steps_fit parts sound (e ∷ es) so_far fit = steps_fit parts sound es (one_more_step parts so_far e) (cells_stay_fit parts sound so_far.cells e.now e.me e.event fit)
+steps_fit parts sound (e ∷ es) so_far fit = steps_fit parts sound es (one_more_step parts so_far e) (step_fits parts sound so_far.cells e.now e.me e.event fit)
 
-pub after_fits : (parts : Parts) → IsSound parts → (entries : List Entry) (n : ℕ) → cells_fit parts (after parts entries n) ≡ true
-after_fits parts sound entries n = steps_fit parts sound (take n entries) (record { cells = zero_cells parts.arrays; outs = [] }) (zero_cells-fit parts)
+-- Cells that fit stay so at each step, and so after any list of events from cells that are all 0.
+pub cells_stay_fit : (parts : Parts) → IsSound parts → CellsStayFit parts
+cells_stay_fit parts sound = record {
+  zero = zero_cells-fit parts;
+  step = step_fits parts sound;
+  after = λ entries n. steps_fit parts sound (take n entries) (record { cells = zero_cells parts.arrays; outs = [] }) (zero_cells-fit parts);
+}

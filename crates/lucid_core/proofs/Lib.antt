@@ -14,6 +14,8 @@ pub mod Prints
 pub mod Seen
 pub mod SentCount
 pub mod SentFit
+pub mod Static
 pub mod StepProofs
 pub mod TypingRules
 pub mod WidthLists
+pub mod WidthRead

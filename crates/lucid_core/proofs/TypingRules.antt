@@ -142,6 +142,7 @@ module _ (s : Scope) where
     pub typed : all_typed ss s ≡ Some returns
     pub only : list_all (option_eq nat_eq a) (joined returns) ≡ true
     pub some : (w : ℕ) → a ≡ Some w → list_any is_some (joined returns) ≡ true
+    pub answer : one_answer (joined returns) ≡ Some a
 
   pub inlined_rule : (given : List (ℕ × Typed Answer)) (ss : List (Typed (List Answer))) (a : Answer) → expr_step (Expr-F.Inlined given ss) s ≡ Some a → Inlining given ss a
   inlined_rule given ss a h =
@@ -158,6 +159,7 @@ module _ (s : Scope) where
         typed = returns.1;
         only = only.0;
         some = only.1;
+        answer = answer.1 ∙ ap (λ (b : Answer). Some b) agree.1;
       }
 
   pub record Touching (t : Touch-F (Typed Answer) (Typed (List Answer)) (Typed Answer)) (a : Answer) : Type 0 where

@@ -4,6 +4,7 @@ pub mod Children
 pub mod Events
 pub mod ExamplePrograms
 pub mod Fits
+pub mod Laws
 pub mod Limits
 pub mod Meaning
 pub mod Names
@@ -23,3 +24,4 @@ pub mod Uses
 pub mod Valid
 pub mod Values
 pub mod Weight
+pub mod Width

@@ -20,10 +20,15 @@ mod run;
 #[cfg(test)]
 mod tests;
 mod whole;
+mod widths;
 
 pub use body::{Expr, Stmt, Touch};
 pub use cells::Cells;
 pub use defs::{EventDef, FunDef, HandlerDef, MemopDef};
-pub use laws::{cells_stay_fit, flat_cells_stay_fit, flat_outs_fit, outs_are_of_steps, outs_fit};
+pub use laws::{
+    cells_stay_fit, flat_cells_stay_fit, flat_outs_fit, flat_widths_are_static, outs_are_of_steps,
+    outs_fit, widths_are_static,
+};
 pub use program::{Core, Flat};
 pub use whole::run_whole;
+pub use widths::width_of;

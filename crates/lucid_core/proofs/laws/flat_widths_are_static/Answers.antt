@@ -1,0 +1,5 @@
+use Rattle.lucid_core.proofs.Static as static
+use Rattle.lucid_core.proofs.laws.flat_widths_are_static.Goals as goal
+
+pub returns : goal.returns
+returns c = static.widths_are_static c.args.flat.now c.arrays-valid.ensures.valid.sound
