@@ -3,6 +3,7 @@ pub mod AssigningNodes
 pub mod Endings
 pub mod ExprNodes
 pub mod Few
+pub mod InlinedNodes
 pub mod Keeps
 pub mod Place
 pub mod Programs

@@ -1,6 +1,7 @@
 // The laws, each on a function that does nothing.
 ghost use Rattle.lucid_nodes.specs.AssigningNodes.{AssigningNodes};
 ghost use Rattle.lucid_nodes.specs.ExprNodes.{ExprNodes};
+ghost use Rattle.lucid_nodes.specs.InlinedNodes.{InlinedNodes};
 ghost use Rattle.lucid_nodes.specs.Programs.{CoreIsValid, FlatIsValid};
 ghost use Rattle.lucid_nodes.specs.StmtNodes.{StmtNodes};
 
@@ -9,6 +10,7 @@ pub fn nodes_keep_the_rules()
     ensures expressions { ExprNodes }
     ensures statements { StmtNodes }
     ensures assigning { AssigningNodes }
+    ensures inlined { InlinedNodes }
 {}
 
 /// A program whose bodies keep the rules is valid.

@@ -14,7 +14,7 @@ use Rattle.lucid_core.specs.ExamplePrograms.{bumps, handler, handles, program}
 use Rattle.lucid_core.specs.Names.{names_are_there}
 use Rattle.lucid_core.proofs.Folds.{folds}
 use Rattle.lucid_order.specs.Ends.{End, Numbering, FunEnd, body_end, ends_of, expr_end, stmt_end, touch_end, expr_step, stmt_step, touch_step}
-use Rattle.lucid_order.specs.Examples.{OrderExamples, Orderly, calls, first, funs, in_turn, second}
+use Rattle.lucid_order.specs.Examples.{OrderExamples, Orderly, calls, first, funs, in_turn, second, with_relay}
 use Rattle.lucid_order.specs.Laws.{own_numbers}
 use Rattle.lucid_order.specs.Order.{InOrder}
 use Rattle.lucid_order.proofs.OwnNumbers.{by_own_numbers}
@@ -33,12 +33,15 @@ touch_ends y fs N c = ap (λ (f : End). f fs N c) (fold-roll-Touch End End End e
 ruleset ends = (expr_ends, stmt_ends, touch_ends)
 
 -- A body that has a derivation with the own numbers of arrays.
-in_order : (body : List Stmt) (end : ℕ) → body_end body (ends_of funs) own_numbers 0 ≡ Some end → Orderly body
-in_order body end is = record { numbering = own_numbers; rises = λ a b h l. h; end = end; derived = is }
+in_order : (before : List FunDef) (body : List Stmt) (end : ℕ) → body_end body (ends_of before) own_numbers 0 ≡ Some end → InOrder 2 before body
+in_order before body end is = record { numbering = own_numbers; rises = λ a b h l. h; end = end; derived = is }
 
 -- And one that has none.
-isnt_in_order : (body : List Stmt) → names_are_there (program bumps body) ≡ true → body_end body (ends_of funs) own_numbers 0 ≡ None → ¬ Orderly body
-isnt_in_order body names is order = let found = by_own_numbers (program bumps body) names 0 (handler body) refl order in let end = found.1 in cc
+isnt_in_order : (before : List FunDef) (body : List Stmt) → names_are_there (record (program bumps body) { funs = before }) ≡ true → body_end body (ends_of before) own_numbers 0 ≡ None → ¬ InOrder 2 before body
+isnt_in_order before body names is order =
+    let found = by_own_numbers (record (program bumps body) { funs = before }) names 0 (handler body) refl order in
+    let end = found.1 in
+    cc
 
 -- Array parameters may have any numbers.
 abbrev backwards : Numbering
@@ -49,7 +52,7 @@ pub bumps_in_order : InOrder 2 [] bumps
 bumps_in_order = record { numbering = own_numbers; rises = λ a b h l. h; end = 1; derived = simp ends refl }
 
 pub handles_in_order : Orderly handles
-handles_in_order = in_order _ 1 (simp ends refl)
+handles_in_order = in_order funs _ 1 (simp ends refl)
 
 passed : (a : ArrayName) (fs : List FunEnd) (N : Numbering) (c e : ℕ) → stmt_end (calls a) fs N c ≡ Some e → (c ≤ N a) × (e ≡ N a + 1)
 passed a fs N c e is = pick (nat_le c (N a)) refl (sym ends_there ∙ is)
@@ -73,25 +76,30 @@ never_twice a before order =
     omega arith
 
 pub swapped : ¬ Orderly (in_turn second first)
-swapped = isnt_in_order _ (simp folds refl) (simp ends refl)
+swapped = isnt_in_order funs _ (simp folds refl) (simp ends refl)
 
 pub order_examples : OrderExamples
 order_examples = record {
-  rising = in_order _ 2 (simp ends refl);
+  rising = in_order funs _ 2 (simp ends refl);
   swapped = swapped;
-  twice = isnt_in_order _ (simp folds refl) (simp ends refl);
-  one_in_each_branch = in_order _ 2 (simp ends refl);
-  behind_the_first_branch = isnt_in_order _ (simp folds refl) (simp ends refl);
-  behind_the_second_branch = isnt_in_order _ (simp folds refl) (simp ends refl);
-  index_before = in_order _ 2 (simp ends refl);
-  index_behind = isnt_in_order _ (simp folds refl) (simp ends refl);
-  delay_before_target = in_order _ 2 (simp ends refl);
-  target_before_delay = isnt_in_order _ (simp folds refl) (simp ends refl);
-  bumped_in_order = in_order _ 2 (simp ends refl);
-  bumped_back = isnt_in_order _ (simp folds refl) (simp ends refl);
-  bumped_twice = isnt_in_order _ (simp folds refl) (simp ends refl);
-  body_put_in = in_order _ 2 (simp ends refl);
-  body_put_in_behind = isnt_in_order _ (simp folds refl) (simp ends refl);
+  twice = isnt_in_order funs _ (simp folds refl) (simp ends refl);
+  one_in_each_branch = in_order funs _ 2 (simp ends refl);
+  behind_the_first_branch = isnt_in_order funs _ (simp folds refl) (simp ends refl);
+  behind_the_second_branch = isnt_in_order funs _ (simp folds refl) (simp ends refl);
+  index_before = in_order funs _ 2 (simp ends refl);
+  index_behind = isnt_in_order funs _ (simp folds refl) (simp ends refl);
+  delay_before_target = in_order funs _ 2 (simp ends refl);
+  target_before_delay = isnt_in_order funs _ (simp folds refl) (simp ends refl);
+  bumped_in_order = in_order funs _ 2 (simp ends refl);
+  bumped_back = isnt_in_order funs _ (simp folds refl) (simp ends refl);
+  bumped_twice = isnt_in_order funs _ (simp folds refl) (simp ends refl);
+  argument_before = in_order funs _ 2 (simp ends refl);
+  argument_behind = isnt_in_order funs _ (simp folds refl) (simp ends refl);
+  behind_a_group = isnt_in_order funs _ (simp folds refl) (simp ends refl);
+  relayed_in_order = in_order with_relay _ 2 (simp ends refl);
+  relayed_back = isnt_in_order with_relay _ (simp folds refl) (simp ends refl);
+  body_put_in = in_order funs _ 2 (simp ends refl);
+  body_put_in_behind = isnt_in_order funs _ (simp folds refl) (simp ends refl);
   parameters_are_free = record { numbering = backwards; rises = λ a b h l. h; end = 2; derived = simp ends refl };
   parameter_twice = never_twice (Param 0) funs;
 }

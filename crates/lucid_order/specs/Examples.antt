@@ -1,11 +1,11 @@
 -- Bodies whose order, paths and size were worked by hand, over two arrays and the function `bump` of lucid_core's examples.
-use Rattle.std.specs.Prelude.{◌≡◌, List, [], ◌∷◌, Some, Bool, true, false}
+use Rattle.std.specs.Prelude.{◌≡◌, List, [], ◌∷◌, ◌++◌, Some, Bool, true, false}
 use Rattle.lucid_base.specs.declared.array.ArrayName.{ArrayName}
 use Rattle.lucid_base.specs.declared.array.ArrayName.TheVariants.{Global, Param}
 use Rattle.lucid_core.specs.declared.body.Expr.{Expr}
 use Rattle.lucid_core.specs.declared.body.Stmt.{Stmt}
 use Rattle.lucid_core.specs.declared.defs.FunDef.{FunDef}
-use Rattle.lucid_core.specs.ExamplePrograms.{local, yes, call, drop_value, choose, generate_with, plus, update, bump, bumps, bump_put_in, program, small, flat}
+use Rattle.lucid_core.specs.ExamplePrograms.{local, yes, call, drop_value, choose, generate_with, to_each_after, return, plus, update, bump, bumps, bump_put_in, program, small, flat}
 use Rattle.lucid_order.specs.Cycle.{IsCycle}
 use Rattle.lucid_order.specs.Order.{InOrder, IsAccepted}
 use Rattle.lucid_order.specs.Paths.{paths}
@@ -45,8 +45,24 @@ sent delay_first = generate_with 0 (local 0 ∷ local 1 ∷ []) (Some (touch fir
 abbrev pub bump_both : ArrayName → ArrayName → List Stmt
 bump_both a b = drop_value (call 0 (a ∷ []) (local 0 ∷ [])) ∷ drop_value (call 0 (b ∷ []) (local 0 ∷ [])) ∷ []
 
+-- bump(a, ..); whose index is a call of b
+abbrev pub bump_at : ArrayName → ArrayName → List Stmt
+bump_at a b = drop_value (call 0 (a ∷ []) (touch b ∷ [])) ∷ []
+
+-- note(i, most) to the switches 4 and 2, after a delay that calls the second array; and then a call of the first
+abbrev pub group_first : List Stmt
+group_first = to_each_after 0 (local 0 ∷ local 1 ∷ []) (Some (touch second)) (4 ∷ 2 ∷ []) ∷ calls first ∷ []
+
+-- relay(a, i); relay(b, i);
+abbrev pub relay_both : ArrayName → ArrayName → List Stmt
+relay_both a b = drop_value (call 1 (a ∷ []) (local 0 ∷ [])) ∷ drop_value (call 1 (b ∷ []) (local 0 ∷ [])) ∷ []
+
 abbrev pub funs : List FunDef
 funs = bump bumps ∷ []
+
+-- The same, and fun int relay(Array<<32>> a, int i) { return bump(a, i); }
+abbrev pub with_relay : List FunDef
+with_relay = funs ++ bump (return (Some (call 0 (Param 0 ∷ []) (local 0 ∷ []))) ∷ []) ∷ []
 
 -- In order, of two arrays, behind `bump`.
 abbrev pub Orderly : List Stmt → Type 0
@@ -66,6 +82,11 @@ pub record OrderExamples : Type 0 where
   pub bumped_in_order : Orderly (bump_both first second)
   pub bumped_back : ¬ Orderly (bump_both second first)
   pub bumped_twice : ¬ Orderly (bump_both first first)
+  pub argument_before : Orderly (bump_at second first)
+  pub argument_behind : ¬ Orderly (bump_at first second)
+  pub behind_a_group : ¬ Orderly group_first
+  pub relayed_in_order : InOrder 2 with_relay (relay_both first second)
+  pub relayed_back : ¬ InOrder 2 with_relay (relay_both second first)
   pub body_put_in : Orderly (drop_value bump_put_in ∷ calls second ∷ [])
   pub body_put_in_behind : ¬ Orderly (calls second ∷ drop_value bump_put_in ∷ [])
   pub parameters_are_free : Orderly (in_turn (Param 1) (Param 0))
@@ -78,6 +99,9 @@ pub record PathExamples : Type 0 where
   pub target_first : paths funs (sent false) ≡ (second ∷ first ∷ []) ∷ []
   pub delay_first : paths funs (sent true) ≡ (first ∷ second ∷ []) ∷ []
   pub of_a_function : paths [] bumps ≡ (Param 0 ∷ []) ∷ []
+  pub of_an_argument : paths funs (bump_at second first) ≡ (first ∷ second ∷ []) ∷ []
+  pub of_a_group : paths funs group_first ≡ (second ∷ first ∷ []) ∷ []
+  pub of_a_relay : paths with_relay (relay_both second first) ≡ (second ∷ first ∷ []) ∷ []
   pub of_its_calls : paths funs (bump_both second first) ≡ (second ∷ first ∷ []) ∷ []
   pub body_put_in : paths funs (drop_value bump_put_in ∷ []) ≡ (first ∷ []) ∷ []
   pub cycle : IsCycle 2 (paths funs (in_turn second first)) first (second ∷ [])
