@@ -1,8 +1,7 @@
 -- How the reserved words are written.
-use Rattle.std.specs.Prelude.{ℕ, List, Option, codes, find, bytes_eq}
+use Rattle.std.specs.Prelude.{ℕ, ◌==◌, if◌then◌else◌, List, [], ◌∷◌, length, Option, codes, find, bytes_eq}
 use Rattle.lucid_lex.specs.declared.word.Word.{Word}
 use Rattle.lucid_lex.specs.declared.word.Word.TheVariants as words
-use Rattle.lucid_lex.specs.declared.word.TheConstants.{WORDS}
 
 -- the bytes of a reserved word
 abbrev pub word_text : Word → List ℕ
@@ -31,6 +30,17 @@ word_text words.Match = codes "match"
 word_text words.With = codes "with"
 word_text words.Group = codes "group"
 
+-- the reserved words of so many bytes
+abbrev pub words_of : ℕ → List Word
+words_of n =
+    if n == 2 then words.If ∷ []
+    else (if n == 3 then words.Int ∷ words.Fun ∷ words.SysCalls ∷ []
+    else (if n == 4 then words.Bool ∷ words.Else ∷ words.Void ∷ words.True ∷ words.Hash ∷ words.Me ∷ words.With ∷ []
+    else (if n == 5 then words.Event ∷ words.ArrayCalls ∷ words.EventCalls ∷ words.Const ∷ words.Memop ∷ words.False ∷ words.Match ∷ words.Group ∷ []
+    else (if n == 6 then words.Handle ∷ words.Return ∷ words.Global ∷ words.Printf ∷ []
+    else (if n == 8 then words.Generate ∷ []
+    else [])))))
+
 -- the reserved word with these bytes, if there is one
 unfoldable pub word_in : List ℕ → Option Word
-word_in bytes = find (λ w. bytes_eq (word_text w) bytes) WORDS
+word_in bytes = find (λ w. bytes_eq (word_text w) bytes) (words_of (length bytes))

@@ -8,7 +8,7 @@ use lucid_base::Span;
 use std::alloc::AllocFailed;
 
 /// What a token is. Two names, and two texts, differ by their bytes alone, which stand in the text at the span.
-#[derive(Clone, Copy, Debug, PartialEq, Eq)]
+#[derive(Clone, Copy, Debug)]
 pub enum Kind {
     /// A name, which is no reserved word.
     Name,
@@ -23,7 +23,7 @@ pub enum Kind {
 }
 
 /// A token and where it stands. The span of a text has both its quotes.
-#[derive(Clone, Copy, Debug, PartialEq, Eq)]
+#[derive(Clone, Copy)]
 pub struct Token {
     pub kind: Kind,
     pub span: Span,

@@ -1,6 +1,6 @@
-// The reserved words. A word is added here, in WORDS and in specs/Word.antt, and nowhere else.
+// The reserved words. A word is added here and in specs/Word.antt, and nowhere else.
 ghost use Rattle.std.specs.Prelude.{◌≡◌, find};
-ghost use Rattle.lucid_lex.specs.Word.{word_text, word_in};
+ghost use Rattle.lucid_lex.specs.Word.{word_text, words_of, word_in};
 
 /// A reserved word, which is never a name.
 #[derive(Clone, Copy, Debug, PartialEq, Eq)]
@@ -34,34 +34,6 @@ pub enum Word {
     With,
     Group,
 }
-
-/// Every reserved word.
-const WORDS: [Word; 24] = [
-    Word::Const,
-    Word::Global,
-    Word::Memop,
-    Word::Event,
-    Word::Handle,
-    Word::Fun,
-    Word::If,
-    Word::Else,
-    Word::Return,
-    Word::Generate,
-    Word::Printf,
-    Word::Int,
-    Word::Bool,
-    Word::Void,
-    Word::True,
-    Word::False,
-    Word::Hash,
-    Word::Me,
-    Word::ArrayCalls,
-    Word::EventCalls,
-    Word::SysCalls,
-    Word::Match,
-    Word::With,
-    Word::Group,
-];
 
 impl Word {
     /// How the word is written.
@@ -97,10 +69,45 @@ impl Word {
     }
 }
 
+/// The reserved words of so many bytes.
+fn words_of(len: usize) -> &'static [Word]
+    ensures { result.now ≡ words_of len }
+{
+    match len {
+        2 => &[Word::If],
+        3 => &[Word::Int, Word::Fun, Word::SysCalls],
+        4 => &[
+            Word::Bool,
+            Word::Else,
+            Word::Void,
+            Word::True,
+            Word::Hash,
+            Word::Me,
+            Word::With,
+        ],
+        5 => &[
+            Word::Event,
+            Word::ArrayCalls,
+            Word::EventCalls,
+            Word::Const,
+            Word::Memop,
+            Word::False,
+            Word::Match,
+            Word::Group,
+        ],
+        6 => &[Word::Handle, Word::Return, Word::Global, Word::Printf],
+        8 => &[Word::Generate],
+        _ => &[],
+    }
+}
+
 /// The reserved word that is written so, if one is.
 #[tactic(auto, unfolding(crate::specs::Word::word_in))]
 pub(crate) fn word_in(bytes: &[u8]) -> Option<Word>
     ensures { result ≡ word_in bytes.now }
 {
-    WORDS.iter().copied().find(|word| word.text() == bytes)
+    words_of(bytes.len())
+        .iter()
+        .copied()
+        .find(|word| word.text() == bytes)
 }
