@@ -8,8 +8,6 @@ mod front;
 mod lexer;
 mod reader;
 mod sign;
-#[cfg(test)]
-mod tests;
 mod token;
 mod word;
 

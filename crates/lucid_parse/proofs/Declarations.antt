@@ -4,14 +4,14 @@ use Rattle.std.proofs.lemmas.List.Folds.{list_all-map}
 use Rattle.lucid_lex.specs.declared.sign.Sign.TheVariants as signs
 use Rattle.lucid_lex.specs.declared.word.Word.TheVariants as words
 use Rattle.lucid_parse.specs.declared.lexeme.Lexeme.TheVariants as lexemes
-use Rattle.lucid_parse.specs.declared.tree.Ty.{Ty}
-use Rattle.lucid_parse.specs.declared.tree.Ty.TheVariants as types
-use Rattle.lucid_parse.specs.declared.tree.P.{P}
-use Rattle.lucid_parse.specs.declared.tree.P.TheVariants as p
-use Rattle.lucid_parse.specs.declared.tree.Size.{Size}
-use Rattle.lucid_parse.specs.declared.tree.Size.TheVariants as sizes
-use Rattle.lucid_parse.specs.declared.tree.DeclKind.{DeclKind}
-use Rattle.lucid_parse.specs.declared.tree.DeclKind.TheVariants as d
+use Rattle.lucid_tree.specs.declared.tree.Ty.{Ty}
+use Rattle.lucid_tree.specs.declared.tree.Ty.TheVariants as types
+use Rattle.lucid_tree.specs.declared.tree.P.{P}
+use Rattle.lucid_tree.specs.declared.tree.P.TheVariants as p
+use Rattle.lucid_tree.specs.declared.tree.Size.{Size}
+use Rattle.lucid_tree.specs.declared.tree.Size.TheVariants as sizes
+use Rattle.lucid_tree.specs.declared.tree.DeclKind.{DeclKind}
+use Rattle.lucid_tree.specs.declared.tree.DeclKind.TheVariants as d
 use Rattle.lucid_parse.specs.Reader as read
 use Rattle.lucid_parse.specs.Reader.{Text, Outcome, Parser, ◌>>=◌}
 use Rattle.lucid_parse.specs.ReadStatement as read_s

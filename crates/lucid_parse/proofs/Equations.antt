@@ -3,13 +3,13 @@ use Rattle.std.proofs.Common.{◌≡◌, ℕ, ◌+◌, Bool, ◌&&◌, nat_le, i
 use Rattle.lucid_lex.specs.declared.sign.Sign.TheVariants as signs
 use Rattle.lucid_lex.specs.declared.word.Word.TheVariants as words
 use Rattle.lucid_parse.specs.declared.lexeme.Lexeme.TheVariants as lexemes
-use Rattle.lucid_parse.specs.declared.tree.E.{E, fold-roll-E}
-use Rattle.lucid_parse.specs.declared.tree.E.TheVariants as e
-use Rattle.lucid_parse.specs.declared.tree.A.{A, fold-roll-A}
-use Rattle.lucid_parse.specs.declared.tree.A.TheVariants as a
-use Rattle.lucid_parse.specs.declared.tree.A.TheOpen.{A-F, E-F}
-use Rattle.lucid_parse.specs.declared.tree.Pre.{Pre}
-use Rattle.lucid_parse.specs.declared.tree.Infix.{Infix}
+use Rattle.lucid_tree.specs.declared.tree.E.{E, fold-roll-E}
+use Rattle.lucid_tree.specs.declared.tree.E.TheVariants as e
+use Rattle.lucid_tree.specs.declared.tree.A.{A, fold-roll-A}
+use Rattle.lucid_tree.specs.declared.tree.A.TheVariants as a
+use Rattle.lucid_tree.specs.declared.tree.A.TheOpen.{A-F, E-F}
+use Rattle.lucid_tree.specs.declared.tree.Pre.{Pre}
+use Rattle.lucid_tree.specs.declared.tree.Infix.{Infix}
 use Rattle.lucid_parse.specs.Operators.{pre_sign, infix_sign, level, left_level}
 use Rattle.lucid_parse.specs.Spelling as spell
 use Rattle.lucid_parse.specs.Spelling.{Text, Spelled, spelled, array_spelled, spelled_A, spelled_E, level_of, array_level, level_A, level_E, level_if, some_bind, all_bind}

@@ -6,14 +6,14 @@ use Rattle.lucid_lex.specs.declared.sign.Sign.TheVariants as signs
 use Rattle.lucid_lex.specs.declared.word.Word.TheVariants as words
 use Rattle.lucid_parse.specs.declared.lexeme.Lexeme.{Lexeme}
 use Rattle.lucid_parse.specs.declared.lexeme.Lexeme.TheVariants as lexemes
-use Rattle.lucid_parse.specs.declared.tree.E.{E}
-use Rattle.lucid_parse.specs.declared.tree.E.TheVariants as e
-use Rattle.lucid_parse.specs.declared.tree.A.{A}
-use Rattle.lucid_parse.specs.declared.tree.A.TheVariants as a
-use Rattle.lucid_parse.specs.declared.tree.Pre.{Pre}
-use Rattle.lucid_parse.specs.declared.tree.Pre.TheVariants as pres
-use Rattle.lucid_parse.specs.declared.tree.Infix.{Infix}
-use Rattle.lucid_parse.specs.declared.tree.Infix.TheVariants as infixes
+use Rattle.lucid_tree.specs.declared.tree.E.{E}
+use Rattle.lucid_tree.specs.declared.tree.E.TheVariants as e
+use Rattle.lucid_tree.specs.declared.tree.A.{A}
+use Rattle.lucid_tree.specs.declared.tree.A.TheVariants as a
+use Rattle.lucid_tree.specs.declared.tree.Pre.{Pre}
+use Rattle.lucid_tree.specs.declared.tree.Pre.TheVariants as pres
+use Rattle.lucid_tree.specs.declared.tree.Infix.{Infix}
+use Rattle.lucid_tree.specs.declared.tree.Infix.TheVariants as infixes
 use Rattle.lucid_parse.specs.declared.operator.Next.{Next}
 use Rattle.lucid_parse.specs.declared.operator.Next.TheVariants as nexts
 use Rattle.lucid_parse.specs.Operators.{pre_sign, infix_sign, level, left_level}
@@ -28,7 +28,7 @@ use Rattle.lucid_parse.proofs.Steps.{both, of_both, width_again, width_if_again}
 use Rattle.lucid_parse.proofs.Repeats.{ItemsOf, separated_again}
 use Rattle.lucid_parse.proofs.Growth.{grows, width_if_grow}
 use Rattle.lucid_parse.proofs.Levels.{next_level_lies}
-use Rattle.lucid_parse.proofs.Induction.{Cases, induction, array_induction}
+use Rattle.lucid_tree.proofs.Induction.{Cases, induction, array_induction}
 
 true_le : (n m : ℕ) → nat_le n m ≡ true → n ≤ m
 true_le n m h = leb-true n m h

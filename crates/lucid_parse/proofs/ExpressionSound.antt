@@ -6,13 +6,13 @@ use Rattle.lucid_lex.specs.declared.sign.Sign.{Sign}
 use Rattle.lucid_lex.specs.declared.sign.Sign.TheVariants as signs
 use Rattle.lucid_lex.specs.declared.word.Word.TheVariants as words
 use Rattle.lucid_parse.specs.declared.lexeme.Lexeme.TheVariants as lexemes
-use Rattle.lucid_parse.specs.declared.tree.E.{E}
-use Rattle.lucid_parse.specs.declared.tree.E.TheVariants as e
-use Rattle.lucid_parse.specs.declared.tree.A.{A}
-use Rattle.lucid_parse.specs.declared.tree.A.TheVariants as a
-use Rattle.lucid_parse.specs.declared.tree.Pre.{Pre}
-use Rattle.lucid_parse.specs.declared.tree.Pre.TheVariants as pres
-use Rattle.lucid_parse.specs.declared.tree.Infix.TheVariants as infixes
+use Rattle.lucid_tree.specs.declared.tree.E.{E}
+use Rattle.lucid_tree.specs.declared.tree.E.TheVariants as e
+use Rattle.lucid_tree.specs.declared.tree.A.{A}
+use Rattle.lucid_tree.specs.declared.tree.A.TheVariants as a
+use Rattle.lucid_tree.specs.declared.tree.Pre.{Pre}
+use Rattle.lucid_tree.specs.declared.tree.Pre.TheVariants as pres
+use Rattle.lucid_tree.specs.declared.tree.Infix.TheVariants as infixes
 use Rattle.lucid_parse.specs.declared.operator.Next.{Next}
 use Rattle.lucid_parse.specs.declared.operator.Next.TheVariants as nexts
 use Rattle.lucid_parse.specs.declared.expression.Method.{Method}

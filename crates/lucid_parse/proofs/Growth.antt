@@ -2,13 +2,13 @@
 use Rattle.std.proofs.Common.{ℕ, ◌<◌, ◌≤◌, if◌then◌else◌, List, [], ◌∷◌, length, map, Option, Some, None, arith}
 use Rattle.std.specs.List.{AllByRecursion}
 use Rattle.lucid_lex.specs.declared.sign.Sign.TheVariants as signs
-use Rattle.lucid_parse.specs.declared.tree.E.{E}
-use Rattle.lucid_parse.specs.declared.tree.A.{A}
+use Rattle.lucid_tree.specs.declared.tree.E.{E}
+use Rattle.lucid_tree.specs.declared.tree.A.{A}
 use Rattle.lucid_parse.specs.Operators.{infix_sign}
 use Rattle.lucid_parse.specs.Spelling as spell
 use Rattle.lucid_parse.specs.Spelling.{Text, Spelled, spelled, array_spelled}
 use Rattle.lucid_parse.proofs.Equations.{spelled-Number, spelled-Truth, spelled-Me, spelled-Time, spelled-Hash, spelled-Name, spelled-Call, spelled-Array, spelled-Paren, spelled-Prefix, spelled-Cast, spelled-Shift, spelled-Infix, array_spelled-Get, array_spelled-Set, array_spelled-Getm, array_spelled-Setm, array_spelled-Update}
-use Rattle.lucid_parse.proofs.Induction.{Cases, induction, array_induction}
+use Rattle.lucid_tree.proofs.Induction.{Cases, induction, array_induction}
 
 abbrev Grows : E → Type 0
 Grows x = (r : Text) → length r < length (spelled x r)

@@ -1,7 +1,7 @@
 -- The level of what comes between two operands lies from 1 to 8.
 use Rattle.std.proofs.Common.{◌≡◌, ◌+◌, true, nat_le, refl}
-use Rattle.lucid_parse.specs.declared.tree.Infix.{Infix}
-use Rattle.lucid_parse.specs.declared.tree.Infix.TheVariants as infixes
+use Rattle.lucid_tree.specs.declared.tree.Infix.{Infix}
+use Rattle.lucid_tree.specs.declared.tree.Infix.TheVariants as infixes
 use Rattle.lucid_parse.specs.declared.operator.Next.{Next}
 use Rattle.lucid_parse.specs.declared.operator.Next.TheVariants as nexts
 use Rattle.lucid_parse.specs.Operators.{level}

@@ -3,14 +3,12 @@ pub mod Equations
 pub mod ExpressionComplete
 pub mod ExpressionSound
 pub mod Growth
-pub mod Induction
 pub mod Levels
 pub mod Programs
 pub mod Repeats
 pub mod StatementComplete
 pub mod StatementEquations
 pub mod StatementGrowth
-pub mod StatementInduction
 pub mod StatementSound
 pub mod Steps
 pub mod Turns

@@ -10,9 +10,9 @@ use Rattle.lucid_lex.specs.Reading.{Reads, tokens_from, with_token}
 use Rattle.lucid_lex.specs.Piece.{Piece}
 use Rattle.lucid_parse.specs.declared.error.ParseError.{ParseError}
 use Rattle.lucid_parse.specs.declared.error.ParseError.TheVariants as errors
-use Rattle.lucid_parse.specs.declared.tree.Decl.{Decl}
-use Rattle.lucid_parse.specs.declared.tree.DeclKind.{DeclKind}
-use Rattle.lucid_parse.specs.declared.tree.Tree.{Tree}
+use Rattle.lucid_tree.specs.declared.tree.Decl.{Decl}
+use Rattle.lucid_tree.specs.declared.tree.DeclKind.{DeclKind}
+use Rattle.lucid_tree.specs.declared.tree.Tree.{Tree}
 use Rattle.lucid_parse.specs.Lexemes.{lexemes_of}
 use Rattle.lucid_parse.specs.Spelling.{Text, declaration, declaration_built, declarations}
 use Rattle.lucid_parse.specs.ReadDeclaration as read_d

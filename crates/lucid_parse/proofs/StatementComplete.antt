@@ -5,17 +5,17 @@ use Rattle.std.proofs.lemmas.List.Folds.{list_all-map}
 use Rattle.lucid_lex.specs.declared.sign.Sign.TheVariants as signs
 use Rattle.lucid_lex.specs.declared.word.Word.TheVariants as words
 use Rattle.lucid_parse.specs.declared.lexeme.Lexeme.TheVariants as lexemes
-use Rattle.lucid_parse.specs.declared.tree.Ty.{Ty}
-use Rattle.lucid_parse.specs.declared.tree.Ty.TheVariants as types
-use Rattle.lucid_parse.specs.declared.tree.E.{E}
-use Rattle.lucid_parse.specs.declared.tree.A.{A}
-use Rattle.lucid_parse.specs.declared.tree.V.{V}
-use Rattle.lucid_parse.specs.declared.tree.V.TheVariants as v
-use Rattle.lucid_parse.specs.declared.tree.S.{S}
-use Rattle.lucid_parse.specs.declared.tree.S.TheVariants as s
-use Rattle.lucid_parse.specs.declared.tree.C.{C}
-use Rattle.lucid_parse.specs.declared.tree.No.{No}
-use Rattle.lucid_parse.specs.declared.tree.No.TheVariants as n
+use Rattle.lucid_tree.specs.declared.tree.Ty.{Ty}
+use Rattle.lucid_tree.specs.declared.tree.Ty.TheVariants as types
+use Rattle.lucid_tree.specs.declared.tree.E.{E}
+use Rattle.lucid_tree.specs.declared.tree.A.{A}
+use Rattle.lucid_tree.specs.declared.tree.V.{V}
+use Rattle.lucid_tree.specs.declared.tree.V.TheVariants as v
+use Rattle.lucid_tree.specs.declared.tree.S.{S}
+use Rattle.lucid_tree.specs.declared.tree.S.TheVariants as s
+use Rattle.lucid_tree.specs.declared.tree.C.{C}
+use Rattle.lucid_tree.specs.declared.tree.No.{No}
+use Rattle.lucid_tree.specs.declared.tree.No.TheVariants as n
 use Rattle.lucid_parse.specs.Reader.{Text, Parser}
 use Rattle.lucid_parse.specs.ReadExpression as read_e
 use Rattle.lucid_parse.specs.ReadStatement as read_s
@@ -27,8 +27,8 @@ use Rattle.lucid_parse.proofs.Growth.{grows}
 use Rattle.lucid_parse.proofs.StatementGrowth.{event_grows, statement_grows}
 use Rattle.lucid_parse.proofs.ExpressionComplete.{stops, stops_close, expression_again, call_arguments_again, array_call_again, array_begins, operands_again, no_semicolon}
 use Rattle.lucid_parse.proofs.StatementSound.{all_are, case_part, cases_as}
-use Rattle.lucid_parse.proofs.StatementEquations.{event_spelled-Paren, event_spelled-Call, event_spelled-Delay, event_spelled-Locate, event_built-Paren, event_built-Call, event_built-Delay, event_built-Locate, statement_spelled-Declare, statement_spelled-Assign, statement_spelled-Call, statement_spelled-Array, statement_spelled-Cond, statement_spelled-Return, statement_spelled-Generate, statement_spelled-Printf, statement_spelled-Match, statement_built-Declare, statement_built-Assign, statement_built-Call, statement_built-Array, statement_built-Cond, statement_built-Return, statement_built-Generate, statement_built-Printf, statement_built-Match, no_spelled-Absent, no_spelled-Block, no_spelled-Cond, no_built-Block, no_built-Cond, choice, choice_spelled-parts, choice_built-parts}
-use Rattle.lucid_parse.proofs.StatementInduction.{event_induction, StatementCases, statement_induction, InCases, InLast}
+use Rattle.lucid_parse.proofs.StatementEquations.{event_spelled-Paren, event_spelled-Call, event_spelled-Delay, event_spelled-Locate, event_built-Paren, event_built-Call, event_built-Delay, event_built-Locate, statement_spelled-Declare, statement_spelled-Assign, statement_spelled-Call, statement_spelled-Array, statement_spelled-Cond, statement_spelled-Return, statement_spelled-Generate, statement_spelled-Printf, statement_spelled-Match, statement_built-Declare, statement_built-Assign, statement_built-Call, statement_built-Array, statement_built-Cond, statement_built-Return, statement_built-Generate, statement_built-Printf, statement_built-Match, no_spelled-Absent, no_spelled-Block, no_spelled-Cond, no_built-Block, no_built-Cond, choice_spelled-parts, choice_built-parts}
+use Rattle.lucid_tree.proofs.StatementInduction.{choice, event_induction, StatementCases, statement_induction, InCases, InLast}
 
 stops_semicolon : (r : Text) → stops 1 (spell.sign signs.Semicolon r) ≡ true
 unfolding read_e.next_of

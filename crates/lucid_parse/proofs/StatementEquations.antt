@@ -3,20 +3,21 @@ use Rattle.std.proofs.Common.{◌≡◌, ℕ, Bool, true, ◌&&◌, nat_le, List
 use Rattle.lucid_lex.specs.declared.sign.Sign.TheVariants as signs
 use Rattle.lucid_lex.specs.declared.word.Word.TheVariants as words
 use Rattle.lucid_parse.specs.declared.lexeme.Lexeme.TheVariants as lexemes
-use Rattle.lucid_parse.specs.declared.tree.Ty.{Ty}
-use Rattle.lucid_parse.specs.declared.tree.E.{E}
-use Rattle.lucid_parse.specs.declared.tree.A.{A}
-use Rattle.lucid_parse.specs.declared.tree.V.{V, fold-roll-V}
-use Rattle.lucid_parse.specs.declared.tree.V.TheVariants as v
-use Rattle.lucid_parse.specs.declared.tree.V.TheOpen.{V-F}
-use Rattle.lucid_parse.specs.declared.tree.S.{S, fold-roll-S}
-use Rattle.lucid_parse.specs.declared.tree.S.TheVariants as s
-use Rattle.lucid_parse.specs.declared.tree.C.{C, roll-C, fold-roll-C}
-use Rattle.lucid_parse.specs.declared.tree.No.{No, fold-roll-No}
-use Rattle.lucid_parse.specs.declared.tree.No.TheVariants as n
-use Rattle.lucid_parse.specs.declared.tree.No.TheOpen.{No-F, S-F}
+use Rattle.lucid_tree.specs.declared.tree.Ty.{Ty}
+use Rattle.lucid_tree.specs.declared.tree.E.{E}
+use Rattle.lucid_tree.specs.declared.tree.A.{A}
+use Rattle.lucid_tree.specs.declared.tree.V.{V, fold-roll-V}
+use Rattle.lucid_tree.specs.declared.tree.V.TheVariants as v
+use Rattle.lucid_tree.specs.declared.tree.V.TheOpen.{V-F}
+use Rattle.lucid_tree.specs.declared.tree.S.{S, fold-roll-S}
+use Rattle.lucid_tree.specs.declared.tree.S.TheVariants as s
+use Rattle.lucid_tree.specs.declared.tree.C.{C, roll-C, fold-roll-C}
+use Rattle.lucid_tree.specs.declared.tree.No.{No, fold-roll-No}
+use Rattle.lucid_tree.specs.declared.tree.No.TheVariants as n
+use Rattle.lucid_tree.specs.declared.tree.No.TheOpen.{No-F, S-F}
 use Rattle.lucid_parse.specs.Spelling as spell
 use Rattle.lucid_parse.specs.Spelling.{Text, Spelled, spelled, array_spelled, event_spelled, statement_spelled, choice_spelled, no_spelled, spelled_V, spelled_S, spelled_C, spelled_No, array_level, is_built, all_built, event_built, statement_built, choice_built, no_built, built_V, built_S, built_C, built_No}
+use Rattle.lucid_tree.proofs.StatementInduction.{choice}
 
 pub event_spelled-Paren : (x : V) (r : Text) → event_spelled (v.Paren x) r ≡ spell.in_parens (event_spelled x) r
 event_spelled-Paren x r = ap (λ z. event_spelled z r) (sym (v.rolls-Paren x)) ∙ ap (λ f. f r) (fold-roll-V Spelled spelled_V (V-F.Paren x))
@@ -115,10 +116,6 @@ no_spelled-Cond c r = ap (λ z. no_spelled z r) (sym (n.rolls-Cond c)) ∙ ap (�
 
 pub no_built-Cond : (c : C) → no_built (n.Cond c) ≡ choice_built c
 no_built-Cond c = ap no_built (sym (n.rolls-Cond c)) ∙ fold-roll-No Bool Bool Bool built_No built_S built_C (No-F.«No::Cond» c)
-
--- a choice, from its parts
-abbrev pub choice : E → List S → No → C
-choice x first second = roll-C (record { test = x; yes = first; no = second })
 
 pub choice_spelled-parts : (x : E) (first : List S) (second : No) (r : Text) → choice_spelled (choice x first second) r ≡ spell.word words.If (spell.in_parens (spelled x) (spell.block (map statement_spelled first) (no_spelled second r)))
 choice_spelled-parts x first second r = ap (λ f. f r) (fold-roll-C Spelled Spelled Spelled spelled_No spelled_S spelled_C (record { test = x; yes = first; no = second }))

@@ -3,18 +3,18 @@ use Rattle.std.proofs.Common.{ℕ, ◌<◌, ◌≤◌, List, [], ◌∷◌, leng
 use Rattle.std.specs.List.{AllByRecursion}
 use Rattle.lucid_lex.specs.declared.sign.Sign.TheVariants as signs
 use Rattle.lucid_lex.specs.declared.word.Word.TheVariants as words
-use Rattle.lucid_parse.specs.declared.tree.Ty.{Ty}
-use Rattle.lucid_parse.specs.declared.tree.Ty.TheVariants as types
-use Rattle.lucid_parse.specs.declared.tree.E.{E}
-use Rattle.lucid_parse.specs.declared.tree.V.{V}
-use Rattle.lucid_parse.specs.declared.tree.S.{S}
-use Rattle.lucid_parse.specs.declared.tree.C.{C}
-use Rattle.lucid_parse.specs.declared.tree.No.{No}
+use Rattle.lucid_tree.specs.declared.tree.Ty.{Ty}
+use Rattle.lucid_tree.specs.declared.tree.Ty.TheVariants as types
+use Rattle.lucid_tree.specs.declared.tree.E.{E}
+use Rattle.lucid_tree.specs.declared.tree.V.{V}
+use Rattle.lucid_tree.specs.declared.tree.S.{S}
+use Rattle.lucid_tree.specs.declared.tree.C.{C}
+use Rattle.lucid_tree.specs.declared.tree.No.{No}
 use Rattle.lucid_parse.specs.Spelling as spell
 use Rattle.lucid_parse.specs.Spelling.{Text, spelled, array_spelled, event_spelled, statement_spelled, choice_spelled, no_spelled}
 use Rattle.lucid_parse.proofs.Growth.{grows, array_grows, expressions_grow, more_expressions_grow, width_if_grow}
 use Rattle.lucid_parse.proofs.StatementEquations.{event_spelled-Paren, event_spelled-Call, event_spelled-Delay, event_spelled-Locate, statement_spelled-Declare, statement_spelled-Assign, statement_spelled-Call, statement_spelled-Array, statement_spelled-Cond, statement_spelled-Return, statement_spelled-Generate, statement_spelled-Printf, statement_spelled-Match, no_spelled-Absent, no_spelled-Block, no_spelled-Cond, choice_spelled-parts}
-use Rattle.lucid_parse.proofs.StatementInduction.{EventCases, event_induction, StatementCases, statement_induction, InCases, InLast}
+use Rattle.lucid_tree.proofs.StatementInduction.{EventCases, event_induction, StatementCases, statement_induction, InCases, InLast}
 
 abbrev EventGrows : V → Type 0
 EventGrows x = (r : Text) → length r < length (event_spelled x r)

@@ -5,12 +5,12 @@ use Rattle.std.proofs.lemmas.List.Folds.{list_all-map}
 use Rattle.lucid_lex.specs.declared.sign.Sign.TheVariants as signs
 use Rattle.lucid_lex.specs.declared.word.Word.TheVariants as words
 use Rattle.lucid_parse.specs.declared.lexeme.Lexeme.TheVariants as lexemes
-use Rattle.lucid_parse.specs.declared.tree.V.{V}
-use Rattle.lucid_parse.specs.declared.tree.V.TheVariants as v
-use Rattle.lucid_parse.specs.declared.tree.S.{S}
-use Rattle.lucid_parse.specs.declared.tree.S.TheVariants as s
-use Rattle.lucid_parse.specs.declared.tree.C.{C}
-use Rattle.lucid_parse.specs.declared.tree.No.TheVariants as n
+use Rattle.lucid_tree.specs.declared.tree.V.{V}
+use Rattle.lucid_tree.specs.declared.tree.V.TheVariants as v
+use Rattle.lucid_tree.specs.declared.tree.S.{S}
+use Rattle.lucid_tree.specs.declared.tree.S.TheVariants as s
+use Rattle.lucid_tree.specs.declared.tree.C.{C}
+use Rattle.lucid_tree.specs.declared.tree.No.TheVariants as n
 use Rattle.lucid_parse.specs.Reader as read
 use Rattle.lucid_parse.specs.Reader.{Text, Outcome, Parser, ◌>>=◌}
 use Rattle.lucid_parse.specs.ReadExpression as read_e
@@ -20,7 +20,8 @@ use Rattle.lucid_parse.specs.Spelling.{spelled, array_spelled, event_spelled, st
 use Rattle.lucid_parse.proofs.Steps.{Yields, yields_none, yields_some, bind, of_both, after_ok, after_word_ok, name_ok, typed_name_ok, same_bytes}
 use Rattle.lucid_parse.proofs.Repeats.{repeat_ok}
 use Rattle.lucid_parse.proofs.ExpressionSound.{expression_ok, expression_at_ok, expressions_ok, arguments_ok, array_call_ok}
-use Rattle.lucid_parse.proofs.StatementEquations.{event_spelled-Paren, event_spelled-Call, event_spelled-Delay, event_spelled-Locate, event_built-Paren, event_built-Call, event_built-Delay, event_built-Locate, statement_spelled-Declare, statement_spelled-Assign, statement_spelled-Call, statement_spelled-Array, statement_spelled-Cond, statement_spelled-Return, statement_spelled-Generate, statement_spelled-Printf, statement_spelled-Match, statement_built-Declare, statement_built-Assign, statement_built-Call, statement_built-Array, statement_built-Cond, statement_built-Return, statement_built-Generate, statement_built-Printf, statement_built-Match, no_spelled-Absent, no_spelled-Block, no_spelled-Cond, no_built-Absent, no_built-Block, no_built-Cond, choice, choice_spelled-parts, choice_built-parts}
+use Rattle.lucid_parse.proofs.StatementEquations.{event_spelled-Paren, event_spelled-Call, event_spelled-Delay, event_spelled-Locate, event_built-Paren, event_built-Call, event_built-Delay, event_built-Locate, statement_spelled-Declare, statement_spelled-Assign, statement_spelled-Call, statement_spelled-Array, statement_spelled-Cond, statement_spelled-Return, statement_spelled-Generate, statement_spelled-Printf, statement_spelled-Match, statement_built-Declare, statement_built-Assign, statement_built-Call, statement_built-Array, statement_built-Cond, statement_built-Return, statement_built-Generate, statement_built-Printf, statement_built-Match, no_spelled-Absent, no_spelled-Block, no_spelled-Cond, no_built-Absent, no_built-Block, no_built-Cond, choice_spelled-parts, choice_built-parts}
+use Rattle.lucid_tree.proofs.StatementInduction.{choice}
 
 call_arguments_ok : (ts : Text) → Yields (read_s.call_arguments ts) (λ x. (ts ≡ spell.with_commas (map spelled x.0) (spell.sign signs.CloseParen x.1)) × (all_built x.0 ≡ true))
 unfolding read_s.call_arguments

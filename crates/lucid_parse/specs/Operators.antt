@@ -2,10 +2,10 @@
 use Rattle.std.specs.Prelude.{ℕ}
 use Rattle.lucid_lex.specs.declared.sign.Sign.{Sign}
 use Rattle.lucid_lex.specs.declared.sign.Sign.TheVariants as signs
-use Rattle.lucid_parse.specs.declared.tree.Pre.{Pre}
-use Rattle.lucid_parse.specs.declared.tree.Pre.TheVariants as pres
-use Rattle.lucid_parse.specs.declared.tree.Infix.{Infix}
-use Rattle.lucid_parse.specs.declared.tree.Infix.TheVariants as infixes
+use Rattle.lucid_tree.specs.declared.tree.Pre.{Pre}
+use Rattle.lucid_tree.specs.declared.tree.Pre.TheVariants as pres
+use Rattle.lucid_tree.specs.declared.tree.Infix.{Infix}
+use Rattle.lucid_tree.specs.declared.tree.Infix.TheVariants as infixes
 
 abbrev pub pre_sign : Pre → Sign
 pre_sign pres.Minus = signs.Minus

@@ -5,8 +5,8 @@ use Rattle.lucid_lex.specs.declared.token.Kind.{Kind}
 use Rattle.lucid_lex.specs.declared.token.Token.{Token}
 use Rattle.lucid_parse.specs.declared.error.ParseError.{ParseError}
 use Rattle.lucid_parse.specs.declared.error.ParseError.TheVariants as errors
-use Rattle.lucid_parse.specs.declared.tree.Decl.{Decl}
-use Rattle.lucid_parse.specs.declared.tree.Tree.{Tree}
+use Rattle.lucid_tree.specs.declared.tree.Decl.{Decl}
+use Rattle.lucid_tree.specs.declared.tree.Tree.{Tree}
 use Rattle.lucid_parse.specs.Lexemes.{lexemes_of}
 use Rattle.lucid_parse.specs.Spelling.{Text, declaration_built, declarations, spell, IsWritten}
 

@@ -3,13 +3,13 @@ use Rattle.std.specs.Prelude.{List, [], ◌∷◌, codes, Option, Some, None}
 use Rattle.lucid_lex.specs.declared.sign.Sign.TheVariants as signs
 use Rattle.lucid_lex.specs.declared.word.Word.TheVariants as words
 use Rattle.lucid_parse.specs.declared.lexeme.Lexeme.TheVariants as lexemes
-use Rattle.lucid_parse.specs.declared.tree.Ty.{Ty}
-use Rattle.lucid_parse.specs.declared.tree.P.{P}
-use Rattle.lucid_parse.specs.declared.tree.P.TheVariants as p
-use Rattle.lucid_parse.specs.declared.tree.Size.{Size}
-use Rattle.lucid_parse.specs.declared.tree.Size.TheVariants as sizes
-use Rattle.lucid_parse.specs.declared.tree.DeclKind.{DeclKind}
-use Rattle.lucid_parse.specs.declared.tree.DeclKind.TheVariants as d
+use Rattle.lucid_tree.specs.declared.tree.Ty.{Ty}
+use Rattle.lucid_tree.specs.declared.tree.P.{P}
+use Rattle.lucid_tree.specs.declared.tree.P.TheVariants as p
+use Rattle.lucid_tree.specs.declared.tree.Size.{Size}
+use Rattle.lucid_tree.specs.declared.tree.Size.TheVariants as sizes
+use Rattle.lucid_tree.specs.declared.tree.DeclKind.{DeclKind}
+use Rattle.lucid_tree.specs.declared.tree.DeclKind.TheVariants as d
 use Rattle.lucid_parse.specs.Reader.{Text, Outcome, Parser, ◌>>=◌, after, after_word, after_name, name, number, separated, ty, typed_name, array_type}
 use Rattle.lucid_parse.specs.ReadStatement.{body}
 

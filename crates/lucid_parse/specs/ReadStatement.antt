@@ -3,14 +3,14 @@ use Rattle.std.specs.Prelude.{ℕ, zero, suc, if◌then◌else◌, List, [], ◌
 use Rattle.lucid_lex.specs.declared.sign.Sign.TheVariants as signs
 use Rattle.lucid_lex.specs.declared.word.Word.TheVariants as words
 use Rattle.lucid_parse.specs.declared.lexeme.Lexeme.TheVariants as lexemes
-use Rattle.lucid_parse.specs.declared.tree.E.{E}
-use Rattle.lucid_parse.specs.declared.tree.V.{V}
-use Rattle.lucid_parse.specs.declared.tree.V.TheVariants as v
-use Rattle.lucid_parse.specs.declared.tree.S.{S}
-use Rattle.lucid_parse.specs.declared.tree.S.TheVariants as s
-use Rattle.lucid_parse.specs.declared.tree.C.{C, roll-C}
-use Rattle.lucid_parse.specs.declared.tree.No.{No}
-use Rattle.lucid_parse.specs.declared.tree.No.TheVariants as n
+use Rattle.lucid_tree.specs.declared.tree.E.{E}
+use Rattle.lucid_tree.specs.declared.tree.V.{V}
+use Rattle.lucid_tree.specs.declared.tree.V.TheVariants as v
+use Rattle.lucid_tree.specs.declared.tree.S.{S}
+use Rattle.lucid_tree.specs.declared.tree.S.TheVariants as s
+use Rattle.lucid_tree.specs.declared.tree.C.{C, roll-C}
+use Rattle.lucid_tree.specs.declared.tree.No.{No}
+use Rattle.lucid_tree.specs.declared.tree.No.TheVariants as n
 use Rattle.lucid_parse.specs.Reader.{Text, Outcome, Parser, ◌>>=◌, after, after_word, name, repeat, separated, typed_name}
 use Rattle.lucid_parse.specs.ReadExpression.{expression, expression_at, arguments, array_call}
 

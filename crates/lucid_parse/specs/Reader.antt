@@ -13,8 +13,8 @@ use Rattle.lucid_parse.specs.declared.error.Stop.{Stop}
 use Rattle.lucid_parse.specs.declared.error.Stop.TheVariants as stops
 use Rattle.lucid_parse.specs.declared.lexeme.Lexeme.{Lexeme}
 use Rattle.lucid_parse.specs.declared.lexeme.Lexeme.TheVariants as lexemes
-use Rattle.lucid_parse.specs.declared.tree.Ty.{Ty}
-use Rattle.lucid_parse.specs.declared.tree.Ty.TheVariants as types
+use Rattle.lucid_tree.specs.declared.tree.Ty.{Ty}
+use Rattle.lucid_tree.specs.declared.tree.Ty.TheVariants as types
 
 abbrev pub Text : Type 0
 Text = List Lexeme

@@ -9,25 +9,25 @@ use Rattle.lucid_lex.specs.declared.word.Word.{Word}
 use Rattle.lucid_lex.specs.declared.word.Word.TheVariants as words
 use Rattle.lucid_parse.specs.declared.lexeme.Lexeme.{Lexeme}
 use Rattle.lucid_parse.specs.declared.lexeme.Lexeme.TheVariants as lexemes
-use Rattle.lucid_parse.specs.declared.tree.E.{E, fold-E}
-use Rattle.lucid_parse.specs.declared.tree.A.{A, fold-A}
-use Rattle.lucid_parse.specs.declared.tree.A.TheOpen.{A-F, E-F}
-use Rattle.lucid_parse.specs.declared.tree.V.{V, fold-V}
-use Rattle.lucid_parse.specs.declared.tree.V.TheOpen.{V-F}
-use Rattle.lucid_parse.specs.declared.tree.S.{S, fold-S}
-use Rattle.lucid_parse.specs.declared.tree.C.{C, fold-C}
-use Rattle.lucid_parse.specs.declared.tree.No.{No, fold-No}
-use Rattle.lucid_parse.specs.declared.tree.No.TheOpen.{No-F, S-F, C-F}
-use Rattle.lucid_parse.specs.declared.tree.Ty.{Ty}
-use Rattle.lucid_parse.specs.declared.tree.Ty.TheVariants as types
-use Rattle.lucid_parse.specs.declared.tree.P.{P}
-use Rattle.lucid_parse.specs.declared.tree.P.TheVariants as p
-use Rattle.lucid_parse.specs.declared.tree.Size.{Size}
-use Rattle.lucid_parse.specs.declared.tree.Size.TheVariants as sizes
-use Rattle.lucid_parse.specs.declared.tree.Decl.{Decl}
-use Rattle.lucid_parse.specs.declared.tree.DeclKind.{DeclKind}
-use Rattle.lucid_parse.specs.declared.tree.DeclKind.TheVariants as d
-use Rattle.lucid_parse.specs.declared.tree.Tree.{Tree}
+use Rattle.lucid_tree.specs.declared.tree.E.{E, fold-E}
+use Rattle.lucid_tree.specs.declared.tree.A.{A, fold-A}
+use Rattle.lucid_tree.specs.declared.tree.A.TheOpen.{A-F, E-F}
+use Rattle.lucid_tree.specs.declared.tree.V.{V, fold-V}
+use Rattle.lucid_tree.specs.declared.tree.V.TheOpen.{V-F}
+use Rattle.lucid_tree.specs.declared.tree.S.{S, fold-S}
+use Rattle.lucid_tree.specs.declared.tree.C.{C, fold-C}
+use Rattle.lucid_tree.specs.declared.tree.No.{No, fold-No}
+use Rattle.lucid_tree.specs.declared.tree.No.TheOpen.{No-F, S-F, C-F}
+use Rattle.lucid_tree.specs.declared.tree.Ty.{Ty}
+use Rattle.lucid_tree.specs.declared.tree.Ty.TheVariants as types
+use Rattle.lucid_tree.specs.declared.tree.P.{P}
+use Rattle.lucid_tree.specs.declared.tree.P.TheVariants as p
+use Rattle.lucid_tree.specs.declared.tree.Size.{Size}
+use Rattle.lucid_tree.specs.declared.tree.Size.TheVariants as sizes
+use Rattle.lucid_tree.specs.declared.tree.Decl.{Decl}
+use Rattle.lucid_tree.specs.declared.tree.DeclKind.{DeclKind}
+use Rattle.lucid_tree.specs.declared.tree.DeclKind.TheVariants as d
+use Rattle.lucid_tree.specs.declared.tree.Tree.{Tree}
 use Rattle.lucid_parse.specs.Operators.{pre_sign, infix_sign, level, left_level}
 
 abbrev pub Text : Type 0

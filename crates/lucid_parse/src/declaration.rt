@@ -9,9 +9,9 @@ use crate::parts::{
     after, array_type, expect, expect_name, expect_word, name, number, ty, typed_name,
 };
 use crate::statement::body;
-use crate::tree::{DeclKind, P, Size, Ty};
 use lucid_base::Items;
 use lucid_lex::{Sign, Word};
+use lucid_tree::{DeclKind, P, Size, Ty};
 use std::alloc::Global;
 
 #[tactic(auto, unfolding(crate::specs::ReadDeclaration::declaration))]

@@ -14,7 +14,7 @@ pub enum ParseError {
 }
 
 /// Why a part of a program is not read, without a place.
-#[derive(Clone, Copy, Debug, PartialEq, Eq)]
+#[derive(Clone, Copy)]
 pub(crate) enum Stop {
     /// The tokens don't begin with such a part.
     NoTree,

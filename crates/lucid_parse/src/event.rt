@@ -6,9 +6,9 @@ use crate::error::Stop;
 use crate::expression::{arguments, expression};
 use crate::lexeme::Lexeme;
 use crate::parts::expect;
-use crate::tree::{E, V};
 use lucid_base::{Boxed, Id, Items};
 use lucid_lex::{Sign, Word};
+use lucid_tree::{E, V};
 use std::alloc::Global;
 
 /// What a call is given, behind its open parenthesis.

@@ -8,9 +8,9 @@ use crate::error::Stop;
 use crate::lexeme::Lexeme;
 use crate::operator::{Next, next_within, right_level};
 use crate::parts::{after, expect, expect_name, name, width, width_if};
-use crate::tree::{A, E, Pre};
 use lucid_base::{Boxed, Id, Items};
 use lucid_lex::{Sign, Word};
+use lucid_tree::{A, E, Pre};
 use std::alloc::Global;
 
 /// The level of an operand by itself.

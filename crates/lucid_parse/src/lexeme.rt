@@ -8,7 +8,7 @@ use lucid_lex::{Kind, Sign, Token, Word, quoted, text_of};
 use std::alloc::Global;
 
 /// A token by what it says. Two tokens are the same to the grammar where their lexemes are.
-#[derive(Debug, Drop)]
+#[derive(Drop)]
 pub enum Lexeme {
     Name(Id),
     Number(u64),

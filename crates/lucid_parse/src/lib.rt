@@ -2,7 +2,8 @@
 // tokens, with that tree, of which there is one; else it says at which token nesting is too deep, or the first declaration begins
 // that has no tree. How a tree is spelled, specs/Spelling.antt says by the cases of the grammar; specs/Nesting.antt has the counts,
 // and specs/Program.antt what a program and a fault is. The other definitions say how tokens are read in; that this and spelling
-// agree, both ways, is proved. Stands on lucid_lex for tokens, and on lucid_base for names and lists.
+// agree, both ways, is proved. Stands on lucid_lex for tokens, on lucid_tree for
+// the tree's types, and on lucid_base for names and lists.
 #![tactic(auto)]
 
 mod declaration;
@@ -16,9 +17,8 @@ mod parts;
 mod program;
 mod simple;
 mod statement;
-mod tree;
 
 pub use error::ParseError;
 pub use lexeme::Lexeme;
+pub use lucid_tree::{A, C, Decl, DeclKind, E, Infix, No, P, Pre, S, Size, Tree, Ty, V};
 pub use program::parse;
-pub use tree::{A, C, Decl, DeclKind, E, Infix, No, P, Pre, S, Size, Tree, Ty, V};

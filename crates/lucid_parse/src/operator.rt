@@ -4,8 +4,8 @@ ghost use Rattle.lucid_parse.specs.Operators as spec;
 ghost use Rattle.lucid_parse.specs.ReadExpression.{infix_of, next_of, next_level, next_left, next_within};
 
 use crate::lexeme::Lexeme;
-use crate::tree::Infix;
 use lucid_lex::Sign;
+use lucid_tree::Infix;
 
 /// What may follow an operand: an infix sign, whose right operand is still to come, or a whole shift.
 #[derive(Clone, Copy)]

@@ -6,9 +6,9 @@ ghost use Rattle.lucid_parse.specs.Reader.{Reads, Leaves};
 
 use crate::error::Stop;
 use crate::lexeme::Lexeme;
-use crate::tree::Ty;
 use lucid_base::Id;
 use lucid_lex::{Sign, Word};
+use lucid_tree::Ty;
 use std::alloc::Global;
 
 /// What follows the sign, where the lexemes begin with it.

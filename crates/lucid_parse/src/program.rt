@@ -1,7 +1,7 @@
 // Whole programs: one declaration after another.
 ghost use Rattle.std.specs.Prelude.{◌≡◌, ◌≢◌, ℕ, ◌+◌, ◌-◌, ◌<◌, ◌≤◌, [], length, drop, count_by, ◌==◌, All, Some, None, IfOk, IfErr, OnOk, IsErrOf, MatchResult};
 ghost use Rattle.lucid_lex.specs.Reading.{Reads, IsTokenOf};
-ghost use Rattle.lucid_parse.specs.declared.tree.Tree.{Tree};
+ghost use Rattle.lucid_tree.specs.declared.tree.Tree.{Tree};
 ghost use Rattle.lucid_parse.specs.Lexemes.{lexemes_of};
 ghost use Rattle.lucid_parse.specs.Nesting as nesting;
 ghost use Rattle.lucid_parse.specs.Program as spec;
@@ -12,9 +12,9 @@ use crate::error::{ParseError, Stop};
 use crate::lexeme;
 use crate::lexeme::Lexeme;
 use crate::nesting::too_deep;
-use crate::tree::{Decl, Tree};
 use lucid_base::Items;
 use lucid_lex::{Token, tokens_stand};
+use lucid_tree::{Decl, Tree};
 use std::alloc::Global;
 
 /// The tree of the program whose tokens these are, where no count of nesting passes its limit and there is one: the tree that

@@ -7,9 +7,9 @@ use crate::event::{call_arguments, event};
 use crate::expression::{array_call, expression, expressions};
 use crate::lexeme::Lexeme;
 use crate::parts::{after, expect, typed_name};
-use crate::tree::{E, S};
-use lucid_base::{Id, Items};
+use lucid_base::{Boxed, Id, Items};
 use lucid_lex::{Sign, Word};
+use lucid_tree::{E, S};
 use std::alloc::Global;
 
 #[tactic(auto, unfolding(crate::specs::ReadStatement::simple))]
@@ -68,7 +68,7 @@ fn array_statement(alloc: Global, lexemes: &[Lexeme]) -> Result<(S, &[Lexeme]), 
 {
     let (call, rest) = array_call(alloc, lexemes.len(), lexemes)?;
     let rest = expect(Sign::Semicolon, rest)?;
-    Ok((S::Array(call), rest))
+    Ok((S::Array(Boxed::new(alloc, call)?), rest))
 }
 
 /// Behind `return`.

@@ -9,9 +9,9 @@ use crate::expression::expression;
 use crate::lexeme::Lexeme;
 use crate::parts::{after, expect, expect_word};
 use crate::simple::simple;
-use crate::tree::{C, No, S};
 use lucid_base::{Boxed, Items};
 use lucid_lex::{Sign, Word};
+use lucid_tree::{C, No, S};
 use std::alloc::Global;
 
 /// A block: statements in braces.

@@ -1,8 +1,4 @@
 // The worked examples of the top call, over files and sinks in memory. What no clause says: the bytes themselves.
-// The tests of the crates that read tokens stand here too, since a crate with tests of its own is proved twice.
-mod small;
-mod trees;
-
 use crate::{Status, lucid};
 use lucid_io::{MemFile, MemFiles, MemSink};
 use std::alloc::Global;

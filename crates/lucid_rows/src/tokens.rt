@@ -1,5 +1,5 @@
 // Texts and their tokens, by hand from the rules of the language.
-use crate::{Kind, LexError, lex, quoted, text_of, tokens_stand};
+use lucid_lex::{Kind, LexError, lex, quoted, text_of, tokens_stand};
 use std::alloc::{AllocError, Global};
 use std::test::Fail;
 

@@ -1,19 +1,22 @@
 -- Induction over statements and over what a `generate` generates, case by case.
 use Rattle.std.proofs.Common.{ℕ, List, [], ◌∷◌, map, Option, Some, None, sym, subst}
 use Rattle.std.specs.List.{AllByRecursion}
-use Rattle.lucid_parse.specs.declared.tree.Ty.{Ty}
-use Rattle.lucid_parse.specs.declared.tree.E.{E}
-use Rattle.lucid_parse.specs.declared.tree.A.{A}
-use Rattle.lucid_parse.specs.declared.tree.V.{V, ind-V, roll-V, map-V}
-use Rattle.lucid_parse.specs.declared.tree.V.TheVariants as v
-use Rattle.lucid_parse.specs.declared.tree.V.TheOpen.{V-F}
-use Rattle.lucid_parse.specs.declared.tree.S.{S, ind-S, roll-S, map-S}
-use Rattle.lucid_parse.specs.declared.tree.S.TheVariants as s
-use Rattle.lucid_parse.specs.declared.tree.C.{C, roll-C, map-C}
-use Rattle.lucid_parse.specs.declared.tree.No.{No, roll-No, map-No}
-use Rattle.lucid_parse.specs.declared.tree.No.TheVariants as n
-use Rattle.lucid_parse.specs.declared.tree.No.TheOpen.{No-F, S-F, C-F}
-use Rattle.lucid_parse.proofs.StatementEquations.{choice}
+use Rattle.lucid_tree.specs.declared.tree.Ty.{Ty}
+use Rattle.lucid_tree.specs.declared.tree.E.{E}
+use Rattle.lucid_tree.specs.declared.tree.A.{A}
+use Rattle.lucid_tree.specs.declared.tree.V.{V, ind-V, roll-V, map-V}
+use Rattle.lucid_tree.specs.declared.tree.V.TheVariants as v
+use Rattle.lucid_tree.specs.declared.tree.V.TheOpen.{V-F}
+use Rattle.lucid_tree.specs.declared.tree.S.{S, ind-S, roll-S, map-S}
+use Rattle.lucid_tree.specs.declared.tree.S.TheVariants as s
+use Rattle.lucid_tree.specs.declared.tree.C.{C, roll-C, map-C}
+use Rattle.lucid_tree.specs.declared.tree.No.{No, roll-No, map-No}
+use Rattle.lucid_tree.specs.declared.tree.No.TheVariants as n
+use Rattle.lucid_tree.specs.declared.tree.No.TheOpen.{No-F, S-F, C-F}
+
+-- a choice, from its parts
+abbrev pub choice : E → List S → No → C
+choice x first second = roll-C (record { test = x; yes = first; no = second })
 
 -- the cases of an induction over events
 pub record EventCases (P : V → Type 0) : Type 0 where
