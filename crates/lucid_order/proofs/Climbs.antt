@@ -19,6 +19,7 @@ use Rattle.lucid_core.specs.declared.defs.FunDef.{FunDef}
 use Rattle.lucid_core.specs.Acts.{Act, Effect, Frame, Fun, State, all, array_of, block, both, called, change, give, send, touched, ◌>>=◌, begun_with}
 use Rattle.lucid_core.specs.Meaning as m
 use Rattle.lucid_core.specs.Meaning.{all_given, call, delay_of, effect_of, fun_of, generated, holding, target_of, touch_of, value_of}
+use Rattle.lucid_order.specs.Evaluation as walk
 use Rattle.lucid_order.specs.Ends as o
 use Rattle.lucid_order.specs.Ends.{End, FunEnd, Numbering, ◌⨾◌, larger, body_end, expr_end, stmt_end, touch_end}
 use Rattle.lucid_core.proofs.Pairwise.{Pairwise, one_more}
@@ -144,21 +145,21 @@ stmts es = map (λ (e : S). e.0) es
 abbrev given_trees : List (ℕ × E) → List (ℕ × Expr)
 given_trees gs = map (λ (g : ℕ × E). (g.0, g.1.0)) gs
 
-all_follow : (es : List E) → Follows (all (map value_of (exprs es))) (o.sequence (map expr_end (exprs es)))
+all_follow : (es : List E) → Follows (all (map value_of (exprs es))) (walk.sequence o.ends (map expr_end (exprs es)))
 all_follow [] = still {A = List Bits} (give []) (λ p s. refl)
-all_follow (e ∷ es) = then_both (value_of e.0) (λ v. all (map value_of (exprs es)) >>= (λ vs. give (v ∷ vs))) (expr_end e.0) (o.sequence (map expr_end (exprs es))) e.1
-    (λ v. then_still (all (map value_of (exprs es))) (λ vs. give (v ∷ vs)) (o.sequence (map expr_end (exprs es))) (all_follow es) (λ vs p s. refl))
+all_follow (e ∷ es) = then_both (value_of e.0) (λ v. all (map value_of (exprs es)) >>= (λ vs. give (v ∷ vs))) (expr_end e.0) (walk.sequence o.ends (map expr_end (exprs es))) e.1
+    (λ v. then_still (all (map value_of (exprs es))) (λ vs. give (v ∷ vs)) (walk.sequence o.ends (map expr_end (exprs es))) (all_follow es) (λ vs p s. refl))
 
-block_follow : (es : List S) → Follows (block (map effect_of (stmts es))) (o.sequence (map stmt_end (stmts es)))
+block_follow : (es : List S) → Follows (block (map effect_of (stmts es))) (walk.sequence o.ends (map stmt_end (stmts es)))
 block_follow [] = still {A = Unit {0}} (give (tt {0})) (λ p s. refl)
-block_follow (e ∷ es) = then_both (effect_of e.0) (λ _. block (map effect_of (stmts es))) (stmt_end e.0) (o.sequence (map stmt_end (stmts es))) e.1 (λ _. block_follow es)
+block_follow (e ∷ es) = then_both (effect_of e.0) (λ _. block (map effect_of (stmts es))) (stmt_end e.0) (walk.sequence o.ends (map stmt_end (stmts es))) e.1 (λ _. block_follow es)
 
 given_follow : (gs : List (ℕ × E)) → Follows (all_given (map (λ (g : ℕ × Expr). (g.0, value_of g.1)) (given_trees gs)))
-    (o.sequence (map (λ (g : ℕ × End). g.1) (map (λ (g : ℕ × Expr). (g.0, expr_end g.1)) (given_trees gs))))
+    (walk.sequence o.ends (map (λ (g : ℕ × End). g.1) (map (λ (g : ℕ × Expr). (g.0, expr_end g.1)) (given_trees gs))))
 given_follow [] = still {A = List (ℕ × Bits)} (give []) (λ p s. refl)
 given_follow (g ∷ gs) =
     let acts = all_given (map (λ (g : ℕ × Expr). (g.0, value_of g.1)) (given_trees gs)) in
-    let ends = o.sequence (map (λ (g : ℕ × End). g.1) (map (λ (g : ℕ × Expr). (g.0, expr_end g.1)) (given_trees gs))) in
+    let ends = walk.sequence o.ends (map (λ (g : ℕ × End). g.1) (map (λ (g : ℕ × Expr). (g.0, expr_end g.1)) (given_trees gs))) in
     then_both {A = ℕ × Bits} (value_of g.1.0 >>= (λ v. give (g.0, v))) (λ v. acts >>= (λ vs. give (v ∷ vs))) (expr_end g.1.0) ends
     (then_still {B = ℕ × Bits} (value_of g.1.0) (λ v. give (g.0, v)) (expr_end g.1.0) g.1.1 (λ v p s. refl))
     (λ v. then_still acts (λ vs. give (v ∷ vs)) ends (given_follow gs) (λ vs p s. refl))
@@ -173,7 +174,7 @@ abbrev pub stmt_tree : Stmt-F E S T → Stmt-F Expr Stmt Touch
 stmt_tree = map-Stmt E S T Expr Stmt Touch (λ e. e.0) (λ e. e.0) (λ e. e.0)
 
 expr_level : (y : Expr-F E S T) → Follows (m.expr_step (map-Expr Expr Stmt Touch (Act Bits) Effect (Act Bits) value_of effect_of touch_of (expr_tree y)))
-    (o.expr_step (map-Expr Expr Stmt Touch End End End expr_end stmt_end touch_end (expr_tree y)))
+    (walk.expr_step o.ends (map-Expr Expr Stmt Touch End End End expr_end stmt_end touch_end (expr_tree y)))
 expr_level (Expr-F.Fixed b) = still (give b) (λ p s. refl)
 expr_level (Expr-F.Local i) = still (λ p s. give (slice_index_or s.locals i nothing) p s) (λ p s. refl)
 expr_level Expr-F.Now = still (λ p. give (bits_of 32 p.now) p) (λ p s. refl)
@@ -184,19 +185,19 @@ expr_level (Expr-F.Bin op e f) = then_both (value_of e.0) (λ a. value_of f.0 >>
 expr_level (Expr-F.Cmp op e f) = then_both (value_of e.0) (λ a. value_of f.0 >>= (λ b. give (comparison op a b))) (expr_end e.0) (expr_end f.0) e.1
     (λ a. then_still (value_of f.0) (λ b. give (comparison op a b)) (expr_end f.0) f.1 (λ b p s. refl))
 expr_level (Expr-F.Cast w e) = then_still (value_of e.0) (λ a. give (bits_of w a.value)) (expr_end e.0) e.1 (λ a p s. refl)
-expr_level (Expr-F.Hash w es) = then_still (all (map value_of (exprs es))) (λ vs. give (hashed w vs)) (o.sequence (map expr_end (exprs es))) (all_follow es) (λ a p s. refl)
+expr_level (Expr-F.Hash w es) = then_still (all (map value_of (exprs es))) (λ vs. give (hashed w vs)) (walk.sequence o.ends (map expr_end (exprs es))) (all_follow es) (λ a p s. refl)
 expr_level (Expr-F.Array e) = e.1
-expr_level (Expr-F.Fun k names es) = then_both (all (map value_of (exprs es))) (λ vs. λ p. call k (map (array_of p.arrays) names) vs p) (o.sequence (map expr_end (exprs es))) (o.goes_through k names) (all_follow es) (λ vs. call_follows k names vs)
+expr_level (Expr-F.Fun k names es) = then_both (all (map value_of (exprs es))) (λ vs. λ p. call k (map (array_of p.arrays) names) vs p) (walk.sequence o.ends (map expr_end (exprs es))) (o.goes_through k names) (all_follow es) (λ vs. call_follows k names vs)
 expr_level (Expr-F.Inlined given es) =
     let args = all_given (map (λ (g : ℕ × Expr). (g.0, value_of g.1)) (given_trees given)) in
     let body = block (map effect_of (stmts es)) in
-    let ends = o.sequence (map (λ (g : ℕ × End). g.1) (map (λ (g : ℕ × Expr). (g.0, expr_end g.1)) (given_trees given))) in
-    let end = o.sequence (map stmt_end (stmts es)) in
+    let ends = walk.sequence o.ends (map (λ (g : ℕ × End). g.1) (map (λ (g : ℕ × Expr). (g.0, expr_end g.1)) (given_trees given))) in
+    let end = walk.sequence o.ends (map stmt_end (stmts es)) in
     then_both args (λ held. λ p s. called (holding s.locals held) body p s) ends end (given_follow given)
     (λ held p fs ok s c d e. called_follows (holding s.locals held) body end (block_follow es) p fs ok s c d e)
 
 touch_level : (y : Touch-F E S T) → Follows (m.touch_step (map-Touch Expr Stmt Touch (Act Bits) Effect (Act Bits) value_of effect_of touch_of (touch_tree y)))
-    (o.touch_step (map-Touch Expr Stmt Touch End End End expr_end stmt_end touch_end (touch_tree y)))
+    (walk.touch_step o.ends (map-Touch Expr Stmt Touch End End End expr_end stmt_end touch_end (touch_tree y)))
 touch_level y =
     let act : Bits → Bits → Bits → Act Bits = λ i g v. touched y.array i.value (λ old. memop y.get old g) (λ old. memop y.set old v) in
     let last = o.passes y.array in
@@ -205,50 +206,50 @@ touch_level y =
     (λ g. then_both (value_of y.set_arg.0) (λ v. act i g v) (expr_end y.set_arg.0) last y.set_arg.1
     (λ v. touched_follows y.array i.value (λ old. memop y.get old g) (λ old. memop y.set old v))))
 
-optional_follows : {A : Type 0} (absent : A) (given : ℕ → A) (e : Option E) → Follows (m.optional absent given (option_map (λ (x : E). value_of x.0) e)) (o.optional (option_map (λ (x : E). expr_end x.0) e))
+optional_follows : {A : Type 0} (absent : A) (given : ℕ → A) (e : Option E) → Follows (m.optional absent given (option_map (λ (x : E). value_of x.0) e)) (walk.optional o.ends (option_map (λ (x : E). expr_end x.0) e))
 optional_follows absent given None = still (give absent) (λ p s. refl)
 optional_follows absent given (Some e) = then_still (value_of e.0) (λ v. give (given v.value)) (expr_end e.0) e.1 (λ v p s. refl)
 
-both_follow : {A B : Type 0} (first : Bool) (a : Act A) (b : Act B) (f g : End) → Follows a f → Follows b g → Follows (both first a b) (o.both first f g)
+both_follow : {A B : Type 0} (first : Bool) (a : Act A) (b : Act B) (f g : End) → Follows a f → Follows b g → Follows (both first a b) (walk.both o.ends first f g)
 both_follow {A} {B} true a b f g h k = then_both {B = A × B} a (λ x. b >>= (λ y. give (x, y))) f g h (λ x. then_still {B = A × B} b (λ y. give (x, y)) g k (λ y p s. refl))
 both_follow {A} {B} false a b f g h k = then_both {B = A × B} b (λ y. a >>= (λ x. give (x, y))) g f k (λ y. then_still {B = A × B} a (λ x. give (x, y)) f h (λ x p s. refl))
 
 gen_follows : (event : ℕ) (es : List E) (delay to : Option E) (first : Bool) →
     Follows (m.stmt_step (Stmt-F.Gen event (map value_of (exprs es)) (option_map (λ (x : E). value_of x.0) delay) (option_map (λ (x : E). value_of x.0) to) first))
-    (o.stmt_step (Stmt-F.Gen event (map expr_end (exprs es)) (option_map (λ (x : E). expr_end x.0) delay) (option_map (λ (x : E). expr_end x.0) to) first))
+    (walk.stmt_step o.ends (Stmt-F.Gen event (map expr_end (exprs es)) (option_map (λ (x : E). expr_end x.0) delay) (option_map (λ (x : E). expr_end x.0) to) first))
 gen_follows event es delay to first =
     let args = all (map value_of (exprs es)) in
     let d = delay_of (option_map (λ (x : E). value_of x.0) delay) in
     let t = target_of (option_map (λ (x : E). value_of x.0) to) in
-    let de = o.optional (option_map (λ (x : E). expr_end x.0) delay) in
-    let te = o.optional (option_map (λ (x : E). expr_end x.0) to) in
-    then_both args (λ vs. both first d t >>= (λ given. send (generated event vs given.0 given.1 ∷ []))) (o.sequence (map expr_end (exprs es))) (o.both first de te) (all_follow es)
-    (λ vs. then_still (both first d t) (λ given. send (generated event vs given.0 given.1 ∷ [])) (o.both first de te) (both_follow first d t de te (optional_follows 0 (λ ticks. ticks) delay) (optional_follows Here At to)) (λ given p s. refl))
+    let de = walk.optional o.ends (option_map (λ (x : E). expr_end x.0) delay) in
+    let te = walk.optional o.ends (option_map (λ (x : E). expr_end x.0) to) in
+    then_both args (λ vs. both first d t >>= (λ given. send (generated event vs given.0 given.1 ∷ []))) (walk.sequence o.ends (map expr_end (exprs es))) (walk.both o.ends first de te) (all_follow es)
+    (λ vs. then_still (both first d t) (λ given. send (generated event vs given.0 given.1 ∷ [])) (walk.both o.ends first de te) (both_follow first d t de te (optional_follows 0 (λ ticks. ticks) delay) (optional_follows Here At to)) (λ given p s. refl))
 
 multi_follows : (event : ℕ) (es : List E) (delay : Option E) (members : List ℕ) →
     Follows (m.stmt_step (Stmt-F.Multi event (map value_of (exprs es)) (option_map (λ (x : E). value_of x.0) delay) members))
-    (o.stmt_step (Stmt-F.Multi event (map expr_end (exprs es)) (option_map (λ (x : E). expr_end x.0) delay) members))
+    (walk.stmt_step o.ends (Stmt-F.Multi event (map expr_end (exprs es)) (option_map (λ (x : E). expr_end x.0) delay) members))
 multi_follows event es delay members =
     let args = all (map value_of (exprs es)) in
     let d = delay_of (option_map (λ (x : E). value_of x.0) delay) in
-    let de = o.optional (option_map (λ (x : E). expr_end x.0) delay) in
-    then_both args (λ vs. d >>= (λ ticks. send (map (generated event vs ticks) (map At members)))) (o.sequence (map expr_end (exprs es))) de (all_follow es)
+    let de = walk.optional o.ends (option_map (λ (x : E). expr_end x.0) delay) in
+    then_both args (λ vs. d >>= (λ ticks. send (map (generated event vs ticks) (map At members)))) (walk.sequence o.ends (map expr_end (exprs es))) de (all_follow es)
     (λ vs. then_still d (λ ticks. send (map (generated event vs ticks) (map At members))) de (optional_follows 0 (λ ticks. ticks) delay) (λ ticks p s. refl))
 
 stmt_level : (y : Stmt-F E S T) → Follows (m.stmt_step (map-Stmt Expr Stmt Touch (Act Bits) Effect (Act Bits) value_of effect_of touch_of (stmt_tree y)))
-    (o.stmt_step (map-Stmt Expr Stmt Touch End End End expr_end stmt_end touch_end (stmt_tree y)))
+    (walk.stmt_step o.ends (map-Stmt Expr Stmt Touch End End End expr_end stmt_end touch_end (stmt_tree y)))
 stmt_level (Stmt-F.Assign i e) = then_still (value_of e.0) (λ v. change (λ s. record s { locals = slice_set s.locals i v })) (expr_end e.0) e.1 (λ v p s. refl)
 stmt_level (Stmt-F.Drop e) = then_still (value_of e.0) (λ _. give (tt {0})) (expr_end e.0) e.1 (λ v p s. refl)
 stmt_level (Stmt-F.If e ss ts) = then_both (value_of e.0) (λ v. block (if nat_eq v.value 0 then map effect_of (stmts ts) else map effect_of (stmts ss))) (expr_end e.0)
-    (larger (o.sequence (map stmt_end (stmts ss))) (o.sequence (map stmt_end (stmts ts)))) e.1
-    (λ v. either_follows (nat_eq v.value 0) (map effect_of (stmts ss)) (map effect_of (stmts ts)) (o.sequence (map stmt_end (stmts ss))) (o.sequence (map stmt_end (stmts ts))) (block_follow ss) (block_follow ts))
+    (larger (walk.sequence o.ends (map stmt_end (stmts ss))) (walk.sequence o.ends (map stmt_end (stmts ts)))) e.1
+    (λ v. either_follows (nat_eq v.value 0) (map effect_of (stmts ss)) (map effect_of (stmts ts)) (walk.sequence o.ends (map stmt_end (stmts ss))) (walk.sequence o.ends (map stmt_end (stmts ts))) (block_follow ss) (block_follow ts))
 stmt_level (Stmt-F.Gen event es None None first) = gen_follows event es None None first
 stmt_level (Stmt-F.Gen event es None (Some t) first) = gen_follows event es None (Some t) first
 stmt_level (Stmt-F.Gen event es (Some e) None first) = gen_follows event es (Some e) None first
 stmt_level (Stmt-F.Gen event es (Some e) (Some t) first) = gen_follows event es (Some e) (Some t) first
 stmt_level (Stmt-F.Multi event es None members) = multi_follows event es None members
 stmt_level (Stmt-F.Multi event es (Some e) members) = multi_follows event es (Some e) members
-stmt_level (Stmt-F.Say form es) = then_still (all (map value_of (exprs es))) (λ vs. send (out.Say form (numbers vs) ∷ [])) (o.sequence (map expr_end (exprs es))) (all_follow es) (λ a p s. refl)
+stmt_level (Stmt-F.Say form es) = then_still (all (map value_of (exprs es))) (λ vs. send (out.Say form (numbers vs) ∷ [])) (walk.sequence o.ends (map expr_end (exprs es))) (all_follow es) (λ a p s. refl)
 stmt_level (Stmt-F.Return None) = still {A = Unit {0}} (give (tt {0})) (λ p s. refl)
 stmt_level (Stmt-F.Return (Some e)) = then_still (value_of e.0) (λ v. change (λ s. record s { answer = v })) (expr_end e.0) e.1 (λ v p s. refl)
 
@@ -256,13 +257,13 @@ along : {A : Type 0} (a b : Act A) (f g : End) → a ≡ b → f ≡ g → Follo
 along {A} a b f g e h is = subst (λ (x : Act A). Follows x f) (sym e) (subst (λ (y : End). Follows b y) (sym h) is)
 
 of_expr : (y : Expr-F E S T) → Follows (value_of (roll-Expr (expr_tree y))) (expr_end (roll-Expr (expr_tree y)))
-of_expr y = along _ _ _ _ (fold-roll-Expr (Act Bits) Effect (Act Bits) m.expr_step m.stmt_step m.touch_step (expr_tree y)) (fold-roll-Expr End End End o.expr_step o.stmt_step o.touch_step (expr_tree y)) (expr_level y)
+of_expr y = along _ _ _ _ (fold-roll-Expr (Act Bits) Effect (Act Bits) m.expr_step m.stmt_step m.touch_step (expr_tree y)) (fold-roll-Expr End End End (walk.expr_step o.ends) (walk.stmt_step o.ends) (walk.touch_step o.ends) (expr_tree y)) (expr_level y)
 
 of_stmt : (y : Stmt-F E S T) → Follows (effect_of (roll-Stmt (stmt_tree y))) (stmt_end (roll-Stmt (stmt_tree y)))
-of_stmt y = along _ _ _ _ (fold-roll-Stmt (Act Bits) Effect (Act Bits) m.expr_step m.stmt_step m.touch_step (stmt_tree y)) (fold-roll-Stmt End End End o.expr_step o.stmt_step o.touch_step (stmt_tree y)) (stmt_level y)
+of_stmt y = along _ _ _ _ (fold-roll-Stmt (Act Bits) Effect (Act Bits) m.expr_step m.stmt_step m.touch_step (stmt_tree y)) (fold-roll-Stmt End End End (walk.expr_step o.ends) (walk.stmt_step o.ends) (walk.touch_step o.ends) (stmt_tree y)) (stmt_level y)
 
 of_touch : (y : Touch-F E S T) → Follows (touch_of (roll-Touch (touch_tree y))) (touch_end (roll-Touch (touch_tree y)))
-of_touch y = along _ _ _ _ (fold-roll-Touch (Act Bits) Effect (Act Bits) m.expr_step m.stmt_step m.touch_step (touch_tree y)) (fold-roll-Touch End End End o.expr_step o.stmt_step o.touch_step (touch_tree y)) (touch_level y)
+of_touch y = along _ _ _ _ (fold-roll-Touch (Act Bits) Effect (Act Bits) m.expr_step m.stmt_step m.touch_step (touch_tree y)) (fold-roll-Touch End End End (walk.expr_step o.ends) (walk.stmt_step o.ends) (walk.touch_step o.ends) (touch_tree y)) (touch_level y)
 
 pub stmt_follows : (e : Stmt) → Follows (effect_of e) (stmt_end e)
 stmt_follows = ind-Stmt (λ e. Follows (value_of e) (expr_end e)) (λ e. Follows (effect_of e) (stmt_end e)) (λ e. Follows (touch_of e) (touch_end e))

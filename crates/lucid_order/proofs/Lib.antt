@@ -7,3 +7,4 @@ pub mod OwnNumbers
 pub mod PathProofs
 pub mod Rising
 pub mod Transfer
+pub mod Walks

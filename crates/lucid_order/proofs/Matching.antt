@@ -1,23 +1,19 @@
 -- Where a body ends and its paths: it has a derivation where the numbering rises along each path, and ends at the greatest of their ends.
-use Rattle.std.proofs.Common.{◌≡◌, ℕ, zero, suc, ◌+◌, ◌<◌, ◌≤◌, max, List, [], ◌∷◌, ◌++◌, Bool, true, false, if◌then◌else◌, Option, None, Some, map, fold, refl, sym, ap, subst, ◌∙◌, arith, option_map, option_and_then, nat_le, slice_get, slice_index_or, ◌⊎◌, inl, inr}
+use Rattle.std.proofs.Common.{◌≡◌, ℕ, zero, suc, ◌+◌, ◌<◌, ◌≤◌, max, List, [], ◌∷◌, ◌++◌, Bool, true, false, if◌then◌else◌, Option, None, Some, map, fold, refl, ap, subst, ◌∙◌, arith, option_and_then, nat_le, slice_get, slice_index_or, ◌⊎◌, inl, inr}
 use Rattle.std.specs.Option.{option_map_or}
 use Rattle.std.proofs.lemmas.Bool.{cases_lt, leb-true, le-leb}
 use Rattle.lucid_base.specs.Arrays.{name_at}
 use Rattle.lucid_base.specs.declared.array.ArrayName.{ArrayName}
-use Rattle.lucid_core.specs.declared.body.Expr.{Expr}
 use Rattle.lucid_core.specs.declared.body.Stmt.{Stmt}
-use Rattle.lucid_core.specs.declared.body.Touch.{Touch}
-use Rattle.lucid_core.specs.declared.body.Expr.TheOpen.{Expr-F, Stmt-F, Touch-F}
-use Rattle.lucid_core.specs.declared.body.Expr.TheViews.{roll-Expr, roll-Stmt, roll-Touch}
-use Rattle.lucid_core.specs.declared.body.Expr.TheFolds.{fold-roll-Expr, fold-roll-Stmt, fold-roll-Touch, ind-Stmt, map-Expr, map-Stmt, map-Touch}
 use Rattle.lucid_core.specs.declared.defs.FunDef.{FunDef}
 use Rattle.lucid_core.proofs.Pairwise.{Pairwise, one_more}
 use Rattle.lucid_order.specs.Ends as o
-use Rattle.lucid_order.specs.Ends.{End, FunEnd, Numbering, body_end, expr_end, stmt_end, touch_end}
+use Rattle.lucid_order.specs.Ends.{End, FunEnd, Numbering, body_end}
 use Rattle.lucid_order.specs.Laws.{RisesAlong, path_end}
 use Rattle.lucid_order.specs.Paths as u
-use Rattle.lucid_order.specs.Paths.{Path, Paths, each_then, body_paths, expr_paths, stmt_paths, touch_paths}
+use Rattle.lucid_order.specs.Paths.{Path, Paths, each_then, body_paths}
 use Rattle.lucid_order.proofs.Transfer.{some_then}
+use Rattle.lucid_order.proofs.Walks.{bodies_relate}
 
 -- ---- members of lists
 
@@ -220,147 +216,12 @@ module _ (fs : List FunEnd) (gs : List (List Path)) (ok : Pairwise FunMatches fs
   found name (f ∷ fs) (g ∷ gs) all zero = named N name (f (λ y. N (name y))) g (all.0 (λ y. N (name y)))
   found name (f ∷ fs) (g ∷ gs) all (suc k) = found name fs gs all.1 k
 
-  both_agree : (f g : End) (p q : Paths) → Agrees f p → Agrees g q → Matches N (λ c. option_and_then (g fs N) (f fs N c)) (each_then (p gs) (q gs))
-  both_agree f g p q h k = in_turn N (f fs N) (g fs N) (p gs) (q gs) h k
-
-  abbrev pub E : Type 0
-  E = (e : Expr) × Agrees (expr_end e) (expr_paths e)
-
-  abbrev pub S : Type 0
-  S = (e : Stmt) × Agrees (stmt_end e) (stmt_paths e)
-
-  abbrev pub T : Type 0
-  T = (e : Touch) × Agrees (touch_end e) (touch_paths e)
-
-  abbrev exprs : List E → List Expr
-  exprs es = map (λ (e : E). e.0) es
-
-  abbrev stmts : List S → List Stmt
-  stmts es = map (λ (e : S). e.0) es
-
-  abbrev given_trees : List (ℕ × E) → List (ℕ × Expr)
-  given_trees xs = map (λ (g : ℕ × E). (g.0, g.1.0)) xs
-
-  abbrev given_ends : List (ℕ × E) → List End
-  given_ends xs = map (λ (g : ℕ × End). g.1) (map (λ (g : ℕ × Expr). (g.0, expr_end g.1)) (given_trees xs))
-
-  abbrev given_paths : List (ℕ × E) → List Paths
-  given_paths xs = map (λ (g : ℕ × Paths). g.1) (map (λ (g : ℕ × Expr). (g.0, expr_paths g.1)) (given_trees xs))
-
-  exprs_agree : (es : List E) → Agrees (o.sequence (map expr_end (exprs es))) (u.sequence (map expr_paths (exprs es)))
-  exprs_agree [] = silent N
-  exprs_agree (e ∷ es) = both_agree (expr_end e.0) (o.sequence (map expr_end (exprs es))) (expr_paths e.0) (u.sequence (map expr_paths (exprs es))) e.1 (exprs_agree es)
-
-  stmts_agree : (es : List S) → Agrees (o.sequence (map stmt_end (stmts es))) (u.sequence (map stmt_paths (stmts es)))
-  stmts_agree [] = silent N
-  stmts_agree (e ∷ es) = both_agree (stmt_end e.0) (o.sequence (map stmt_end (stmts es))) (stmt_paths e.0) (u.sequence (map stmt_paths (stmts es))) e.1 (stmts_agree es)
-
-  given_agree : (xs : List (ℕ × E)) → Agrees (o.sequence (given_ends xs)) (u.sequence (given_paths xs))
-  given_agree [] = silent N
-  given_agree (g ∷ xs) = both_agree (expr_end g.1.0) (o.sequence (given_ends xs)) (expr_paths g.1.0) (u.sequence (given_paths xs)) g.1.1 (given_agree xs)
-
-  abbrev pub expr_tree : Expr-F E S T → Expr-F Expr Stmt Touch
-  expr_tree = map-Expr E S T Expr Stmt Touch (λ e. e.0) (λ e. e.0) (λ e. e.0)
-
-  abbrev pub touch_tree : Touch-F E S T → Touch-F Expr Stmt Touch
-  touch_tree = map-Touch E S T Expr Stmt Touch (λ e. e.0) (λ e. e.0) (λ e. e.0)
-
-  abbrev pub stmt_tree : Stmt-F E S T → Stmt-F Expr Stmt Touch
-  stmt_tree = map-Stmt E S T Expr Stmt Touch (λ e. e.0) (λ e. e.0) (λ e. e.0)
-
-  expr_level : (y : Expr-F E S T) → Agrees (o.expr_step (map-Expr Expr Stmt Touch End End End expr_end stmt_end touch_end (expr_tree y)))
-      (u.expr_step (map-Expr Expr Stmt Touch Paths Paths Paths expr_paths stmt_paths touch_paths (expr_tree y)))
-  expr_level (Expr-F.Fixed b) = silent N
-  expr_level (Expr-F.Local i) = silent N
-  expr_level Expr-F.Now = silent N
-  expr_level Expr-F.Me = silent N
-  expr_level (Expr-F.Un op e) = e.1
-  expr_level (Expr-F.Bin op e f) = both_agree (expr_end e.0) (expr_end f.0) (expr_paths e.0) (expr_paths f.0) e.1 f.1
-  expr_level (Expr-F.Cmp op e f) = both_agree (expr_end e.0) (expr_end f.0) (expr_paths e.0) (expr_paths f.0) e.1 f.1
-  expr_level (Expr-F.Cast w e) = e.1
-  expr_level (Expr-F.Hash w es) = exprs_agree es
-  expr_level (Expr-F.Array e) = e.1
-  expr_level (Expr-F.Fun k names es) =
-      both_agree (o.sequence (map expr_end (exprs es))) (o.goes_through k names) (u.sequence (map expr_paths (exprs es))) (u.goes_through k names) (exprs_agree es) (found (name_at names) fs gs ok k)
-  expr_level (Expr-F.Inlined given es) =
-      both_agree (o.sequence (given_ends given)) (o.sequence (map stmt_end (stmts es))) (u.sequence (given_paths given)) (u.sequence (map stmt_paths (stmts es))) (given_agree given) (stmts_agree es)
-
-  touch_level : (y : Touch-F E S T) → Agrees (o.touch_step (map-Touch Expr Stmt Touch End End End expr_end stmt_end touch_end (touch_tree y)))
-      (u.touch_step (map-Touch Expr Stmt Touch Paths Paths Paths expr_paths stmt_paths touch_paths (touch_tree y)))
-  touch_level y =
-      let last = passing N y.array in
-      let set = in_turn N (expr_end y.set_arg.0 fs N) (o.passes y.array fs N) (expr_paths y.set_arg.0 gs) (u.calls y.array gs) y.set_arg.1 last in
-      let get = in_turn N (expr_end y.get_arg.0 fs N) (λ c. option_and_then (o.passes y.array fs N) (expr_end y.set_arg.0 fs N c)) (expr_paths y.get_arg.0 gs) (each_then (expr_paths y.set_arg.0 gs) (u.calls y.array gs)) y.get_arg.1 set in
-      in_turn N (expr_end y.index.0 fs N) (λ c. option_and_then (λ d. option_and_then (o.passes y.array fs N) (expr_end y.set_arg.0 fs N d)) (expr_end y.get_arg.0 fs N c)) (expr_paths y.index.0 gs)
-      (each_then (expr_paths y.get_arg.0 gs) (each_then (expr_paths y.set_arg.0 gs) (u.calls y.array gs))) y.index.1 get
-
-  optional_agree : (e : Option E) → Agrees (o.optional (option_map (λ (x : E). expr_end x.0) e)) (u.optional (option_map (λ (x : E). expr_paths x.0) e))
-  optional_agree None = silent N
-  optional_agree (Some e) = e.1
-
-  ordered_agree : (first : Bool) (f g : End) (p q : Paths) → Agrees f p → Agrees g q → Agrees (o.both first f g) (u.both first p q)
-  ordered_agree true f g p q h k = both_agree f g p q h k
-  ordered_agree false f g p q h k = both_agree g f q p k h
-
-  gen_agrees : (event : ℕ) (es : List E) (delay to : Option E) (first : Bool) →
-      Agrees (o.stmt_step (Stmt-F.Gen event (map expr_end (exprs es)) (option_map (λ (x : E). expr_end x.0) delay) (option_map (λ (x : E). expr_end x.0) to) first))
-      (u.stmt_step (Stmt-F.Gen event (map expr_paths (exprs es)) (option_map (λ (x : E). expr_paths x.0) delay) (option_map (λ (x : E). expr_paths x.0) to) first))
-  gen_agrees event es delay to first =
-      let de = o.optional (option_map (λ (x : E). expr_end x.0) delay) in
-      let te = o.optional (option_map (λ (x : E). expr_end x.0) to) in
-      let dp = u.optional (option_map (λ (x : E). expr_paths x.0) delay) in
-      let tp = u.optional (option_map (λ (x : E). expr_paths x.0) to) in
-      both_agree (o.sequence (map expr_end (exprs es))) (o.both first de te) (u.sequence (map expr_paths (exprs es))) (u.both first dp tp) (exprs_agree es)
-      (ordered_agree first de te dp tp (optional_agree delay) (optional_agree to))
-
-  multi_agrees : (event : ℕ) (es : List E) (delay : Option E) (members : List ℕ) →
-      Agrees (o.stmt_step (Stmt-F.Multi event (map expr_end (exprs es)) (option_map (λ (x : E). expr_end x.0) delay) members))
-      (u.stmt_step (Stmt-F.Multi event (map expr_paths (exprs es)) (option_map (λ (x : E). expr_paths x.0) delay) members))
-  multi_agrees event es delay members =
-      both_agree (o.sequence (map expr_end (exprs es))) (o.optional (option_map (λ (x : E). expr_end x.0) delay)) (u.sequence (map expr_paths (exprs es))) (u.optional (option_map (λ (x : E). expr_paths x.0) delay))
-      (exprs_agree es) (optional_agree delay)
-
-  stmt_level : (y : Stmt-F E S T) → Agrees (o.stmt_step (map-Stmt Expr Stmt Touch End End End expr_end stmt_end touch_end (stmt_tree y)))
-      (u.stmt_step (map-Stmt Expr Stmt Touch Paths Paths Paths expr_paths stmt_paths touch_paths (stmt_tree y)))
-  stmt_level (Stmt-F.Assign i e) = e.1
-  stmt_level (Stmt-F.Drop e) = e.1
-  stmt_level (Stmt-F.If e ss ts) =
-      let left = o.sequence (map stmt_end (stmts ss)) in
-      let right = o.sequence (map stmt_end (stmts ts)) in
-      let lefts = u.sequence (map stmt_paths (stmts ss)) in
-      let rights = u.sequence (map stmt_paths (stmts ts)) in
-      both_agree (expr_end e.0) (o.larger left right) (expr_paths e.0) (u.either lefts rights) e.1 (of_either N (left fs N) (right fs N) (lefts gs) (rights gs) (stmts_agree ss) (stmts_agree ts))
-  stmt_level (Stmt-F.Gen event es None None first) = gen_agrees event es None None first
-  stmt_level (Stmt-F.Gen event es None (Some t) first) = gen_agrees event es None (Some t) first
-  stmt_level (Stmt-F.Gen event es (Some e) None first) = gen_agrees event es (Some e) None first
-  stmt_level (Stmt-F.Gen event es (Some e) (Some t) first) = gen_agrees event es (Some e) (Some t) first
-  stmt_level (Stmt-F.Multi event es None members) = multi_agrees event es None members
-  stmt_level (Stmt-F.Multi event es (Some e) members) = multi_agrees event es (Some e) members
-  stmt_level (Stmt-F.Say form es) = exprs_agree es
-  stmt_level (Stmt-F.Return None) = silent N
-  stmt_level (Stmt-F.Return (Some e)) = e.1
-
-  along : (f g : End) (p q : Paths) → f ≡ g → p ≡ q → Agrees g q → Agrees f p
-  along f g p q e h is = subst (λ (x : End). Agrees x p) (sym e) (subst (λ (y : Paths). Agrees g y) (sym h) is)
-
-  of_expr : (y : Expr-F E S T) → Agrees (expr_end (roll-Expr (expr_tree y))) (expr_paths (roll-Expr (expr_tree y)))
-  of_expr y = along _ _ _ _ (fold-roll-Expr End End End o.expr_step o.stmt_step o.touch_step (expr_tree y)) (fold-roll-Expr Paths Paths Paths u.expr_step u.stmt_step u.touch_step (expr_tree y)) (expr_level y)
-
-  of_stmt : (y : Stmt-F E S T) → Agrees (stmt_end (roll-Stmt (stmt_tree y))) (stmt_paths (roll-Stmt (stmt_tree y)))
-  of_stmt y = along _ _ _ _ (fold-roll-Stmt End End End o.expr_step o.stmt_step o.touch_step (stmt_tree y)) (fold-roll-Stmt Paths Paths Paths u.expr_step u.stmt_step u.touch_step (stmt_tree y)) (stmt_level y)
-
-  of_touch : (y : Touch-F E S T) → Agrees (touch_end (roll-Touch (touch_tree y))) (touch_paths (roll-Touch (touch_tree y)))
-  of_touch y = along _ _ _ _ (fold-roll-Touch End End End o.expr_step o.stmt_step o.touch_step (touch_tree y)) (fold-roll-Touch Paths Paths Paths u.expr_step u.stmt_step u.touch_step (touch_tree y)) (touch_level y)
-
-  stmt_agrees : (e : Stmt) → Agrees (stmt_end e) (stmt_paths e)
-  stmt_agrees = ind-Stmt (λ e. Agrees (expr_end e) (expr_paths e)) (λ e. Agrees (stmt_end e) (stmt_paths e)) (λ e. Agrees (touch_end e) (touch_paths e))
-      (λ e y is. subst (λ z. Agrees (expr_end (roll-Expr z)) (expr_paths (roll-Expr z))) is (of_expr y))
-      (λ e y is. subst (λ z. Agrees (stmt_end (roll-Stmt z)) (stmt_paths (roll-Stmt z))) is (of_stmt y))
-      (λ e y is. subst (λ z. Agrees (touch_end (roll-Touch z)) (touch_paths (roll-Touch z))) is (of_touch y))
-
   body_agrees : (ss : List Stmt) → Agrees (body_end ss) (body_paths ss)
-  body_agrees [] = silent N
-  body_agrees (e ∷ es) = both_agree (stmt_end e) (body_end es) (stmt_paths e) (body_paths es) (stmt_agrees e) (body_agrees es)
+  body_agrees = bodies_relate o.ends u.all_paths Agrees (silent N)
+      (λ f g p q h k. in_turn N (f fs N) (g fs N) (p gs) (q gs) h k)
+      (λ f g p q h k. of_either N (f fs N) (g fs N) (p gs) (q gs) h k)
+      (passing N)
+      (λ k names. found (name_at names) fs gs ok k)
 
 -- Functions, each behind those before it.
 funs_agree : (ends : List FunEnd) (known : List (List Path)) (funs : List FunDef) → Pairwise FunMatches ends known →

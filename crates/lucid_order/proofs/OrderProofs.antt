@@ -13,7 +13,8 @@ use Rattle.lucid_core.specs.declared.defs.FunDef.{FunDef}
 use Rattle.lucid_core.specs.ExamplePrograms.{bumps, handler, handles, program}
 use Rattle.lucid_core.specs.Names.{names_are_there}
 use Rattle.lucid_core.proofs.Folds.{folds}
-use Rattle.lucid_order.specs.Ends.{End, Numbering, FunEnd, body_end, ends_of, expr_end, stmt_end, touch_end, expr_step, stmt_step, touch_step}
+use Rattle.lucid_order.specs.Ends.{End, Numbering, FunEnd, body_end, ends_of, ends as ends_walk, expr_end, stmt_end, touch_end}
+use Rattle.lucid_order.specs.Evaluation as walk
 use Rattle.lucid_order.specs.Examples.{OrderExamples, Orderly, calls, first, funs, in_turn, second, with_relay}
 use Rattle.lucid_order.specs.Laws.{own_numbers}
 use Rattle.lucid_order.specs.Order.{InOrder}
@@ -21,14 +22,14 @@ use Rattle.lucid_order.proofs.OwnNumbers.{by_own_numbers}
 use Rattle.lucid_order.proofs.Transfer.{some_then}
 
 -- Where a part of a body ends, by where its parts end.
-expr_ends : (y : Expr-F Expr Stmt Touch) (fs : List FunEnd) (N : Numbering) (c : ℕ) → expr_end (roll-Expr y) fs N c ≡ expr_step (map-Expr Expr Stmt Touch End End End expr_end stmt_end touch_end y) fs N c
-expr_ends y fs N c = ap (λ (f : End). f fs N c) (fold-roll-Expr End End End expr_step stmt_step touch_step y)
+expr_ends : (y : Expr-F Expr Stmt Touch) (fs : List FunEnd) (N : Numbering) (c : ℕ) → expr_end (roll-Expr y) fs N c ≡ walk.expr_step ends_walk (map-Expr Expr Stmt Touch End End End expr_end stmt_end touch_end y) fs N c
+expr_ends y fs N c = ap (λ (f : End). f fs N c) (fold-roll-Expr End End End (walk.expr_step ends_walk) (walk.stmt_step ends_walk) (walk.touch_step ends_walk) y)
 
-stmt_ends : (y : Stmt-F Expr Stmt Touch) (fs : List FunEnd) (N : Numbering) (c : ℕ) → stmt_end (roll-Stmt y) fs N c ≡ stmt_step (map-Stmt Expr Stmt Touch End End End expr_end stmt_end touch_end y) fs N c
-stmt_ends y fs N c = ap (λ (f : End). f fs N c) (fold-roll-Stmt End End End expr_step stmt_step touch_step y)
+stmt_ends : (y : Stmt-F Expr Stmt Touch) (fs : List FunEnd) (N : Numbering) (c : ℕ) → stmt_end (roll-Stmt y) fs N c ≡ walk.stmt_step ends_walk (map-Stmt Expr Stmt Touch End End End expr_end stmt_end touch_end y) fs N c
+stmt_ends y fs N c = ap (λ (f : End). f fs N c) (fold-roll-Stmt End End End (walk.expr_step ends_walk) (walk.stmt_step ends_walk) (walk.touch_step ends_walk) y)
 
-touch_ends : (y : Touch-F Expr Stmt Touch) (fs : List FunEnd) (N : Numbering) (c : ℕ) → touch_end (roll-Touch y) fs N c ≡ touch_step (map-Touch Expr Stmt Touch End End End expr_end stmt_end touch_end y) fs N c
-touch_ends y fs N c = ap (λ (f : End). f fs N c) (fold-roll-Touch End End End expr_step stmt_step touch_step y)
+touch_ends : (y : Touch-F Expr Stmt Touch) (fs : List FunEnd) (N : Numbering) (c : ℕ) → touch_end (roll-Touch y) fs N c ≡ walk.touch_step ends_walk (map-Touch Expr Stmt Touch End End End expr_end stmt_end touch_end y) fs N c
+touch_ends y fs N c = ap (λ (f : End). f fs N c) (fold-roll-Touch End End End (walk.expr_step ends_walk) (walk.stmt_step ends_walk) (walk.touch_step ends_walk) y)
 
 ruleset ends = (expr_ends, stmt_ends, touch_ends)
 

@@ -1,5 +1,6 @@
 pub mod Cycle
 pub mod Ends
+pub mod Evaluation
 pub mod Examples
 pub mod Laws
 pub mod Order

@@ -2,7 +2,8 @@
 // It promises laws of these definitions (specs/Laws.antt), each on a function that does nothing: where all bodies are in order every
 // event calls each array at most once, in declared order. The crates that check the order, inline calls and make the normal form
 // cite them.
-// The definitions are in specs/: Ends and Order, Paths and Cycle, Refused, Size. Stands on lucid_base and lucid_core.
+// The definitions are in specs/: Evaluation (the order in which parts are evaluated), Ends and Order, Paths and Cycle, Refused, Size.
+// Stands on lucid_base and lucid_core.
 #![tactic(auto)]
 
 mod examples;
