@@ -1,6 +1,6 @@
 // The words that every crate speaks: numbers of a stated width, names, events and what a handler sends out.
 // Each type keeps its bounds as a fact of the type, and each operation equals its formula in specs/.
-// Stands on std and a library of list types alone. Nothing here but the making of a name takes memory.
+// Stands on std and libraries of list types and short vectors alone. Nothing here but the making of a name takes memory.
 #![tactic(auto)]
 
 mod args;
@@ -16,8 +16,6 @@ mod ops;
 mod outs;
 mod span;
 mod steps;
-#[cfg(test)]
-mod tests;
 mod width;
 
 pub use args::Args;

@@ -1,7 +1,9 @@
-// Values from outside, and each call that takes memory with ample memory.
+// Numbers, names and counters of lucid_base: values from outside, and each call that takes memory with ample memory.
 ghost use Rattle.std.specs.Prelude.{◌≡◌, ◌<◌};
 
-use crate::*;
+use lucid_base::{
+    ArrayDef, BinOp, Bits, Id, Steps, UnOp, Width, apply_bin, apply_un, cast, hash_bits, uncounted,
+};
 use std::marker::Brand;
 use std::process::Abort;
 use std::sync::ledger::{Blank, Ledger};
