@@ -63,6 +63,10 @@ pub PutsPart-last : {T : Type 0} {written : T → Option (List ℕ)} {faults : T
     Leaves written faults old now whole left → PutsPart written faults now new piece → left ≡ piece → PutsPart written faults old new whole
 PutsPart-last {piece = piece} so_far cut last = PutsPart-at [] so_far cut (last ∙ sym (append-nil piece))
 
+-- before the first piece nothing waits, and all is left
+pub Leaves-empty : {T : Type 0} {written : T → Option (List ℕ)} {faults : T → ℕ} {sink : T} {waits : List ℕ} (whole : List ℕ) → waits ≡ [] → Leaves written faults sink sink whole (waits ++ whole)
+Leaves-empty {T} {written} {faults} {sink} {waits} whole none = subst (λ (l : List ℕ). Leaves written faults sink sink whole (l ++ whole)) (sym none) Leaves-whole
+
 -- Of the whole text what waits in the room is left, and then `left`, which begins with a piece: once that piece is held,
 -- what waits then is left, and then the rest.
 pub Leaves-held : {T : Type 0} {written : T → Option (List ℕ)} {faults : T → ℕ} {old now new : T} {whole left : List ℕ} (waits waits_now piece rest : List ℕ) →

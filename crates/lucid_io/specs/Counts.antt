@@ -1,14 +1,11 @@
 -- Counts of faults: one for a sink, one for each name of a file. They never fall, and stand still at the last u64.
-use Rattle.std.specs.Prelude.{◌≡◌, ℕ, ◌+◌, ◌-◌, ◌^◌, ◌≤◌, ◌==◌, nat_lt, if◌then◌else◌, min, Bool, List, Option, IsSome}
+use Rattle.std.specs.Prelude.{◌≡◌, ℕ, ◌≤◌, ◌==◌, max, Bool, List, Option, IsSome}
 use Rattle.std.specs.List.{list_any}
-
--- the sum, which stops at the last u64
-abbrev pub plus_capped : ℕ → ℕ → ℕ
-plus_capped a b = min (a + b) (2 ^ 64 - 1)
+use Rattle.lucid_base.specs.Saturating.{saturating_next}
 
 -- the count rose: it is at least one more, or stands at the last u64
 abbrev pub Rose : ℕ → ℕ → Type 0
-Rose before now = plus_capped before 1 ≤ now
+Rose before now = saturating_next before ≤ now
 
 -- no name's count fell
 abbrev pub NoneFell : (List ℕ → ℕ) → (List ℕ → ℕ) → Type 0
@@ -26,9 +23,9 @@ AllRose P before now = (name : List ℕ) → P name → Rose (before name) (now 
 abbrev pub OthersKept : (List ℕ → Type 0) → (List ℕ → Option (List ℕ)) → (List ℕ → ℕ) → (List ℕ → ℕ) → Type 0
 OthersKept P held before now = (name : List ℕ) → ¬ P name → IsSome (held name) → now name ≡ before name
 
--- one more; at the last u64 it stands still
+-- A count after one more. That of a machine has 64 bits, and then this is `saturating_next`; of no number it falls.
 abbrev pub raised : ℕ → ℕ
-raised n = if nat_lt n (2 ^ 64 - 1) then n + 1 else n
+raised n = max n (saturating_next n)
 
 -- a fake fails the calls whose numbers it was given
 abbrev pub is_failing : List ℕ → ℕ → Bool

@@ -2,7 +2,8 @@
 ghost use Rattle.std.specs.Prelude.{◌≡◌, ℕ, List, IsSome, MatchResult, Option, OnOk, OnErr};
 ghost use Rattle.std.specs.Io.{ReadsAtMost};
 ghost use Rattle.std.specs.Io.KnownBytes.{ReadConsumes};
-ghost use Rattle.lucid_io.specs.Counts.{plus_capped, Rose, NoneFell, SameCounts, AllRose, OthersKept};
+ghost use Rattle.lucid_base.specs.Saturating.{saturating_sum};
+ghost use Rattle.lucid_io.specs.Counts.{Rose, NoneFell, SameCounts, AllRose, OthersKept};
 ghost use Rattle.lucid_io.specs.Contents.{SameHeld, Tells};
 
 /// A call on a file or a sink failed. Which count of faults rose says why.
@@ -53,7 +54,7 @@ pub trait Files {
         ensures no_other { (name : List ℕ) → begun self.new name → begun self.old name }
         ensures bound { ReadsAtMost result room.new }
         ensures bytes { ReadConsumes (left self.old) (left self.new) result room.new }
-        ensures given { MatchResult result (λ n. given self.new ≡ plus_capped (given self.old) n) (λ _. given self.new ≡ given self.old) }
+        ensures given { MatchResult result (λ n. given self.new ≡ saturating_sum (given self.old) n) (λ _. given self.new ≡ given self.old) }
 
         // the counts
         ensures later { NoneFell (faults self.old) (faults self.new) }

@@ -2,8 +2,9 @@
 ghost use Rattle.std.specs.Prelude.{◌≡◌, ◌↔◌, ℕ, ◌+◌, ◌-◌, ◌^◌, ◌<◌, ◌≤◌, ◌++◌, List, [], Option, Some, length, map, min, take, drop, IsTrue, IsErr, IsSome, IfOk, OnOk, OnErr, MatchResult};
 ghost use Rattle.std.specs.Io.{ReadsAtMost};
 ghost use Rattle.std.specs.Io.KnownBytes.{ReadConsumes};
+ghost use Rattle.lucid_base.specs.Saturating.{saturating_sum};
 ghost use Rattle.lucid_io.specs.Contents.{SameHeld, Tells};
-ghost use Rattle.lucid_io.specs.Counts.{plus_capped, Rose, NoneFell, SameCounts, AllRose, OthersKept, is_failing};
+ghost use Rattle.lucid_io.specs.Counts.{Rose, NoneFell, SameCounts, AllRose, OthersKept, is_failing};
 ghost use Rattle.lucid_io.specs.MemFiles.{bytes_of, IsBegun, unread, faults_of, begin_fails, after_begin, after_failed_begin, after_read, after_failed_read, place_of, blamed_files, blamed_absent, left_at};
 
 use crate::counts::{next_fails, raise};
@@ -155,7 +156,7 @@ impl Files for MemFiles {
         ensures no_other { (name : List ℕ) → IsBegun self.new name → IsBegun self.old name }
         ensures bound { ReadsAtMost result room.new }
         ensures bytes { ReadConsumes (Some (unread self.old)) (Some (unread self.new)) result room.new }
-        ensures given { MatchResult result (λ n. self.new.given ≡ plus_capped self.old.given n) (λ _. self.new.given ≡ self.old.given) }
+        ensures given { MatchResult result (λ n. self.new.given ≡ saturating_sum self.old.given n) (λ _. self.new.given ≡ self.old.given) }
         ensures later { NoneFell (faults_of self.old) (faults_of self.new) }
         ensures quiet { OnOk result (SameCounts (faults_of self.old) (faults_of self.new)) }
         ensures cause { OnErr result (AllRose (IsBegun self.old) (faults_of self.old) (faults_of self.new)) }

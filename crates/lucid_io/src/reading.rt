@@ -4,7 +4,7 @@ ghost use Rattle.lucid_io.specs.Counts.{Rose, NoneFell, SameCounts, AllRose, Oth
 ghost use Rattle.lucid_io.specs.Contents.{SameHeld};
 
 use crate::files::Files;
-use lucid_base::Steps;
+use lucid_base::{Steps, uncounted};
 use std::alloc::{AllocError, Global};
 use std::marker::Brand;
 use std::sync::ledger::{Blank, Ledger};
@@ -66,7 +66,7 @@ pub fn read_all<F: Files>(
     ensures others { OthersKept (λ other. other ≡ name.now) (F.held files.old) (F.faults files.old) (F.faults files.new) }
 {
     match files.begin(name) {
-        Ok(()) => take_counted::<F, Brand>(alloc, files, limit, Blank::new(1)),
+        Ok(()) => take_counted::<F, Brand>(alloc, files, limit, uncounted()),
         Err(_) => Err(Take::ReadFault),
     }
 }
