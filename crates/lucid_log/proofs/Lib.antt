@@ -1,3 +1,4 @@
 pub mod Holes
+pub mod Lines
 pub mod Numbers
 pub mod Outs

@@ -1,16 +1,16 @@
 // Blocks: an event that ran, and what it sent out.
-ghost use Rattle.std.specs.Prelude.{◌≡◌, ◌<◌, ◌≤◌, length, IsTrue, OnOk, OnErr};
+ghost use Rattle.std.specs.Prelude.{◌≡◌, ◌<◌, ◌≤◌, ◌++◌, length, IsTrue, OnOk, OnErr};
 ghost use Rattle.std.specs.List.{All};
 ghost use Rattle.lucid_core.specs.Fits.{event_fits, out_fits};
 ghost use Rattle.lucid_core.specs.Texts.{holes_of};
+ghost use Rattle.lucid_io.specs.Puts.{PutsAll, PutsPart, Leaves};
 ghost use Rattle.lucid_log.specs.Block.{event_name, form_of, head_text, target_text, end_text, generate_text, say_text, out_text, is_marked, outs_text, block_text};
-ghost use Rattle.lucid_log.specs.Puts.{PutsAll, PutsPart};
 
-use crate::filled::put_filled;
-use crate::pieces::{Piece, put_pieces, put_text};
+use crate::filled::hold_filled;
+use crate::pieces::{Piece, hold_pieces};
 use lucid_base::{Event, Out, Outs, Target};
 use lucid_core::Core;
-use lucid_io::{Sink, WriteFault};
+use lucid_io::{Room, Sink, WriteFault, hold, release};
 
 /// Writes the block of an event that fits the core and ran at this tick on this switch, with what it sent out (`block_text`): all of it,
 /// or a proper prefix of it where the sink's count of faults rose in this call. Bit `i` of `lost` marks out `i` as lost. The events sent out
@@ -29,23 +29,27 @@ pub fn put_block<S: Sink>(
     ensures all { OnOk result (PutsAll S.written S.faults sink.old sink.new (block_text core.now tick switch event.now outs.now lost)) }
     ensures part { OnErr result (PutsPart S.written S.faults sink.old sink.new (block_text core.now tick switch event.now outs.now lost)) }
 {
-    put_head(sink, core, tick, switch, event)?;
-    put_outs(sink, core, outs.as_slice(), lost)
+    let mut room = Room::new();
+    hold_head(sink, &mut room, core, tick, switch, event)?;
+    hold_outs(sink, &mut room, core, outs.as_slice(), lost)?;
+    release(sink, &mut room)
 }
 
-fn put_head<'a, S: Sink>(
+fn hold_head<'a, S: Sink>(
     sink: &mut S,
+    room: &mut Room,
     core: &'a Core,
     tick: u64,
     switch: u32,
     event: &'a Event,
 ) -> Result<(), WriteFault>
     requires { IsTrue (event_fits core.now event.now) }
-    ensures all { OnOk result (PutsAll S.written S.faults sink.old sink.new (head_text tick switch (event_name core.now event.now.id) event.now.args)) }
-    ensures part { OnErr result (PutsPart S.written S.faults sink.old sink.new (head_text tick switch (event_name core.now event.now.id) event.now.args)) }
+    ensures all { OnOk result (Leaves S.written S.faults sink.old sink.new (room.old ++ head_text tick switch (event_name core.now event.now.id) event.now.args) room.new) }
+    ensures part { OnErr result (PutsPart S.written S.faults sink.old sink.new (room.old ++ head_text tick switch (event_name core.now event.now.id) event.now.args)) }
 {
-    put_pieces(
+    hold_pieces(
         sink,
+        room,
         &[
             Piece::Text(b"["),
             Piece::Number(tick),
@@ -60,14 +64,20 @@ fn put_head<'a, S: Sink>(
     )
 }
 
-fn put_outs<S: Sink>(sink: &mut S, core: &Core, outs: &[Out], lost: u8) -> Result<(), WriteFault>
+fn hold_outs<S: Sink>(
+    sink: &mut S,
+    room: &mut Room,
+    core: &Core,
+    outs: &[Out],
+    lost: u8,
+) -> Result<(), WriteFault>
     requires outs { All (λ out. IsTrue (out_fits core.now out)) outs.now }
     requires few { length outs.now ≤ 8 }
-    ensures all { OnOk result (PutsAll S.written S.faults sink.old sink.new (outs_text core.now lost 0 outs.now)) }
-    ensures part { OnErr result (PutsPart S.written S.faults sink.old sink.new (outs_text core.now lost 0 outs.now)) }
+    ensures all { OnOk result (Leaves S.written S.faults sink.old sink.new (room.old ++ outs_text core.now lost 0 outs.now) room.new) }
+    ensures part { OnErr result (PutsPart S.written S.faults sink.old sink.new (room.old ++ outs_text core.now lost 0 outs.now)) }
 {
     for (i, out) in outs.iter().enumerate() {
-        put_out(sink, core, out, is_set(lost, i))?;
+        hold_out(sink, room, core, out, is_set(lost, i))?;
     }
     Ok(())
 }
@@ -79,17 +89,31 @@ fn is_set(byte: u8, bit: usize) -> bool
     byte >> bit & 1 == 1
 }
 
-fn put_out<S: Sink>(sink: &mut S, core: &Core, out: &Out, is_lost: bool) -> Result<(), WriteFault>
+fn hold_out<S: Sink>(
+    sink: &mut S,
+    room: &mut Room,
+    core: &Core,
+    out: &Out,
+    is_lost: bool,
+) -> Result<(), WriteFault>
     requires { IsTrue (out_fits core.now out.now) }
-    ensures all { OnOk result (PutsAll S.written S.faults sink.old sink.new (out_text core.now out.now is_lost)) }
-    ensures part { OnErr result (PutsPart S.written S.faults sink.old sink.new (out_text core.now out.now is_lost)) }
+    ensures all { OnOk result (Leaves S.written S.faults sink.old sink.new (room.old ++ out_text core.now out.now is_lost) room.new) }
+    ensures part { OnErr result (PutsPart S.written S.faults sink.old sink.new (room.old ++ out_text core.now out.now is_lost)) }
 {
     match out {
         Out::Gen { event, delay, to } => {
             let name = name_of(core, event.id);
-            put_generate(sink, name, event.args.as_slice(), *delay, *to, is_lost)
+            hold_generate(
+                sink,
+                room,
+                name,
+                event.args.as_slice(),
+                *delay,
+                *to,
+                is_lost,
+            )
         }
-        Out::Say { form, args } => put_say(sink, form_at(core, *form), args.as_slice()),
+        Out::Say { form, args } => hold_say(sink, room, form_at(core, *form), args.as_slice()),
     }
 }
 
@@ -109,19 +133,21 @@ fn form_at(core: &Core, form: u32) -> &[u8]
     core.forms()[form as usize].bytes()
 }
 
-fn put_generate<'a, S: Sink>(
+fn hold_generate<'a, S: Sink>(
     sink: &mut S,
+    room: &mut Room,
     name: &'a [u8],
     args: &'a [u64],
     delay: u64,
     to: Target,
     is_lost: bool,
 ) -> Result<(), WriteFault>
-    ensures all { OnOk result (PutsAll S.written S.faults sink.old sink.new (generate_text name.now args.now delay to is_lost)) }
-    ensures part { OnErr result (PutsPart S.written S.faults sink.old sink.new (generate_text name.now args.now delay to is_lost)) }
+    ensures all { OnOk result (Leaves S.written S.faults sink.old sink.new (room.old ++ generate_text name.now args.now delay to is_lost) room.new) }
+    ensures part { OnErr result (PutsPart S.written S.faults sink.old sink.new (room.old ++ generate_text name.now args.now delay to is_lost)) }
 {
-    put_pieces(
+    hold_pieces(
         sink,
+        room,
         &[
             Piece::Text(b"  generate "),
             Piece::Text(name),
@@ -131,17 +157,17 @@ fn put_generate<'a, S: Sink>(
             Piece::Number(delay),
         ],
     )?;
-    put_target(sink, to)?;
-    put_text(sink, end_of(is_lost))
+    hold_target(sink, room, to)?;
+    hold(sink, room, end_of(is_lost))
 }
 
-fn put_target<S: Sink>(sink: &mut S, to: Target) -> Result<(), WriteFault>
-    ensures all { OnOk result (PutsAll S.written S.faults sink.old sink.new (target_text to)) }
-    ensures part { OnErr result (PutsPart S.written S.faults sink.old sink.new (target_text to)) }
+fn hold_target<S: Sink>(sink: &mut S, room: &mut Room, to: Target) -> Result<(), WriteFault>
+    ensures all { OnOk result (Leaves S.written S.faults sink.old sink.new (room.old ++ target_text to) room.new) }
+    ensures part { OnErr result (PutsPart S.written S.faults sink.old sink.new (room.old ++ target_text to)) }
 {
     match to {
-        Target::Here => put_text(sink, b" here"),
-        Target::At(n) => put_pieces(sink, &[Piece::Text(b" to "), Piece::Number(n)]),
+        Target::Here => hold(sink, room, b" here"),
+        Target::At(n) => hold_pieces(sink, room, &[Piece::Text(b" to "), Piece::Number(n)]),
     }
 }
 
@@ -151,13 +177,18 @@ fn end_of(is_lost: bool) -> &'static [u8]
     if is_lost { b" lost\n" } else { b"\n" }
 }
 
-// Writes the line of a print.
-pub(crate) fn put_say<S: Sink>(sink: &mut S, text: &[u8], numbers: &[u64]) -> Result<(), WriteFault>
+// Lets the line of a print wait in the room.
+fn hold_say<S: Sink>(
+    sink: &mut S,
+    room: &mut Room,
+    text: &[u8],
+    numbers: &[u64],
+) -> Result<(), WriteFault>
     requires { holes_of text.now ≡ length numbers.now }
-    ensures all { OnOk result (PutsAll S.written S.faults sink.old sink.new (say_text text.now numbers.now)) }
-    ensures part { OnErr result (PutsPart S.written S.faults sink.old sink.new (say_text text.now numbers.now)) }
+    ensures all { OnOk result (Leaves S.written S.faults sink.old sink.new (room.old ++ say_text text.now numbers.now) room.new) }
+    ensures part { OnErr result (PutsPart S.written S.faults sink.old sink.new (room.old ++ say_text text.now numbers.now)) }
 {
-    put_text(sink, b"  say ")?;
-    put_filled(sink, text, numbers)?;
-    put_text(sink, b"\n")
+    hold(sink, room, b"  say ")?;
+    hold_filled(sink, room, text, numbers)?;
+    hold(sink, room, b"\n")
 }

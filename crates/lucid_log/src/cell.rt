@@ -1,11 +1,11 @@
-// The lines of cells.
-ghost use Rattle.std.specs.Prelude.{◌<◌, length, OnOk, OnErr};
-ghost use Rattle.lucid_log.specs.Cell.{cell_text};
-ghost use Rattle.lucid_log.specs.Puts.{PutsAll, PutsPart};
+// The line of a cell.
+ghost use Rattle.std.specs.Prelude.{◌≡◌, ◌<◌, ◌++◌, length, OnOk, OnErr};
+ghost use Rattle.lucid_io.specs.Puts.{PutsAll, PutsPart, Leaves};
+ghost use Rattle.lucid_log.specs.Cell.{array_name, cell_text, line_of};
 
-use crate::pieces::{Piece, put_pieces};
+use crate::pieces::{Piece, hold_pieces};
 use lucid_core::Core;
-use lucid_io::{Sink, WriteFault};
+use lucid_io::{Room, Sink, WriteFault, release};
 
 /// Writes the line of a cell of a declared array (`cell_text`): all of it, or a proper prefix of it where the sink's count of faults rose in this call.
 pub fn put_cell<S: Sink>(
@@ -20,13 +20,40 @@ pub fn put_cell<S: Sink>(
     ensures all { OnOk result (PutsAll S.written S.faults sink.old sink.new (cell_text core.now switch array cell value)) }
     ensures part { OnErr result (PutsPart S.written S.faults sink.old sink.new (cell_text core.now switch array cell value)) }
 {
-    put_pieces(
+    let mut room = Room::new();
+    let name = name_of(core, array);
+    hold_line(sink, &mut room, switch, name, cell, value)?;
+    release(sink, &mut room)
+}
+
+// The name of a declared array.
+fn name_of(core: &Core, array: u32) -> &[u8]
+    requires { array < length core.now.arrays }
+    ensures { result.now ≡ array_name core.now array }
+{
+    core.arrays()[array as usize].name.bytes()
+}
+
+// The line of a cell of the array of this name.
+pub(crate) fn hold_line<'a, S: Sink>(
+    sink: &mut S,
+    room: &mut Room,
+    switch: u32,
+    name: &'a [u8],
+    cell: u64,
+    value: u64,
+) -> Result<(), WriteFault>
+    ensures all { OnOk result (Leaves S.written S.faults sink.old sink.new (room.old ++ line_of switch name.now cell value) room.new) }
+    ensures part { OnErr result (PutsPart S.written S.faults sink.old sink.new (room.old ++ line_of switch name.now cell value)) }
+{
+    hold_pieces(
         sink,
+        room,
         &[
             Piece::Text(b"s"),
             Piece::Number(switch as u64),
             Piece::Text(b" "),
-            Piece::Text(core.arrays()[array as usize].name.bytes()),
+            Piece::Text(name),
             Piece::Text(b"["),
             Piece::Number(cell),
             Piece::Text(b"] = "),

@@ -1,7 +1,7 @@
 // The last line of a network's run.
 ghost use Rattle.std.specs.Prelude.{OnOk, OnErr};
+ghost use Rattle.lucid_io.specs.Puts.{PutsAll, PutsPart};
 ghost use Rattle.lucid_log.specs.Ending.{ending_text};
-ghost use Rattle.lucid_log.specs.Puts.{PutsAll, PutsPart};
 
 use crate::pieces::{Piece, put_pieces};
 use lucid_io::{Sink, WriteFault};

@@ -1,29 +1,30 @@
 // The texts of prints, with numbers in place of `%d`.
 ghost use Rattle.std.specs.Prelude.{◌≡◌, ◌+◌, ◌<◌, ◌≤◌, ◌++◌, length, take, drop, codes, OnOk, OnErr};
 ghost use Rattle.lucid_core.specs.Texts.{holes_of};
+ghost use Rattle.lucid_io.specs.Puts.{PutsPart, Leaves};
 ghost use Rattle.lucid_log.specs.Filled.{filled};
-ghost use Rattle.lucid_log.specs.Puts.{PutsAll, PutsPart};
 
-use crate::pieces::{Piece, put_pieces, put_text};
-use lucid_io::{Sink, WriteFault};
+use crate::pieces::{Piece, hold_pieces};
+use lucid_io::{Room, Sink, WriteFault, hold};
 
-// Writes the text with its `%d` replaced by the numbers, from the left.
-pub(crate) fn put_filled<S: Sink>(
+// Lets the text wait in the room, with its `%d` replaced by the numbers, from the left.
+pub(crate) fn hold_filled<S: Sink>(
     sink: &mut S,
+    room: &mut Room,
     text: &[u8],
     numbers: &[u64],
 ) -> Result<(), WriteFault>
     requires { holes_of text.now ≡ length numbers.now }
-    ensures all { OnOk result (PutsAll S.written S.faults sink.old sink.new (filled text.now numbers.now)) }
-    ensures part { OnErr result (PutsPart S.written S.faults sink.old sink.new (filled text.now numbers.now)) }
+    ensures all { OnOk result (Leaves S.written S.faults sink.old sink.new (room.old ++ filled text.now numbers.now) room.new) }
+    ensures part { OnErr result (PutsPart S.written S.faults sink.old sink.new (room.old ++ filled text.now numbers.now)) }
 {
     let mut rest = text;
     for number in numbers {
         let (before, after) = split_at_hole(rest);
-        put_pieces(sink, &[Piece::Text(before), Piece::Number(*number)])?;
+        hold_pieces(sink, room, &[Piece::Text(before), Piece::Number(*number)])?;
         rest = after;
     }
-    put_text(sink, rest)
+    hold(sink, room, rest)
 }
 
 // What stands before the first `%d`, and what stands after it.

@@ -1,10 +1,10 @@
 // Texts in pieces, and the numbers in them. Numbers are printed on the stack.
-ghost use Rattle.std.specs.Prelude.{decimal, OnOk, OnErr};
-ghost use Rattle.lucid_log.specs.Pieces.{numbers_text, piece_text, text_of};
-ghost use Rattle.lucid_log.specs.Puts.{PutsAll, PutsPart};
+ghost use Rattle.std.specs.Prelude.{◌≡◌, ◌<◌, ◌++◌, decimal, OnOk, OnErr};
+ghost use Rattle.lucid_io.specs.Puts.{PutsAll, PutsPart, Leaves};
+ghost use Rattle.lucid_log.specs.Pieces.{numbers_text, hex_digit as digit_of, hex_text, piece_text, text_of};
 
 use itoa::Buffer;
-use lucid_io::{Sink, WriteFault, put_all};
+use lucid_io::{Room, Sink, WriteFault, hold, release};
 
 /// A piece of a text.
 #[derive(Clone, Copy, Debug)]
@@ -15,6 +15,8 @@ pub enum Piece<'a> {
     Number(u64),
     /// Numbers in decimal digits, with a comma between each two.
     Numbers(&'a [u64]),
+    /// The 16 hexadecimal digits of a number, in lower case.
+    Hex(u64),
 }
 
 /// Writes the pieces, one after another: all of their text (`text_of`), or a proper prefix of it where the sink's count of faults rose in this call.
@@ -22,49 +24,79 @@ pub fn put_pieces<S: Sink>(sink: &mut S, pieces: &[Piece]) -> Result<(), WriteFa
     ensures all { OnOk result (PutsAll S.written S.faults sink.old sink.new (text_of pieces.now)) }
     ensures part { OnErr result (PutsPart S.written S.faults sink.old sink.new (text_of pieces.now)) }
 {
+    let mut room = Room::new();
+    hold_pieces(sink, &mut room, pieces)?;
+    release(sink, &mut room)
+}
+
+// Lets the pieces wait in the room, or writes them on the way: of what waited and their text all was put but what waits then.
+pub(crate) fn hold_pieces<S: Sink>(
+    sink: &mut S,
+    room: &mut Room,
+    pieces: &[Piece],
+) -> Result<(), WriteFault>
+    ensures all { OnOk result (Leaves S.written S.faults sink.old sink.new (room.old ++ text_of pieces.now) room.new) }
+    ensures part { OnErr result (PutsPart S.written S.faults sink.old sink.new (room.old ++ text_of pieces.now)) }
+{
     for piece in pieces {
-        put_piece(sink, piece)?;
+        hold_piece(sink, room, piece)?;
     }
     Ok(())
 }
 
-fn put_piece<S: Sink>(sink: &mut S, piece: &Piece) -> Result<(), WriteFault>
-    ensures all { OnOk result (PutsAll S.written S.faults sink.old sink.new (piece_text piece.now)) }
-    ensures part { OnErr result (PutsPart S.written S.faults sink.old sink.new (piece_text piece.now)) }
+fn hold_piece<S: Sink>(sink: &mut S, room: &mut Room, piece: &Piece) -> Result<(), WriteFault>
+    ensures all { OnOk result (Leaves S.written S.faults sink.old sink.new (room.old ++ piece_text piece.now) room.new) }
+    ensures part { OnErr result (PutsPart S.written S.faults sink.old sink.new (room.old ++ piece_text piece.now)) }
 {
     match *piece {
-        Piece::Text(bytes) => put_text(sink, bytes),
-        Piece::Number(n) => put_number(sink, n),
-        Piece::Numbers(numbers) => put_numbers(sink, numbers),
+        Piece::Text(bytes) => hold(sink, room, bytes),
+        Piece::Number(n) => hold_number(sink, room, n),
+        Piece::Numbers(numbers) => hold_numbers(sink, room, numbers),
+        Piece::Hex(n) => hold(sink, room, &hex_digits(n)),
     }
 }
 
-pub(crate) fn put_text<S: Sink>(sink: &mut S, text: &[u8]) -> Result<(), WriteFault>
-    ensures all { OnOk result (PutsAll S.written S.faults sink.old sink.new text.now) }
-    ensures part { OnErr result (PutsPart S.written S.faults sink.old sink.new text.now) }
-{
-    put_all(sink, text)
-}
-
-fn put_number<S: Sink>(sink: &mut S, n: u64) -> Result<(), WriteFault>
-    ensures all { OnOk result (PutsAll S.written S.faults sink.old sink.new (decimal n)) }
-    ensures part { OnErr result (PutsPart S.written S.faults sink.old sink.new (decimal n)) }
+fn hold_number<S: Sink>(sink: &mut S, room: &mut Room, n: u64) -> Result<(), WriteFault>
+    ensures all { OnOk result (Leaves S.written S.faults sink.old sink.new (room.old ++ decimal n) room.new) }
+    ensures part { OnErr result (PutsPart S.written S.faults sink.old sink.new (room.old ++ decimal n)) }
 {
     let mut digits = Buffer::new();
-    put_text(sink, digits.format(n).as_bytes())
+    hold(sink, room, digits.format(n).as_bytes())
 }
 
-fn put_numbers<S: Sink>(sink: &mut S, numbers: &[u64]) -> Result<(), WriteFault>
-    ensures all { OnOk result (PutsAll S.written S.faults sink.old sink.new (numbers_text numbers.now)) }
-    ensures part { OnErr result (PutsPart S.written S.faults sink.old sink.new (numbers_text numbers.now)) }
+fn hold_numbers<S: Sink>(sink: &mut S, room: &mut Room, numbers: &[u64]) -> Result<(), WriteFault>
+    ensures all { OnOk result (Leaves S.written S.faults sink.old sink.new (room.old ++ numbers_text numbers.now) room.new) }
+    ensures part { OnErr result (PutsPart S.written S.faults sink.old sink.new (room.old ++ numbers_text numbers.now)) }
 {
     let [first, rest @ ..] = numbers else {
         return Ok(());
     };
-    put_number(sink, *first)?;
+    hold_number(sink, room, *first)?;
     for number in rest {
-        put_text(sink, b",")?;
-        put_number(sink, *number)?;
+        hold(sink, room, b",")?;
+        hold_number(sink, room, *number)?;
     }
     Ok(())
+}
+
+// The 16 hexadecimal digits.
+fn hex_digits(n: u64) -> [u8; 16]
+    ensures { result ≡ hex_text n }
+{
+    let mut digits = [0u8; 16];
+    for i in 0..16 {
+        digits[i] = hex_digit((n >> (60 - 4 * i)) % 16);
+    }
+    digits
+}
+
+fn hex_digit(digit: u64) -> u8
+    requires { digit < 16 }
+    ensures { result ≡ digit_of digit }
+{
+    if digit < 10 {
+        b'0' + digit as u8
+    } else {
+        b'a' - 10 + digit as u8
+    }
 }

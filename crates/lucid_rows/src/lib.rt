@@ -10,6 +10,8 @@ mod print;
 #[cfg(test)]
 mod small;
 #[cfg(test)]
+mod texts;
+#[cfg(test)]
 mod tokens;
 #[cfg(test)]
 mod trees;

@@ -2,7 +2,7 @@
 use Rattle.std.proofs.Common.{◌≡◌, ℕ, ◌<◌, ◌≤◌, Bool, List, Option, None, Some, IfSome, IsSome, Ok, Err, refl, sym, subst, length}
 use Rattle.std.specs.Prelude.{MatchBool}
 use Rattle.std.proofs.lemmas.Bool.{lt-ltb, le-ltb}
-use Rattle.lucid_log.specs.Puts.{PutsAll, PutsPart}
+use Rattle.lucid_io.specs.Puts.{PutsAll, PutsPart}
 use Rattle.lucid_top.specs.declared.once.TheConstants.{PROGRAM_BYTES}
 use Rattle.lucid_top.specs.declared.refusal.Refusal.TheVariants as refusal
 use Rattle.lucid_top.specs.Answer.{OnceAnswers, OverFile}

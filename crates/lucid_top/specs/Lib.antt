@@ -1,5 +1,4 @@
 pub mod Answer
-pub mod Cells
 pub mod Once
 pub mod Refused
 pub mod Said

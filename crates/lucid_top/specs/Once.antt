@@ -8,8 +8,8 @@ use Rattle.lucid_core.specs.Fits.{event_fits}
 use Rattle.lucid_core.specs.Parts.{Parts}
 use Rattle.lucid_core.specs.Step.{step}
 use Rattle.lucid_log.specs.Block.{block_text}
+use Rattle.lucid_log.specs.Cells.{cells_text}
 use Rattle.lucid_small.specs.Spelled.{core_of}
-use Rattle.lucid_top.specs.Cells.{cells_text}
 use Rattle.lucid_top.specs.Source.{Source, Tokens, NoTokenAt, IsSource}
 use Rattle.lucid_top.specs.declared.refusal.Refusal.{Refusal}
 use Rattle.lucid_top.specs.declared.refusal.Refusal.TheVariants as refusal
@@ -34,7 +34,7 @@ event_of core name args = event_at core args (last_of name 0 None core.events)
 
 -- the block of the event, and the cells after it
 abbrev pub shown : Parts → Event → List Out → List (List ℕ) → List ℕ
-shown core event outs cells = block_text core 0 0 event outs 0 ++ cells_text core cells
+shown core event outs cells = block_text core 0 0 event outs 0 ++ cells_text 0 core.arrays cells
 
 abbrev pub ran : Parts → Option Event → Outcome
 ran core None = Err refusal.Usage

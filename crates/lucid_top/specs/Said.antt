@@ -1,7 +1,7 @@
 -- What a call left in a sink of a text that it put there.
 use Rattle.std.specs.Prelude.{ℕ, ◌⊎◌, List, Option, Ok, Err}
 use Rattle.std.specs.Io.KnownBytes.{Appends}
-use Rattle.lucid_log.specs.Puts.{PutsAll, PutsPart}
+use Rattle.lucid_io.specs.Puts.{PutsAll, PutsPart}
 use Rattle.lucid_top.specs.Once.{Outcome}
 
 -- all of it, or, where the count of faults rose, a proper prefix
