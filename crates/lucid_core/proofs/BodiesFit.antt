@@ -26,7 +26,7 @@ use Rattle.lucid_core.specs.Parts.{Parts}
 use Rattle.lucid_core.specs.Returns as r
 use Rattle.lucid_core.specs.Returns.{Returns, expr_returns, stmt_returns, touch_returns, body_returns}
 use Rattle.lucid_core.specs.Scope.{Scope, fun_scope, handler_scope, funs_pass}
-use Rattle.lucid_core.specs.Step.{Entry, Steps, handled, ran, started, step, taken_at}
+use Rattle.lucid_core.specs.Step.{Entry, Steps, one_more, handled, ran, started, step, taken_at}
 use Rattle.lucid_core.specs.Texts as x
 use Rattle.lucid_core.specs.Texts.{Printed, body_fills_texts}
 use Rattle.lucid_core.specs.Typing as t
@@ -34,10 +34,10 @@ use Rattle.lucid_core.specs.Typing.{Answer, Typed, answer_of, returns_of, touch_
 use Rattle.lucid_core.specs.Valid.{IsSound}
 use Rattle.lucid_core.specs.Values.{nothing}
 use Rattle.lucid_core.proofs.Arrays.{nothing_there, zero_cells-fit}
-use Rattle.lucid_core.proofs.Entries.{one_more_step, steps_from}
+use Rattle.lucid_core.proofs.Entries.{steps_from}
 use Rattle.lucid_core.proofs.Fine.{Asked, IsFine, FunFits, Stands, answer_given, goes_out, once}
 use Rattle.lucid_core.proofs.Funs.{funs_from}
-use Rattle.lucid_core.proofs.Pairwise.{Pairwise, one_more}
+use Rattle.lucid_core.proofs.Pairwise.{Pairwise, one_more as both_more}
 use Rattle.lucid_core.proofs.Prints.{body_prints, prints_step, expr_prints, stmt_prints, touch_prints}
 use Rattle.lucid_core.proofs.SentCount.{handler_keeps}
 use Rattle.lucid_core.proofs.SentFit.{BodyFits, E, S, T, ExprFits, StmtFits, expr_tree, touch_tree, stmt_tree, stmts, block_fits, expr_level, touch_level, stmt_level}
@@ -148,7 +148,7 @@ funs_fit asked parts few now me before known (f ∷ fs) pairs widths texts limit
     let limit = and_parts _ _ limits in
     let return = and_parts _ _ returns in
     let one = fun_fits asked parts few now me before known f pairs (record { widths = width.0; texts = text.0; limits = limit.0; returns = return.0 }) in
-    let more = one_more (FunFits asked parts) before known f (fun_of now me known f) pairs one in
+    let more = both_more (FunFits asked parts) before known f (fun_of now me known f) pairs one in
     let all = funs_fit asked parts few now me (before ++ f ∷ []) (known ++ fun_of now me known f ∷ []) fs more width.1 text.1 limit.1 return.1 in
     subst (λ (q : List FunDef). Pairwise (FunFits asked parts) q (funs_from now me (known ++ fun_of now me known f ∷ []) fs)) (append_assoc before (f ∷ []) fs) all
 
@@ -220,7 +220,7 @@ step_fits parts sound cells now me event fit = (ends parts sound cells now me ev
 
 steps_fit : (parts : Parts) → IsSound parts → (entries : List Entry) (so_far : Steps) → cells_fit parts so_far.cells ≡ true → cells_fit parts (steps_from parts so_far entries).cells ≡ true
 steps_fit parts sound [] so_far fit = fit
-steps_fit parts sound (e ∷ es) so_far fit = steps_fit parts sound es (one_more_step parts so_far e) (step_fits parts sound so_far.cells e.now e.me e.event fit)
+steps_fit parts sound (e ∷ es) so_far fit = steps_fit parts sound es (one_more parts so_far e) (step_fits parts sound so_far.cells e.now e.me e.event fit)
 
 -- Cells that fit stay so at each step, and so after any list of events from cells that are all 0.
 pub cells_stay_fit : (parts : Parts) → IsSound parts → CellsStayFit parts

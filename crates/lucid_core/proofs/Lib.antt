@@ -2,12 +2,12 @@ pub mod Arrays
 pub mod BodiesFit
 pub mod CellsLemmas
 pub mod Entries
-pub mod ExampleProofs
 pub mod Fine
 pub mod Folds
 pub mod Funs
 pub mod Grown
 pub mod Handled
+pub mod Handlers
 pub mod MeaningLemmas
 pub mod Pairwise
 pub mod Prints
@@ -15,7 +15,6 @@ pub mod Seen
 pub mod SentCount
 pub mod SentFit
 pub mod Static
-pub mod StepProofs
 pub mod TypingRules
 pub mod WidthLists
 pub mod WidthRead

@@ -12,7 +12,7 @@ use Rattle.lucid_core.specs.Meaning.{fun_of, funs_of, value_of}
 use Rattle.lucid_core.specs.Parts.{Parts}
 use Rattle.lucid_core.specs.Returns.{expr_returns}
 use Rattle.lucid_core.specs.Scope.{Scope, fun_scope, handler_scope}
-use Rattle.lucid_core.specs.Step.{Entry, after, outs, step, steps}
+use Rattle.lucid_core.specs.Step.{Entry, after, handler_of, outs, step, steps}
 use Rattle.lucid_core.specs.Typing.{answer_of}
 
 -- What an event's handler sends out fits the program, and is at most 8 outs, of at most 8 numbers each; also where the event doesn't fit.
@@ -46,3 +46,9 @@ pub record WidthsAreStatic (parts : Parts) : Type 0 where
   pub funs : (k : ℕ) (f : FunDef) → slice_get parts.funs k ≡ Some f → (now me : ℕ) (arrays : List ℕ) →
       GivesItsWidth (fun_scope parts (take k parts.funs) f) (record { now = now; me = me; arrays = arrays; funs = funs_of now me (take k parts.funs) })
   pub answers : (k : ℕ) (f : FunDef) → slice_get parts.funs k ≡ Some f → (now me : ℕ) → AnswersItsWidth f (fun_of now me (funs_of now me (take k parts.funs)) f)
+
+-- An event has one handler: each handler is that of its event, no two are of one event, and what is an event's handler is one of it.
+pub record OneHandler (parts : Parts) : Type 0 where
+  pub own : (k : ℕ) (h : HandlerDef) → slice_get parts.handlers k ≡ Some h → handler_of parts h.event ≡ Some h
+  pub one : (j k : ℕ) (g h : HandlerDef) → slice_get parts.handlers j ≡ Some g → slice_get parts.handlers k ≡ Some h → g.event ≡ h.event → j ≡ k
+  pub its_event : (id : ℕ) (h : HandlerDef) → handler_of parts id ≡ Some h → h.event ≡ id

@@ -5,6 +5,7 @@ pub mod Events
 pub mod ExamplePrograms
 pub mod Fits
 pub mod Laws
+pub mod Length
 pub mod Limits
 pub mod Meaning
 pub mod Names
@@ -16,7 +17,6 @@ pub mod Returns
 pub mod Running
 pub mod Scope
 pub mod Step
-pub mod StepExamples
 pub mod Syntax
 pub mod Texts
 pub mod Typing

@@ -1,5 +1,7 @@
--- What expressions and statements mean: each is an act, by recursion on the tree.
-use Rattle.std.specs.Prelude.{ℕ, List, [], ◌∷◌, ◌++◌, Option, None, Some, if◌then◌else◌, nat_eq, map, fold, slice_get, slice_index_or, slice_set}
+-- What expressions and statements mean: each is an act, by recursion on the tree. A return sets the answer and ends nothing by itself:
+-- in a valid program nothing of the body stands behind it.
+use Rattle.std.specs.Prelude.{ℕ, List, [], ◌∷◌, ◌++◌, Option, None, Some, if◌then◌else◌}
+use Rattle.std.specs.Prelude.{nat_eq, map, fold, slice_get, slice_index_or, slice_set}
 use Rattle.std.specs.Option.{option_map_or}
 use Rattle.lucid_base.specs.Bits.{bits_of}
 use Rattle.lucid_base.specs.declared.bits.Bits.{Bits}
@@ -66,7 +68,8 @@ stmt_step (Stmt-F.Drop x) = do _ ← x; give tt
 stmt_step (Stmt-F.If x ss ts) = do v ← x; block (if nat_eq v.value 0 then ts else ss)
 stmt_step (Stmt-F.Gen event xs delay to delay_first) =
     do vs ← all xs; given ← both delay_first (delay_of delay) (target_of to); send (generated event vs given.0 given.1 ∷ [])
-stmt_step (Stmt-F.Multi event xs delay members) = do vs ← all xs; ticks ← delay_of delay; send (map (generated event vs ticks) (map At members))
+stmt_step (Stmt-F.Multi event xs delay members) =
+    do vs ← all xs; ticks ← delay_of delay; send (map (generated event vs ticks) (map At members))
 stmt_step (Stmt-F.Say form xs) = do vs ← all xs; send (out.Say form (numbers vs) ∷ [])
 stmt_step (Stmt-F.Return None) = give tt
 stmt_step (Stmt-F.Return (Some x)) = do v ← x; change (λ s. record s { answer = v })

@@ -56,10 +56,14 @@ pub record Steps : Type 0 where
   pub cells : List (List ℕ)
   pub outs : List (List Out)
 
+-- One event more.
+abbrev pub one_more : Parts → Steps → Entry → Steps
+one_more parts so_far e = let next = step parts so_far.cells e.now e.me e.event in
+    record { cells = next.cells; outs = so_far.outs ++ next.outs ∷ [] }
+
 -- One after another, from cells that are all 0.
 abbrev pub steps : Parts → List Entry → Steps
-steps parts entries = fold (λ so_far e. let next = step parts so_far.cells e.now e.me e.event in record { cells = next.cells; outs = so_far.outs ++ next.outs ∷ [] })
-    (record { cells = zero_cells parts.arrays; outs = [] }) entries
+steps parts entries = fold (one_more parts) (record { cells = zero_cells parts.arrays; outs = [] }) entries
 
 -- The cells after the first n events.
 abbrev pub after : Parts → List Entry → ℕ → List (List ℕ)

@@ -30,7 +30,8 @@ pub enum Stmt {
         form: u32,
         args: Items<Expr>,
     },
-    /// Ends the body, with a value or without.
+    /// What the body answers: a value, or nothing. It ends nothing by itself: in a valid program it stands last in its block, and so does an `If`
+    /// that returns on some path, so nothing of the body is left to run behind it.
     Return(Option<Expr>),
 }
 

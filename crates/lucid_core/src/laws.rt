@@ -1,5 +1,5 @@
 // Laws of the meaning that more than one crate stands on, each on a function that does nothing. They hold of all cells, ticks, switches and events.
-ghost use Rattle.lucid_core.specs.Laws.{CellsStayFit, OutsAreOfSteps, OutsFit, WidthsAreStatic};
+ghost use Rattle.lucid_core.specs.Laws.{CellsStayFit, OneHandler, OutsAreOfSteps, OutsFit, WidthsAreStatic};
 
 use crate::{Core, Flat};
 
@@ -48,6 +48,20 @@ pub fn widths_are_static(core: &Core)
 /// The same of a flat core, whose handlers hold all bodies.
 pub fn flat_widths_are_static(flat: &Flat)
     ensures { WidthsAreStatic flat.now }
+{
+    let _valid = flat.arrays();
+}
+
+/// An event has one handler, and a handler is that of its event.
+pub fn one_handler(core: &Core)
+    ensures { OneHandler core.now }
+{
+    let _valid = core.arrays();
+}
+
+/// The same of a flat core.
+pub fn flat_one_handler(flat: &Flat)
+    ensures { OneHandler flat.now }
 {
     let _valid = flat.arrays();
 }

@@ -9,7 +9,6 @@ mod body;
 mod cells;
 mod defs;
 mod draft;
-mod examples;
 mod fits;
 mod interpret;
 mod laws;
@@ -17,8 +16,6 @@ mod operate;
 mod place;
 mod program;
 mod run;
-#[cfg(test)]
-mod tests;
 mod whole;
 mod widths;
 
@@ -26,8 +23,8 @@ pub use body::{Expr, Stmt, Touch};
 pub use cells::Cells;
 pub use defs::{EventDef, FunDef, HandlerDef, MemopDef};
 pub use laws::{
-    cells_stay_fit, flat_cells_stay_fit, flat_outs_fit, flat_widths_are_static, outs_are_of_steps,
-    outs_fit, widths_are_static,
+    cells_stay_fit, flat_cells_stay_fit, flat_one_handler, flat_outs_fit, flat_widths_are_static,
+    one_handler, outs_are_of_steps, outs_fit, widths_are_static,
 };
 pub use program::{Core, Flat};
 pub use whole::run_whole;

@@ -1,8 +1,9 @@
 -- The small program is a valid core, and each rule refuses what breaks it.
 use Rattle.std.proofs.Common.{◌≡◌, [], ◌∷◌, ◌&&◌, true, refl, ap}
 use Rattle.lucid_core.specs.Uses.{body_uses, all_keep_to_themselves}
-use Rattle.lucid_core.specs.ExamplePrograms.{small, flat, bump_put_in, named_outside, reads_another, drop_value, RulesRefuse}
-use Rattle.lucid_core.specs.StepExamples.{look, say_bump, say_unless_small, say_hash, counting, group, worked}
+use Rattle.lucid_core.specs.ExamplePrograms.{small, flat, bump_put_in, drop_value}
+use Rattle.lucid_examples.specs.Refused.{named_outside, reads_another, RulesRefuse}
+use Rattle.lucid_examples.specs.StepExamples.{look, say_bump, say_unless_small, say_hash, counting, group, worked}
 use Rattle.lucid_core.specs.Valid.{IsValid, IsValidFlat}
 use Rattle.lucid_core.proofs.Folds.{folds}
 

@@ -15,7 +15,7 @@ use Rattle.lucid_core.specs.ExamplePrograms.{local, say, return, plus, update, b
 use Rattle.lucid_core.proofs.Folds.{folds}
 use Rattle.lucid_base.specs.Cells.{zero_cells}
 use Rattle.lucid_core.specs.Meaning.{effect_of, value_of, touch_of, expr_step, stmt_step, touch_step}
-use Rattle.lucid_core.specs.StepExamples.{StepExamples, look, say_bump, say_unless_small, say_hash, counting, group, start, two_events, worked}
+use Rattle.lucid_examples.specs.StepExamples.{StepExamples, look, say_bump, say_unless_small, say_hash, counting, group, start, two_events, worked}
 use Rattle.lucid_core.specs.Step.{Entry, Stepped, Steps, started, taken_at}
 
 -- What a part of a body does, by what its parts do.

@@ -1,7 +1,8 @@
 // Examples of valid programs, and of what each rule refuses: computed from the definitions, so nothing runs.
 ghost use Rattle.std.specs.Prelude.{[], ◌∷◌};
-ghost use Rattle.lucid_core.specs.ExamplePrograms.{small, flat, bump_put_in, drop_value, RulesRefuse};
-ghost use Rattle.lucid_core.specs.StepExamples.{worked, StepExamples};
+ghost use Rattle.lucid_core.specs.ExamplePrograms.{small, flat, bump_put_in, drop_value};
+ghost use Rattle.lucid_examples.specs.Refused.{RulesRefuse};
+ghost use Rattle.lucid_examples.specs.StepExamples.{worked, StepExamples};
 ghost use Rattle.lucid_core.specs.Valid.{IsValid, IsValidFlat};
 
 fn a_program_and_a_flat_program_are_valid()

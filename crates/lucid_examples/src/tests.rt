@@ -2,22 +2,12 @@
 mod worked;
 
 use self::worked::worked;
-use crate::{Cells, Core, run_whole};
 use lucid_base::{Args, Event, Memory, Out, Target};
+use lucid_core::{Cells, run_whole};
 use std::alloc::Global;
 use std::test::Fail;
 
-/// Four cells of the first array, and one of the second.
-fn start(alloc: Global, core: &Core) -> Result<Cells, Memory> {
-    let mut cells = Cells::new(alloc, core)?;
-    cells.set(0, 0, 10);
-    cells.set(0, 1, 20);
-    cells.set(0, 2, 30);
-    cells.set(0, 3, 40);
-    cells.set(1, 1, 60);
-    Ok(cells)
-}
-
+/// The cells of the first array, and one of the second.
 fn seen(cells: &Cells) -> [u64; 5] {
     [
         cells.get(0, 0),
@@ -53,10 +43,10 @@ fn sent(i: u64, delay: u64, to: u64) -> Out {
     }
 }
 
-/// Whether event `id` of argument `i` leaves these cells and sends these outs, at tick 7 on switch 3.
+/// Whether event `id` of argument `i` leaves these cells and sends these outs, at tick 7 on switch 3, where all cells are 0.
 fn gives(alloc: Global, id: u32, i: u64, after: [u64; 5], outs: &[Out]) -> Result<bool, Memory> {
     let core = worked(alloc)?;
-    let mut cells = start(alloc, &core)?;
+    let mut cells = Cells::new(alloc, &core)?;
     let event = Event { id, args: args(i) };
     if !core.fits(&event) {
         return Ok(false);
@@ -68,22 +58,22 @@ fn gives(alloc: Global, id: u32, i: u64, after: [u64; 5], outs: &[Out]) -> Resul
 #[test]
 fn memops_see_the_old_number_of_a_cell_modulo_the_size(rt: HostRuntime) -> Result<(), Fail> {
     let alloc = rt.alloc();
-    assert!(rt; gives(alloc, 0, 5, [10, 22, 30, 40, 60], &[said(120), said(121)])?);
-    assert!(rt; gives(alloc, 0, 2, [10, 20, 32, 40, 60], &[said(130), said(131)])?);
+    assert!(rt; gives(alloc, 0, 5, [0, 2, 0, 0, 0], &[said(100), said(101)])?);
+    assert!(rt; gives(alloc, 0, 2, [0, 0, 2, 0, 0], &[said(100), said(101)])?);
     Ok(())
 }
 
 #[test]
 fn a_function_is_given_two_arrays(rt: HostRuntime) -> Result<(), Fail> {
     let alloc = rt.alloc();
-    assert!(rt; gives(alloc, 1, 1, [10, 21, 30, 40, 61], &[said(21), said(61)])?);
+    assert!(rt; gives(alloc, 1, 1, [0, 1, 0, 0, 1], &[said(1), said(1)])?);
     Ok(())
 }
 
 #[test]
 fn a_hash_is_of_its_seed_and_its_word(rt: HostRuntime) -> Result<(), Fail> {
     let alloc = rt.alloc();
-    assert!(rt; gives(alloc, 7, 5, [10, 20, 30, 40, 60], &[said(1584172615)])?);
+    assert!(rt; gives(alloc, 7, 5, [0, 0, 0, 0, 0], &[said(1584172615)])?);
     Ok(())
 }
 
@@ -92,24 +82,24 @@ fn one_branch_returns_and_an_event_without_a_handler_does_nothing(
     rt: HostRuntime,
 ) -> Result<(), Fail> {
     let alloc = rt.alloc();
-    assert!(rt; gives(alloc, 2, 0, [10, 20, 30, 40, 60], &[])?);
-    assert!(rt; gives(alloc, 2, 9, [10, 20, 30, 40, 60], &[said(9)])?);
-    assert!(rt; gives(alloc, 6, 1, [10, 20, 30, 40, 60], &[])?);
+    assert!(rt; gives(alloc, 2, 0, [0, 0, 0, 0, 0], &[])?);
+    assert!(rt; gives(alloc, 2, 9, [0, 0, 0, 0, 0], &[said(9)])?);
+    assert!(rt; gives(alloc, 6, 1, [0, 0, 0, 0, 0], &[])?);
     Ok(())
 }
 
 #[test]
 fn delays_and_targets_are_evaluated_in_order_and_once(rt: HostRuntime) -> Result<(), Fail> {
     let alloc = rt.alloc();
-    assert!(rt; gives(alloc, 3, 0, [12, 20, 30, 40, 60], &[sent(0, 11, 12)])?);
-    assert!(rt; gives(alloc, 4, 0, [12, 20, 30, 40, 60], &[sent(0, 12, 11)])?);
+    assert!(rt; gives(alloc, 3, 0, [2, 0, 0, 0, 0], &[sent(0, 1, 2)])?);
+    assert!(rt; gives(alloc, 4, 0, [2, 0, 0, 0, 0], &[sent(0, 2, 1)])?);
     assert!(rt;
         gives(
             alloc,
             5,
             3,
-            [10, 20, 30, 41, 60],
-            &[sent(3, 41, 4), sent(3, 41, 2)]
+            [0, 0, 0, 1, 0],
+            &[sent(3, 1, 4), sent(3, 1, 2)]
         )?
     );
     Ok(())

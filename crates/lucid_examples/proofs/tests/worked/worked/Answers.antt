@@ -1,6 +1,6 @@
 use Rattle.std.proofs.Common.{refl, ◌∙◌}
-use Rattle.lucid_core.proofs.ExampleProofs.{worked_is_valid}
-use Rattle.lucid_core.proofs.tests.worked.worked.Goals as goal
+use Rattle.lucid_examples.proofs.ExampleProofs.{worked_is_valid}
+use Rattle.lucid_examples.proofs.tests.worked.worked.Goals as goal
 
 pub new-requires : goal.new-requires
 new-requires c =

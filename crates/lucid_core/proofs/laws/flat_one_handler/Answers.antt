@@ -1,0 +1,5 @@
+use Rattle.lucid_core.proofs.Handlers as handlers
+use Rattle.lucid_core.proofs.laws.flat_one_handler.Goals as goal
+
+pub returns : goal.returns
+returns c = handlers.one_handler c.args.flat.now c.arrays-valid.ensures.valid.sound

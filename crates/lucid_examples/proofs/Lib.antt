@@ -1,0 +1,2 @@
+pub mod ExampleProofs
+pub mod StepProofs
