@@ -2,7 +2,7 @@
 use Rattle.std.proofs.Common.{◌≡◌, ℕ, ◌+◌, Bool, ◌&&◌, nat_le, if◌then◌else◌, List, ◌∷◌, map, codes, Option, sym, ap, ◌∙◌}
 use Rattle.lucid_lex.specs.declared.sign.Sign.TheVariants as signs
 use Rattle.lucid_lex.specs.declared.word.Word.TheVariants as words
-use Rattle.lucid_parse.specs.declared.lexeme.Lexeme.TheVariants as lexemes
+use Rattle.lucid_parse.specs.Lexemes as lexemes
 use Rattle.lucid_tree.specs.declared.tree.E.{E, fold-roll-E}
 use Rattle.lucid_tree.specs.declared.tree.E.TheVariants as e
 use Rattle.lucid_tree.specs.declared.tree.A.{A, fold-roll-A}
@@ -12,7 +12,7 @@ use Rattle.lucid_tree.specs.declared.tree.Pre.{Pre}
 use Rattle.lucid_tree.specs.declared.tree.Infix.{Infix}
 use Rattle.lucid_parse.specs.Operators.{pre_sign, infix_sign, level, left_level}
 use Rattle.lucid_parse.specs.Spelling as spell
-use Rattle.lucid_parse.specs.Spelling.{Text, Spelled, spelled, array_spelled, spelled_A, spelled_E, level_of, array_level, level_A, level_E, level_if, some_bind, all_bind}
+use Rattle.lucid_parse.specs.Spelling.{Text, Spelled, spelled, array_spelled, spelled_A, spelled_E, level_of, array_level, level_A, level_E, level_if, is_some, all_bind}
 
 pub spelled-Number : (n : ℕ) (r : Text) → spelled (e.Number n) r ≡ lexemes.Number n ∷ r
 spelled-Number n r = ap (λ z. spelled z r) (sym (e.rolls-Number n)) ∙ ap (λ f. f r) (fold-roll-E Spelled Spelled spelled_A spelled_E (E-F.Number n))
@@ -41,7 +41,7 @@ level_of-Time = ap level_of (sym e.rolls-Time) ∙ fold-roll-E ℕ ℕ level_A l
 pub spelled-Hash : (w : ℕ) (xs : List E) (r : Text) → spelled (e.Hash w xs) r ≡ spell.word words.Hash (spell.width w (spell.in_parens (spell.with_commas (map spelled xs)) r))
 spelled-Hash w xs r = ap (λ z. spelled z r) (sym (e.rolls-Hash w xs)) ∙ ap (λ f. f r) (fold-roll-E Spelled Spelled spelled_A spelled_E (E-F.Hash w xs))
 
-pub level_of-Hash : (w : ℕ) (xs : List E) → level_of (e.Hash w xs) ≡ level_if (some_bind (map level_of xs)) 9
+pub level_of-Hash : (w : ℕ) (xs : List E) → level_of (e.Hash w xs) ≡ level_if (is_some (map level_of xs) && all_bind (map level_of xs)) 9
 level_of-Hash w xs = ap level_of (sym (e.rolls-Hash w xs)) ∙ fold-roll-E ℕ ℕ level_A level_E (E-F.Hash w xs)
 
 pub spelled-Name : (n : List ℕ) (r : Text) → spelled (e.Name n) r ≡ spell.name n r

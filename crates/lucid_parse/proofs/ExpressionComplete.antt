@@ -1,15 +1,14 @@
 -- What is spelled as an expression is read as that expression.
-use Rattle.std.proofs.Common.{◌≡◌, ℕ, zero, suc, ◌+◌, ◌<◌, ◌≤◌, Bool, true, false, ◌&&◌, nat_le, if◌then◌else◌, List, [], ◌∷◌, length, map, codes, Option, Some, None, refl, sym, ap, ◌∙◌, arith}
+use Rattle.std.proofs.Common.{◌≡◌, ℕ, zero, suc, ◌+◌, ◌<◌, ◌≤◌, Bool, true, false, ◌&&◌, nat_le, if◌then◌else◌, List, [], ◌∷◌, length, map, Option, Some, None, refl, sym, ap, ◌∙◌, arith}
 use Rattle.std.proofs.lemmas.Bool.{leb-true, le-leb}
 use Rattle.std.proofs.lemmas.List.Folds.{list_all-map}
 use Rattle.lucid_lex.specs.declared.sign.Sign.TheVariants as signs
 use Rattle.lucid_lex.specs.declared.word.Word.TheVariants as words
-use Rattle.lucid_parse.specs.declared.lexeme.Lexeme.{Lexeme}
-use Rattle.lucid_parse.specs.declared.lexeme.Lexeme.TheVariants as lexemes
+use Rattle.lucid_parse.specs.Lexemes.{Lexeme}
+use Rattle.lucid_parse.specs.Lexemes as lexemes
 use Rattle.lucid_tree.specs.declared.tree.E.{E}
 use Rattle.lucid_tree.specs.declared.tree.E.TheVariants as e
 use Rattle.lucid_tree.specs.declared.tree.A.{A}
-use Rattle.lucid_tree.specs.declared.tree.A.TheVariants as a
 use Rattle.lucid_tree.specs.declared.tree.Pre.{Pre}
 use Rattle.lucid_tree.specs.declared.tree.Pre.TheVariants as pres
 use Rattle.lucid_tree.specs.declared.tree.Infix.{Infix}
@@ -22,8 +21,11 @@ use Rattle.lucid_parse.specs.Reader.{Text, Outcome, Parser, ◌>>=◌}
 use Rattle.lucid_parse.specs.ReadExpression as read_e
 use Rattle.lucid_parse.specs.ReadStatement as read_s
 use Rattle.lucid_parse.specs.Spelling as spell
-use Rattle.lucid_parse.specs.Spelling.{spelled, array_spelled, level_of, array_level, level_if, all_bind, some_bind, is_built, all_built}
-use Rattle.lucid_parse.proofs.Equations.{spelled-Number, spelled-Truth, spelled-Me, spelled-Time, spelled-Hash, spelled-Name, spelled-Call, spelled-Array, spelled-Paren, spelled-Prefix, spelled-Cast, spelled-Shift, spelled-Infix, array_spelled-Get, array_spelled-Set, array_spelled-Getm, array_spelled-Setm, array_spelled-Update, level_of-Number, level_of-Truth, level_of-Me, level_of-Time, level_of-Hash, level_of-Name, level_of-Call, level_of-Array, level_of-Paren, level_of-Prefix, level_of-Cast, level_of-Shift, level_of-Infix, array_level-Get, array_level-Set, array_level-Getm, array_level-Setm, array_level-Update}
+use Rattle.lucid_parse.specs.Spelling.{spelled, array_spelled, level_of, array_level, level_if, all_bind, is_some, is_built, all_built}
+use Rattle.lucid_parse.proofs.Equations.{spelled-Number, spelled-Truth, spelled-Me, spelled-Time, spelled-Hash, spelled-Name, spelled-Call, spelled-Array, spelled-Paren, spelled-Prefix, spelled-Cast, spelled-Shift, spelled-Infix, level_of-Number, level_of-Truth, level_of-Me, level_of-Time, level_of-Hash, level_of-Name, level_of-Call, level_of-Array, level_of-Paren, level_of-Prefix, level_of-Cast, level_of-Shift, level_of-Infix}
+use Rattle.lucid_parse.specs.declared.array.Method.{Method}
+use Rattle.lucid_parse.specs.declared.array.Method.TheVariants as methods
+use Rattle.lucid_parse.proofs.Calls.{IsCall, method_text, level_needs, get_call, set_call, getm_call, setm_call, update_call}
 use Rattle.lucid_parse.proofs.Steps.{both, of_both, width_again, width_if_again}
 use Rattle.lucid_parse.proofs.Repeats.{ItemsOf, separated_again}
 use Rattle.lucid_parse.proofs.Growth.{grows, width_if_grow}
@@ -154,11 +156,6 @@ climb_stops inner least (suc n) tight left r h = ap (read_e.climb_on inner (read
 tail_same : {l : Lexeme} {ts us : Text} → (l ∷ ts) ≡ (l ∷ us) → ts ≡ us
 tail_same h = cc
 
--- what a level says of the operands
-level_needs : (b : Bool) (l : ℕ) → nat_le 1 (level_if b l) ≡ true → b ≡ true
-level_needs true l h = refl
-level_needs false l h = absurd cc
-
 from_nine : (l : ℕ) → nat_le 9 l ≡ true → nat_le 1 l ≡ true
 from_nine l h = let above = true_le 9 l h in le_true 1 l (omega arith)
 
@@ -229,7 +226,7 @@ module _ (d : ℕ) (inner : ℕ → Parser E) (again : Again d inner) (begins : 
   parens_again (lexemes.Word words.Int ∷ q) r x h = let none = begins.int q in absurd cc
   parens_again ts r x h = rw h refl
 
-  prefix_operand : (op : Pre) (ts : Text) → read_e.operand inner (spell.sign (pre_sign op) ts) ≡ read_e.prefixed inner op ts
+  prefix_operand : (op : Pre) (ts : Text) → read_e.operand inner (spell.sign (pre_sign op) ts) ≡ read_e.prefixed inner ts (Some op)
   unfolding read_e.operand
   prefix_operand pres.Minus ts = refl
   prefix_operand pres.Tilde ts = refl
@@ -247,17 +244,17 @@ module _ (d : ℕ) (inner : ℕ → Parser E) (again : Again d inner) (begins : 
       let less : length (spell.with_commas (map spelled xs) (spell.sign signs.CloseParen r)) ≤ d = omega (arith, rw (spelled-Call n xs r) at few) in
       (rw (spelled-Call n xs r, arguments_again xs r all less) refl, level_of-Call n xs ∙ ap (λ b. level_if b 9) needs)
 
-  hash_items : (w : ℕ) (xs : List E) (r : Text) → some_bind (map level_of xs) ≡ true → length (spell.with_commas (map spelled xs) (spell.sign signs.CloseParen r)) ≤ d → read_e.hash inner (spell.width w (spell.in_parens (spell.with_commas (map spelled xs)) r)) ≡ Some (e.Hash w xs, r)
-  unfolding read_e.hash
+  hash_items : (w : ℕ) (xs : List E) (r : Text) → is_some (map level_of xs) && all_bind (map level_of xs) ≡ true → length (spell.with_commas (map spelled xs) (spell.sign signs.CloseParen r)) ≤ d → read_e.hash inner (spell.width w (spell.in_parens (spell.with_commas (map spelled xs)) r)) ≡ Some (e.Hash w xs, r)
+  unfolding read_e.hash_head
   hash_items w [] r built few = absurd cc
   hash_items w (x ∷ xs) r built few =
       let all : all_built (x ∷ xs) ≡ true = sym (list_all-map (λ l. nat_le 1 l) level_of (x ∷ xs)) ∙ built in
-      rw (width_again w (spell.in_parens (spell.with_commas (map spelled (x ∷ xs))) r), expressions_again x xs r all few) refl
+      rw (width_again w (spell.in_parens (spell.with_commas (map spelled (x ∷ xs))) r), arguments_again (x ∷ xs) r all few) refl
 
   hash_again : (w : ℕ) (xs : List E) → OperandAgain d inner (e.Hash w xs)
   unfolding read_e.operand
   hash_again w xs r shut built few =
-      let needs = level_needs (some_bind (map level_of xs)) 9 (rw (level_of-Hash w xs) at built) in
+      let needs = level_needs (is_some (map level_of xs) && all_bind (map level_of xs)) 9 (rw (level_of-Hash w xs) at built) in
       let less : length (spell.with_commas (map spelled xs) (spell.sign signs.CloseParen r)) ≤ d = omega (arith, rw (spelled-Hash w xs r) at few) in
       (rw (spelled-Hash w xs r) (hash_items w xs r needs less), level_of-Hash w xs ∙ ap (λ b. level_if b 9) needs)
 
@@ -278,7 +275,6 @@ module _ (d : ℕ) (inner : ℕ → Parser E) (again : Again d inner) (begins : 
       (rw (spelled-Paren x r) (parens_again (spelled x (spell.sign signs.CloseParen r)) r x (again 1 x (spell.sign signs.CloseParen r) needs needs (stops_close r) less)), level_of-Paren x ∙ ap (λ b. level_if b 9) needs)
 
   prefix_again : (op : Pre) (x : E) → OperandAgain d inner (e.Prefix op x)
-  unfolding read_e.prefixed
   prefix_again op x r shut built few =
       let needs = level_needs (nat_le 9 (level_of x)) 9 (rw (level_of-Prefix op x) at built) in
       let less : length (spelled x r) ≤ d = omega (arith, rw (spelled-Prefix op x r) at few) in
@@ -294,92 +290,25 @@ module _ (d : ℕ) (inner : ℕ → Parser E) (again : Again d inner) (begins : 
 
   -- ---- calls of arrays
 
-  get_again : (n : List ℕ) (i : E) (r : Text) → nat_le 1 (array_level (a.Get n i)) ≡ true → length (array_spelled (a.Get n i) r) ≤ suc d → CallAgain d inner (a.Get n i) r
-  unfolding read_e.array_call read_e.array_method read_e.array_rest
-  get_again n i r built few =
-      let needs = level_needs (nat_le 1 (level_of i)) 9 (rw (array_level-Get n i) at built) in
-      let end = spell.sign signs.CloseParen r in
-      let less : length (spelled i end) ≤ d = omega (arith, rw (array_spelled-Get n i r) at few) in
-      record {
-        behind = spell.sign signs.Dot (spell.name (codes "get") (spell.sign signs.OpenParen (spell.name n (spell.sign signs.Comma (spelled i end)))));
-        written = array_spelled-Get n i r;
-        reads = rw (again 1 i end needs needs (stops_close r) less) refl;
-        level = array_level-Get n i ∙ ap (λ b. level_if b 9) needs;
-      }
+  method_again : (m : Method) (ts : Text) → read_e.array_method (spell.sign signs.Dot (spell.name (method_text m) (spell.sign signs.OpenParen ts))) ≡ Some (m, ts)
+  unfolding read_e.array_method
+  method_again methods.Get ts = refl
+  method_again methods.Set ts = refl
+  method_again methods.Getm ts = refl
+  method_again methods.Setm ts = refl
+  method_again methods.Update ts = refl
 
-  set_again : (n : List ℕ) (i x : E) (r : Text) → nat_le 1 (array_level (a.Set n i x)) ≡ true → length (array_spelled (a.Set n i x) r) ≤ suc d → CallAgain d inner (a.Set n i x) r
-  unfolding read_e.array_call read_e.array_method read_e.array_rest
-  set_again n i x r built few =
-      let needs = level_needs (nat_le 1 (level_of i) && nat_le 1 (level_of x)) 9 (rw (array_level-Set n i x) at built) in
-      let hs = both _ _ needs in
-      let end = spell.sign signs.CloseParen r in
-      let second = spell.sign signs.Comma (spelled x end) in
-      let less : length (spelled i second) ≤ d = omega (arith, rw (array_spelled-Set n i x r) at few) in
-      let more = grows i second in
+  call_read : (m : Method) (xs : List E) (x : A) (r : Text) → IsCall m xs x → nat_le 1 (array_level x) ≡ true → length (array_spelled x r) ≤ suc d → CallAgain d inner x r
+  unfolding read_e.array_call
+  call_read m xs x r is built few =
+      let all = is.built built in
+      let given = spell.with_commas (map spelled xs) (spell.sign signs.CloseParen r) in
+      let less : length given ≤ d = omega (arith, rw (is.written r) at few) in
       record {
-        behind = spell.sign signs.Dot (spell.name (codes "set") (spell.sign signs.OpenParen (spell.name n (spell.sign signs.Comma (spelled i second)))));
-        written = array_spelled-Set n i x r;
-        reads = rw (again 1 i second hs.0 hs.0 (stops_comma (spelled x end)) less, again 1 x end hs.1 hs.1 (stops_close r) (omega arith)) refl;
-        level = array_level-Set n i x ∙ ap (λ b. level_if b 9) needs;
-      }
-
-  memop_again : (m : List ℕ) (x : E) (r : Text) → is_built x ≡ true → stops 1 r ≡ true → length (spelled x r) ≤ d → read_e.memop_part inner (spell.memop_part m (spelled x) r) ≡ Some ((m, x), r)
-  unfolding read_e.memop_part
-  memop_again m x r built stop few = rw (again 1 x r built built stop few) refl
-
-  getm_again : (n : List ℕ) (i : E) (m : List ℕ) (x : E) (r : Text) → nat_le 1 (array_level (a.Getm n i m x)) ≡ true → length (array_spelled (a.Getm n i m x) r) ≤ suc d → CallAgain d inner (a.Getm n i m x) r
-  unfolding read_e.array_call read_e.array_method read_e.array_rest
-  getm_again n i m x r built few =
-      let needs = level_needs (nat_le 1 (level_of i) && nat_le 1 (level_of x)) 9 (rw (array_level-Getm n i m x) at built) in
-      let hs = both _ _ needs in
-      let end = spell.sign signs.CloseParen r in
-      let second = spell.memop_part m (spelled x) end in
-      let less : length (spelled i second) ≤ d = omega (arith, rw (array_spelled-Getm n i m x r) at few) in
-      let more = grows i second in
-      record {
-        behind = spell.sign signs.Dot (spell.name (codes "getm") (spell.sign signs.OpenParen (spell.name n (spell.sign signs.Comma (spelled i second)))));
-        written = array_spelled-Getm n i m x r;
-        reads = rw (again 1 i second hs.0 hs.0 (stops_comma (spell.name m (spell.sign signs.Comma (spelled x end)))) less, memop_again m x end hs.1 (stops_close r) (omega arith)) refl;
-        level = array_level-Getm n i m x ∙ ap (λ b. level_if b 9) needs;
-      }
-
-  setm_again : (n : List ℕ) (i : E) (m : List ℕ) (x : E) (r : Text) → nat_le 1 (array_level (a.Setm n i m x)) ≡ true → length (array_spelled (a.Setm n i m x) r) ≤ suc d → CallAgain d inner (a.Setm n i m x) r
-  unfolding read_e.array_call read_e.array_method read_e.array_rest
-  setm_again n i m x r built few =
-      let needs = level_needs (nat_le 1 (level_of i) && nat_le 1 (level_of x)) 9 (rw (array_level-Setm n i m x) at built) in
-      let hs = both _ _ needs in
-      let end = spell.sign signs.CloseParen r in
-      let second = spell.memop_part m (spelled x) end in
-      let less : length (spelled i second) ≤ d = omega (arith, rw (array_spelled-Setm n i m x r) at few) in
-      let more = grows i second in
-      record {
-        behind = spell.sign signs.Dot (spell.name (codes "setm") (spell.sign signs.OpenParen (spell.name n (spell.sign signs.Comma (spelled i second)))));
-        written = array_spelled-Setm n i m x r;
-        reads = rw (again 1 i second hs.0 hs.0 (stops_comma (spell.name m (spell.sign signs.Comma (spelled x end)))) less, memop_again m x end hs.1 (stops_close r) (omega arith)) refl;
-        level = array_level-Setm n i m x ∙ ap (λ b. level_if b 9) needs;
-      }
-
-  update_again : (n : List ℕ) (i : E) (g : List ℕ) (x : E) (s : List ℕ) (y : E) (r : Text) → nat_le 1 (array_level (a.Update n i g x s y)) ≡ true → length (array_spelled (a.Update n i g x s y) r) ≤ suc d → CallAgain d inner (a.Update n i g x s y) r
-  unfolding read_e.array_call read_e.array_method read_e.array_rest
-  update_again n i g x s y r built few =
-      let needs = level_needs (nat_le 1 (level_of i) && (nat_le 1 (level_of x) && nat_le 1 (level_of y))) 9 (rw (array_level-Update n i g x s y) at built) in
-      let hs = both _ _ needs in
-      let ks = both _ _ hs.1 in
-      let end = spell.sign signs.CloseParen r in
-      let third = spell.memop_part s (spelled y) end in
-      let second = spell.memop_part g (spelled x) third in
-      let less : length (spelled i second) ≤ d = omega (arith, rw (array_spelled-Update n i g x s y r) at few) in
-      let more = grows i second in
-      let most = grows x third in
-      record {
-        behind = spell.sign signs.Dot (spell.name (codes "update") (spell.sign signs.OpenParen (spell.name n (spell.sign signs.Comma (spelled i second)))));
-        written = array_spelled-Update n i g x s y r;
-        reads = rw (
-          again 1 i second hs.0 hs.0 (stops_comma (spell.name g (spell.sign signs.Comma (spelled x third)))) less,
-          memop_again g x third ks.0 (stops_comma (spell.name s (spell.sign signs.Comma (spelled y end)))) (omega arith),
-          memop_again s y end ks.1 (stops_close r) (omega arith),
-        ) refl;
-        level = array_level-Update n i g x s y ∙ ap (λ b. level_if b 9) needs;
+        behind = spell.sign signs.Dot (spell.name (method_text m) (spell.sign signs.OpenParen given));
+        written = is.written r;
+        reads = rw (method_again m given, arguments_again xs r all less, is.reads) refl;
+        level = is.level all;
       }
 
   abbrev ArrayAgain : A → Type 0
@@ -482,11 +411,11 @@ module _ (d : ℕ) (inner : ℕ → Parser E) (again : Again d inner) (begins : 
     cast = λ w x spine. operand_spine (e.Cast w x) (cast_again w x);
     shift = λ x up n spine. shift_spine x up n spine;
     infix_of = λ op x y left right. infix_spine op x y left;
-    get = λ n i spine. get_again n i;
-    set = λ n i x si sx. set_again n i x;
-    getm = λ n i m x si sx. getm_again n i m x;
-    setm = λ n i m x si sx. setm_again n i m x;
-    update = λ n i g x s y si sx sy. update_again n i g x s y;
+    get = λ n i spine r. call_read _ _ _ r (get_call n i);
+    set = λ n i x si sx r. call_read _ _ _ r (set_call n i x);
+    getm = λ n i m x si sx r. call_read _ _ _ r (getm_call n i m x);
+    setm = λ n i m x si sx r. call_read _ _ _ r (setm_call n i m x);
+    update = λ n i g x s y si sx sy r. call_read _ _ _ r (update_call n i g x s y);
   }
 
   pub whole_again : (least : ℕ) (x : E) (r : Text) → nat_le least (level_of x) ≡ true → nat_le 1 (level_of x) ≡ true → stops least r ≡ true → length (spelled x r) ≤ suc d → whole least (spelled x r) ≡ Some (x, r)

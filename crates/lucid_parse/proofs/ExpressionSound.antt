@@ -5,26 +5,25 @@ use Rattle.std.proofs.lemmas.List.Folds.{list_all-map}
 use Rattle.lucid_lex.specs.declared.sign.Sign.{Sign}
 use Rattle.lucid_lex.specs.declared.sign.Sign.TheVariants as signs
 use Rattle.lucid_lex.specs.declared.word.Word.TheVariants as words
-use Rattle.lucid_parse.specs.declared.lexeme.Lexeme.TheVariants as lexemes
+use Rattle.lucid_parse.specs.Lexemes as lexemes
 use Rattle.lucid_tree.specs.declared.tree.E.{E}
 use Rattle.lucid_tree.specs.declared.tree.E.TheVariants as e
-use Rattle.lucid_tree.specs.declared.tree.A.{A}
-use Rattle.lucid_tree.specs.declared.tree.A.TheVariants as a
 use Rattle.lucid_tree.specs.declared.tree.Pre.{Pre}
 use Rattle.lucid_tree.specs.declared.tree.Pre.TheVariants as pres
 use Rattle.lucid_tree.specs.declared.tree.Infix.TheVariants as infixes
 use Rattle.lucid_parse.specs.declared.operator.Next.{Next}
 use Rattle.lucid_parse.specs.declared.operator.Next.TheVariants as nexts
-use Rattle.lucid_parse.specs.declared.expression.Method.{Method}
-use Rattle.lucid_parse.specs.declared.expression.Method.TheVariants as methods
+use Rattle.lucid_parse.specs.declared.array.Method.{Method}
+use Rattle.lucid_parse.specs.declared.array.Method.TheVariants as methods
 use Rattle.lucid_parse.specs.Operators.{pre_sign, infix_sign, level}
 use Rattle.lucid_parse.specs.Reader as read
 use Rattle.lucid_parse.specs.Reader.{Text, Outcome, Parser, ◌>>=◌}
 use Rattle.lucid_parse.specs.ReadExpression as read_e
 use Rattle.lucid_parse.specs.Spelling as spell
-use Rattle.lucid_parse.specs.Spelling.{spelled, array_spelled, level_of, array_level, level_if, all_bind, some_bind, is_built, all_built}
-use Rattle.lucid_parse.proofs.Equations.{spelled-Number, spelled-Truth, spelled-Me, spelled-Time, spelled-Hash, spelled-Name, spelled-Call, spelled-Array, spelled-Paren, spelled-Prefix, spelled-Cast, spelled-Shift, spelled-Infix, array_spelled-Get, array_spelled-Set, array_spelled-Getm, array_spelled-Setm, array_spelled-Update, level_of-Number, level_of-Truth, level_of-Me, level_of-Time, level_of-Hash, level_of-Name, level_of-Call, level_of-Array, level_of-Paren, level_of-Prefix, level_of-Cast, level_of-Shift, level_of-Infix, array_level-Get, array_level-Set, array_level-Getm, array_level-Setm, array_level-Update}
+use Rattle.lucid_parse.specs.Spelling.{spelled, array_spelled, level_of, array_level, level_if, all_bind, is_built, all_built}
+use Rattle.lucid_parse.proofs.Equations.{spelled-Number, spelled-Truth, spelled-Me, spelled-Time, spelled-Hash, spelled-Name, spelled-Call, spelled-Array, spelled-Paren, spelled-Prefix, spelled-Cast, spelled-Shift, spelled-Infix, level_of-Number, level_of-Truth, level_of-Me, level_of-Time, level_of-Hash, level_of-Name, level_of-Call, level_of-Array, level_of-Paren, level_of-Prefix, level_of-Cast, level_of-Shift, level_of-Infix}
 use Rattle.lucid_parse.proofs.Levels.{level_lies, next_level_lies}
+use Rattle.lucid_parse.proofs.Calls.{method_text, array_of_ok}
 use Rattle.lucid_parse.proofs.Steps.{Yields, yields_none, yields_some, bind, mapped, both, of_both, after_ok, after_name_ok, name_ok, width_ok, width_if_ok, same_bytes}
 use Rattle.lucid_parse.proofs.Repeats.{Separated, separated_ok}
 
@@ -53,14 +52,25 @@ infix_of_ok signs.SatAdd = yields_some _ infixes.SatAdd refl
 infix_of_ok signs.SatSub = yields_some _ infixes.SatSub refl
 infix_of_ok s = yields_none _
 
+pre_of_ok : (s : Sign) → Yields (read_e.pre_of s) (λ p. s ≡ pre_sign p)
+pre_of_ok signs.Minus = yields_some _ pres.Minus refl
+pre_of_ok signs.Tilde = yields_some _ pres.Tilde refl
+pre_of_ok signs.Not = yields_some _ pres.Not refl
+pre_of_ok s = yields_none _
+
 infix_next : (s : Sign) (ts : Text) → Yields {A = Next × Text} (option_map (λ op. (nexts.Infix op, ts)) (read_e.infix_of s)) (λ p. lexemes.Sign s ∷ ts ≡ next_text p.0 p.1)
 infix_next s ts = mapped _ _ (read_e.infix_of s) _ (infix_of_ok s) (λ op same. ap (λ t. lexemes.Sign t ∷ ts) same)
+
+shift_of_ok : (up : Bool) (ts : Text) → Yields (read_e.shift_of up ts) (λ p. spell.sign (if up then signs.ShiftLeft else signs.ShiftRight) ts ≡ next_text p.0 p.1)
+shift_of_ok up [] = yields_none _
+shift_of_ok up (lexemes.Number n ∷ ts) = yields_some _ (nexts.Shift up n, ts) refl
+shift_of_ok up (l ∷ ts) = yields_none _
 
 next_of_ok : (ts : Text) → Yields (read_e.next_of ts) (λ p. ts ≡ next_text p.0 p.1)
 unfolding read_e.next_of
 next_of_ok [] = yields_none _
-next_of_ok (lexemes.Sign signs.ShiftLeft ∷ lexemes.Number n ∷ ts) = yields_some _ (nexts.Shift true n, ts) refl
-next_of_ok (lexemes.Sign signs.ShiftRight ∷ lexemes.Number n ∷ ts) = yields_some _ (nexts.Shift false n, ts) refl
+next_of_ok (lexemes.Sign signs.ShiftLeft ∷ ts) = shift_of_ok true ts
+next_of_ok (lexemes.Sign signs.ShiftRight ∷ ts) = shift_of_ok false ts
 next_of_ok (lexemes.Sign s ∷ ts) = infix_next s ts
 next_of_ok (l ∷ ts) = yields_none _
 
@@ -82,13 +92,6 @@ next_within_ok least tight ts = within_ok least tight ts (read_e.next_of ts) (ne
 
 -- ---- calls of arrays
 
-abbrev pub method_text : Method → List ℕ
-method_text methods.Get = codes "get"
-method_text methods.Set = codes "set"
-method_text methods.Getm = codes "getm"
-method_text methods.Setm = codes "setm"
-method_text methods.Update = codes "update"
-
 method_if : (bytes text : List ℕ) (m : Method) (other : Option Method) (b : Bool) → bytes_eq bytes text ≡ b → text ≡ method_text m → Yields other (λ k. bytes ≡ method_text k) → Yields (if b then Some m else other) (λ k. bytes ≡ method_text k)
 method_if bytes text m other true h is rest = yields_some _ m (same_bytes bytes text h ∙ is)
 method_if bytes text m other false h is rest = rest
@@ -101,15 +104,6 @@ array_method_ok : (ts : Text) → Yields (read_e.array_method ts) (λ x. ts ≡ 
 unfolding read_e.array_method
 array_method_ok ts = bind _ _ _ _ (after_ok signs.Dot ts) (λ r hr. bind _ _ _ _ (name_ok r) (λ n hn. bind _ _ _ _ (method_of_ok n.0) (λ m hm. bind _ _ _ _ (after_ok signs.OpenParen n.1) (λ q hq.
     yields_some _ (m, q) (hr ∙ ap (spell.sign signs.Dot) (hn ∙ ap (λ k. spell.name k n.1) hm ∙ ap (spell.name (method_text m)) hq))))))
-
--- a call of an array up to what follows the index
-abbrev call_text : List ℕ → E → Method → Text → Text
-call_text n i m ts = spell.word words.ArrayCalls (spell.sign signs.Dot (spell.name (method_text m) (spell.sign signs.OpenParen (spell.name n (spell.sign signs.Comma (spelled i ts))))))
-
--- what is read of a call behind the index
-record CallRest (n : List ℕ) (i : E) (m : Method) (ts : Text) (x : A × Text) : Type 0 where
-  written : (r : Text) → x.1 ≡ spell.sign signs.CloseParen r → call_text n i m ts ≡ array_spelled x.0 r
-  level : array_level x.0 ≡ 9
 
 -- ---- expressions
 
@@ -154,17 +148,25 @@ module _ (inner : ℕ → Parser E) (ok : (least : ℕ) (ts : Text) → nat_le l
         let goal_is = spelled-Time n in cc;
   })))
 
-  hash_ok : (ts : Text) → Yields (read_e.hash inner ts) (Operand (spell.word words.Hash) ts)
-  unfolding read_e.hash
-  hash_ok ts = bind _ _ _ _ (width_ok ts) (λ w hw. bind _ _ _ _ (after_ok signs.OpenParen w.1) (λ r hr. bind _ _ _ _ (expressions_ok r) (λ xs hx. bind _ _ _ _ (after_ok signs.CloseParen xs.1) (λ q hq.
-      yields_some _ (e.Hash w.0 xs.0, q) (
-        rw (spelled-Hash w.0 xs.0 q, hx.whole) (ap (spell.word words.Hash) (hw ∙ ap (spell.width w.0) (hr ∙ ap (spell.sign signs.OpenParen) (hx.written ∙ ap (λ z. spelled hx.first (spell.each_after_comma (map spelled hx.more) z)) hq)))),
-        level_of-Hash w.0 xs.0 ∙ rw hx.whole (ap (λ b. level_if b 9) (list_all-map (λ l. nat_le 1 l) level_of (hx.first ∷ hx.more) ∙ hx.built)),
-      )))))
+  hash_head_ok : (ts : Text) → Yields (read_e.hash_head ts) (λ x. ts ≡ spell.width x.0 (spell.sign signs.OpenParen x.1))
+  unfolding read_e.hash_head
+  hash_head_ok ts = bind _ _ _ _ (width_ok ts) (λ w hw. bind _ _ _ _ (after_ok signs.OpenParen w.1) (λ r hr. yields_some _ (w.0, r) (hw ∙ ap (spell.width w.0) hr)))
 
-  prefixed_ok : (p : Pre) (ts : Text) → Yields (read_e.prefixed inner p ts) (Operand (spell.sign (pre_sign p)) ts)
-  unfolding read_e.prefixed
-  prefixed_ok p ts = bind _ _ _ _ (ok 9 ts refl) (λ x hx. yields_some _ (e.Prefix p x.0, x.1) (ap (spell.sign (pre_sign p)) hx.0 ∙ sym (spelled-Prefix p x.0 x.1), level_of-Prefix p x.0 ∙ ap (λ b. level_if b 9) hx.1))
+  hash_of_ok : (w : ℕ) (xs : List E) → all_built xs ≡ true → Yields (read.some xs) (λ ys. (xs ≡ ys) × (level_of (e.Hash w ys) ≡ 9))
+  hash_of_ok w [] built = yields_none _
+  hash_of_ok w (x ∷ xs) built = yields_some _ (x ∷ xs) (refl, level_of-Hash w (x ∷ xs) ∙ ap (λ b. level_if b 9) (list_all-map (λ l. nat_le 1 l) level_of (x ∷ xs) ∙ built))
+
+  hash_ok : (ts : Text) → Yields (read_e.hash inner ts) (Operand (spell.word words.Hash) ts)
+  hash_ok ts = bind _ _ _ _ (hash_head_ok ts) (λ w hw. bind _ _ _ _ (arguments_ok w.1) (λ xs hx. bind _ _ _ _ (hash_of_ok w.0 xs.0 hx.1) (λ ys hy.
+      yields_some _ (e.Hash w.0 ys, xs.1) (
+        ap (spell.word words.Hash) (hw ∙ ap (λ z. spell.width w.0 (spell.sign signs.OpenParen z)) (hx.0 ∙ ap (λ zs. spell.with_commas (map spelled zs) (spell.sign signs.CloseParen xs.1)) hy.0)) ∙ sym (spelled-Hash w.0 ys xs.1),
+        hy.1,
+      ))))
+
+  prefixed_ok : (t : Sign) (ts : Text) (o : Option Pre) → Yields o (λ p. t ≡ pre_sign p) → Yields (read_e.prefixed inner ts o) (Operand (spell.sign t) ts)
+  prefixed_ok t ts None h = yields_none _
+  prefixed_ok t ts (Some p) h = let is = h.each p refl in bind _ _ _ _ (ok 9 ts refl) (λ x hx.
+      yields_some _ (e.Prefix p x.0, x.1) (ap (λ u. spell.sign u ts) is ∙ ap (spell.sign (pre_sign p)) hx.0 ∙ sym (spelled-Prefix p x.0 x.1), level_of-Prefix p x.0 ∙ ap (λ b. level_if b 9) hx.1))
 
   parens_ok : (ts : Text) → Yields (inner 1 ts >>= (λ x. read.after signs.CloseParen x.1 >>= (λ r. Some (e.Paren x.0, r)))) (Operand (spell.sign signs.OpenParen) ts)
   parens_ok ts = bind _ _ _ _ (ok 1 ts refl) (λ x hx. bind _ _ _ _ (after_ok signs.CloseParen x.1) (λ r hr.
@@ -178,38 +180,10 @@ module _ (inner : ℕ → Parser E) (ok : (least : ℕ) (ts : Text) → nat_le l
 
   -- ---- calls of arrays
 
-  memop_part_ok : (ts : Text) → Yields (read_e.memop_part inner ts) (λ x. (ts ≡ spell.memop_part x.0.0 (spelled x.0.1) x.1) × (nat_le 1 (level_of x.0.1) ≡ true))
-  unfolding read_e.memop_part
-  memop_part_ok ts = bind _ _ _ _ (after_ok signs.Comma ts) (λ r hr. bind _ _ _ _ (name_ok r) (λ n hn. bind _ _ _ _ (after_ok signs.Comma n.1) (λ q hq. bind _ _ _ _ (ok 1 q refl) (λ x hx.
-      yields_some _ ((n.0, x.0), x.1) (hr ∙ ap (spell.sign signs.Comma) (hn ∙ ap (spell.name n.0) (hq ∙ ap (spell.sign signs.Comma) hx.0)), hx.2)))))
-
-  array_rest_ok : (n : List ℕ) (i : E) (m : Method) (ts : Text) → nat_le 1 (level_of i) ≡ true → Yields (read_e.array_rest inner n i m ts) (CallRest n i m ts)
-  unfolding read_e.array_rest
-  array_rest_ok n i methods.Get ts built = yields_some _ (a.Get n i, ts) (record {
-    written = λ r hr. ap (λ z. call_text n i methods.Get z) hr ∙ sym (array_spelled-Get n i r);
-    level = array_level-Get n i ∙ ap (λ b. level_if b 9) built;
-  })
-  array_rest_ok n i methods.Set ts built = bind _ _ _ _ (after_ok signs.Comma ts) (λ q hq. bind _ _ _ _ (ok 1 q refl) (λ x hx. yields_some _ (a.Set n i x.0, x.1) (record {
-    written = λ r hr. ap (λ z. call_text n i methods.Set z) (hq ∙ ap (spell.sign signs.Comma) (hx.0 ∙ ap (spelled x.0) hr)) ∙ sym (array_spelled-Set n i x.0 r);
-    level = array_level-Set n i x.0 ∙ ap (λ b. level_if b 9) (of_both _ _ built hx.2);
-  })))
-  array_rest_ok n i methods.Getm ts built = bind _ _ _ _ (memop_part_ok ts) (λ x hx. yields_some _ (a.Getm n i x.0.0 x.0.1, x.1) (record {
-    written = λ r hr. ap (λ z. call_text n i methods.Getm z) (hx.0 ∙ ap (spell.memop_part x.0.0 (spelled x.0.1)) hr) ∙ sym (array_spelled-Getm n i x.0.0 x.0.1 r);
-    level = array_level-Getm n i x.0.0 x.0.1 ∙ ap (λ b. level_if b 9) (of_both _ _ built hx.1);
-  }))
-  array_rest_ok n i methods.Setm ts built = bind _ _ _ _ (memop_part_ok ts) (λ x hx. yields_some _ (a.Setm n i x.0.0 x.0.1, x.1) (record {
-    written = λ r hr. ap (λ z. call_text n i methods.Setm z) (hx.0 ∙ ap (spell.memop_part x.0.0 (spelled x.0.1)) hr) ∙ sym (array_spelled-Setm n i x.0.0 x.0.1 r);
-    level = array_level-Setm n i x.0.0 x.0.1 ∙ ap (λ b. level_if b 9) (of_both _ _ built hx.1);
-  }))
-  array_rest_ok n i methods.Update ts built = bind _ _ _ _ (memop_part_ok ts) (λ x hx. bind _ _ _ _ (memop_part_ok x.1) (λ y hy. yields_some _ (a.Update n i x.0.0 x.0.1 y.0.0 y.0.1, y.1) (record {
-    written = λ r hr. ap (λ z. call_text n i methods.Update z) (hx.0 ∙ ap (spell.memop_part x.0.0 (spelled x.0.1)) (hy.0 ∙ ap (spell.memop_part y.0.0 (spelled y.0.1)) hr)) ∙ sym (array_spelled-Update n i x.0.0 x.0.1 y.0.0 y.0.1 r);
-    level = array_level-Update n i x.0.0 x.0.1 y.0.0 y.0.1 ∙ ap (λ b. level_if b 9) (of_both _ _ built (of_both _ _ hx.1 hy.1));
-  })))
-
   pub array_call_ok : (ts : Text) → Yields (read_e.array_call inner ts) (λ x. (spell.word words.ArrayCalls ts ≡ array_spelled x.0 x.1) × (array_level x.0 ≡ 9))
   unfolding read_e.array_call
-  array_call_ok ts = bind _ _ _ _ (array_method_ok ts) (λ m hm. bind _ _ _ _ (name_ok m.1) (λ n hn. bind _ _ _ _ (after_ok signs.Comma n.1) (λ r hr. bind _ _ _ _ (ok 1 r refl) (λ i hi. bind _ _ _ _ (array_rest_ok n.0 i.0 m.0 i.1 hi.2) (λ x hx. bind _ _ _ _ (after_ok signs.CloseParen x.1) (λ q hq.
-      yields_some _ (x.0, q) (ap (spell.word words.ArrayCalls) (hm ∙ ap (λ z. spell.sign signs.Dot (spell.name (method_text m.0) (spell.sign signs.OpenParen z))) (hn ∙ ap (spell.name n.0) (hr ∙ ap (spell.sign signs.Comma) hi.0))) ∙ hx.written q hq, hx.level)))))))
+  array_call_ok ts = bind _ _ _ _ (array_method_ok ts) (λ m hm. bind _ _ _ _ (arguments_ok m.1) (λ xs hx. bind _ _ _ _ (array_of_ok m.0 xs.0) (λ x h.
+      yields_some _ (x, xs.1) (ap (spell.word words.ArrayCalls) (hm ∙ ap (λ z. spell.sign signs.Dot (spell.name (method_text m.0) (spell.sign signs.OpenParen z))) hx.0) ∙ sym (h.written xs.1), h.level hx.1))))
 
   -- ---- operands and what follows them
 
@@ -227,10 +201,8 @@ module _ (inner : ℕ → Parser E) (ok : (least : ℕ) (ts : Text) → nat_le l
   operand_ok (lexemes.Word words.SysCalls ∷ ts) = bind _ _ _ _ (time_ok ts) (λ r hr. yields_some _ (e.Time, r) (hr, level_of-Time))
   operand_ok (lexemes.Word words.Hash ∷ ts) = hash_ok ts
   operand_ok (lexemes.Word words.ArrayCalls ∷ ts) = array_operand_ok ts
-  operand_ok (lexemes.Sign signs.Minus ∷ ts) = prefixed_ok pres.Minus ts
-  operand_ok (lexemes.Sign signs.Tilde ∷ ts) = prefixed_ok pres.Tilde ts
-  operand_ok (lexemes.Sign signs.Not ∷ ts) = prefixed_ok pres.Not ts
   operand_ok (lexemes.Sign signs.OpenParen ∷ ts) = in_parens_ok ts
+  operand_ok (lexemes.Sign s ∷ ts) = prefixed_ok s ts (read_e.pre_of s) (pre_of_ok s)
   operand_ok (l ∷ ts) = yields_none _
 
   grown_ok : (left : E) (p : Next) (ts : Text) → nat_le (read_e.next_left p) (level_of left) ≡ true → Yields (read_e.grown inner left p ts) (λ x. (spelled left (next_text p ts) ≡ spelled x.0 x.1) × (level_of x.0 ≡ read_e.next_level p))

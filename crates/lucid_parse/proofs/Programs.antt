@@ -14,9 +14,9 @@ use Rattle.lucid_tree.specs.declared.tree.Decl.{Decl}
 use Rattle.lucid_tree.specs.declared.tree.DeclKind.{DeclKind}
 use Rattle.lucid_tree.specs.declared.tree.Tree.{Tree}
 use Rattle.lucid_parse.specs.Lexemes.{lexemes_of}
-use Rattle.lucid_parse.specs.Spelling.{Text, declaration, declaration_built, declarations}
+use Rattle.lucid_parse.specs.Spelling.{Text, declaration, declaration_built, declarations, all_written}
 use Rattle.lucid_parse.specs.ReadDeclaration as read_d
-use Rattle.lucid_parse.specs.Program.{line_at, line_of, last_of, HasLines, IsTreeOf, IsFault, Progress, Rising, IsWhy, all_written}
+use Rattle.lucid_parse.specs.Program.{line_at, line_of, last_of, HasLines, IsTreeOf, IsFault, Progress, Rising, IsWhy}
 use Rattle.lucid_parse.proofs.Steps.{both, of_both}
 use Rattle.lucid_parse.proofs.Declarations.{declaration_ok, declaration_again, declaration_long}
 

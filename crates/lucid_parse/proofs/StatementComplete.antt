@@ -4,7 +4,7 @@ use Rattle.std.specs.List.{list_all, AllByRecursion}
 use Rattle.std.proofs.lemmas.List.Folds.{list_all-map}
 use Rattle.lucid_lex.specs.declared.sign.Sign.TheVariants as signs
 use Rattle.lucid_lex.specs.declared.word.Word.TheVariants as words
-use Rattle.lucid_parse.specs.declared.lexeme.Lexeme.TheVariants as lexemes
+use Rattle.lucid_parse.specs.Lexemes as lexemes
 use Rattle.lucid_tree.specs.declared.tree.Ty.{Ty}
 use Rattle.lucid_tree.specs.declared.tree.Ty.TheVariants as types
 use Rattle.lucid_tree.specs.declared.tree.E.{E}
@@ -16,6 +16,7 @@ use Rattle.lucid_tree.specs.declared.tree.S.TheVariants as s
 use Rattle.lucid_tree.specs.declared.tree.C.{C}
 use Rattle.lucid_tree.specs.declared.tree.No.{No}
 use Rattle.lucid_tree.specs.declared.tree.No.TheVariants as n
+use Rattle.lucid_parse.specs.Reader as read
 use Rattle.lucid_parse.specs.Reader.{Text, Parser}
 use Rattle.lucid_parse.specs.ReadExpression as read_e
 use Rattle.lucid_parse.specs.ReadStatement as read_s
@@ -272,7 +273,7 @@ unfolding read_s.last_arm read_s.last_head
 last_again d None r each built ends few = ap (read_s.last_on (read_s.inner_at d).statement r) (no_last r ends)
 last_again d (Some ss) r each built ends few = rw (block_again d ss r each built (omega arith)) refl
 
-some_again : (cs : List (ℕ × List S)) → spell.some_cases_built (map (λ c. (c.0, map statement_built c.1)) cs) ≡ true → (read_s.some_cases cs ≡ Some cs) × (spell.cases_built (map (λ c. (c.0, map statement_built c.1)) cs) ≡ true)
+some_again : (cs : List (ℕ × List S)) → (spell.is_some {X = ℕ × List Bool} (map (λ c. (c.0, map statement_built c.1)) cs) && spell.cases_built (map (λ c. (c.0, map statement_built c.1)) cs)) ≡ true → (read.some cs ≡ Some cs) × (spell.cases_built (map (λ c. (c.0, map statement_built c.1)) cs) ≡ true)
 some_again [] h = absurd cc
 some_again (c ∷ cs) h = (refl, h)
 

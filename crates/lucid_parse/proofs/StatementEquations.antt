@@ -2,7 +2,7 @@
 use Rattle.std.proofs.Common.{◌≡◌, ℕ, Bool, true, ◌&&◌, nat_le, List, ◌∷◌, map, codes, Option, Some, None, option_map, sym, ap, ◌∙◌}
 use Rattle.lucid_lex.specs.declared.sign.Sign.TheVariants as signs
 use Rattle.lucid_lex.specs.declared.word.Word.TheVariants as words
-use Rattle.lucid_parse.specs.declared.lexeme.Lexeme.TheVariants as lexemes
+use Rattle.lucid_parse.specs.Lexemes as lexemes
 use Rattle.lucid_tree.specs.declared.tree.Ty.{Ty}
 use Rattle.lucid_tree.specs.declared.tree.E.{E}
 use Rattle.lucid_tree.specs.declared.tree.A.{A}
@@ -11,7 +11,7 @@ use Rattle.lucid_tree.specs.declared.tree.V.TheVariants as v
 use Rattle.lucid_tree.specs.declared.tree.V.TheOpen.{V-F}
 use Rattle.lucid_tree.specs.declared.tree.S.{S, fold-roll-S}
 use Rattle.lucid_tree.specs.declared.tree.S.TheVariants as s
-use Rattle.lucid_tree.specs.declared.tree.C.{C, roll-C, fold-roll-C}
+use Rattle.lucid_tree.specs.declared.tree.C.{C, fold-roll-C}
 use Rattle.lucid_tree.specs.declared.tree.No.{No, fold-roll-No}
 use Rattle.lucid_tree.specs.declared.tree.No.TheVariants as n
 use Rattle.lucid_tree.specs.declared.tree.No.TheOpen.{No-F, S-F}
@@ -95,7 +95,7 @@ pub statement_spelled-Match : (x : E) (cs : List (ℕ × List S)) (last : Option
 statement_spelled-Match x cs None r = ap (λ z. statement_spelled z r) (sym (s.rolls-Match x cs None)) ∙ ap (λ f. f r) (fold-roll-S Spelled Spelled Spelled spelled_No spelled_S spelled_C (S-F.Match x cs None))
 statement_spelled-Match x cs (Some ss) r = ap (λ z. statement_spelled z r) (sym (s.rolls-Match x cs (Some ss))) ∙ ap (λ f. f r) (fold-roll-S Spelled Spelled Spelled spelled_No spelled_S spelled_C (S-F.Match x cs (Some ss)))
 
-pub statement_built-Match : (x : E) (cs : List (ℕ × List S)) (last : Option (List S)) → statement_built (s.Match x cs last) ≡ is_built x && (spell.some_cases_built (map (λ c. (c.0, map statement_built c.1)) cs) && spell.last_built (option_map (map statement_built) last))
+pub statement_built-Match : (x : E) (cs : List (ℕ × List S)) (last : Option (List S)) → statement_built (s.Match x cs last) ≡ is_built x && ((spell.is_some {X = ℕ × List Bool} (map (λ c. (c.0, map statement_built c.1)) cs) && spell.cases_built (map (λ c. (c.0, map statement_built c.1)) cs)) && spell.last_built (option_map (map statement_built) last))
 statement_built-Match x cs None = ap statement_built (sym (s.rolls-Match x cs None)) ∙ fold-roll-S Bool Bool Bool built_No built_S built_C (S-F.Match x cs None)
 statement_built-Match x cs (Some ss) = ap statement_built (sym (s.rolls-Match x cs (Some ss))) ∙ fold-roll-S Bool Bool Bool built_No built_S built_C (S-F.Match x cs (Some ss))
 

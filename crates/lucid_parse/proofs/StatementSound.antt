@@ -4,7 +4,7 @@ use Rattle.std.specs.Str.{bytes_eq}
 use Rattle.std.proofs.lemmas.List.Folds.{list_all-map}
 use Rattle.lucid_lex.specs.declared.sign.Sign.TheVariants as signs
 use Rattle.lucid_lex.specs.declared.word.Word.TheVariants as words
-use Rattle.lucid_parse.specs.declared.lexeme.Lexeme.TheVariants as lexemes
+use Rattle.lucid_parse.specs.Lexemes as lexemes
 use Rattle.lucid_tree.specs.declared.tree.V.{V}
 use Rattle.lucid_tree.specs.declared.tree.V.TheVariants as v
 use Rattle.lucid_tree.specs.declared.tree.S.{S}
@@ -17,7 +17,7 @@ use Rattle.lucid_parse.specs.ReadExpression as read_e
 use Rattle.lucid_parse.specs.ReadStatement as read_s
 use Rattle.lucid_parse.specs.Spelling as spell
 use Rattle.lucid_parse.specs.Spelling.{spelled, array_spelled, event_spelled, statement_spelled, choice_spelled, no_spelled, array_level, is_built, all_built, event_built, statement_built, choice_built, no_built}
-use Rattle.lucid_parse.proofs.Steps.{Yields, yields_none, yields_some, bind, of_both, after_ok, after_word_ok, name_ok, typed_name_ok, same_bytes}
+use Rattle.lucid_parse.proofs.Steps.{Yields, yields_none, yields_some, bind, of_both, after_ok, after_word_ok, after_name_ok, name_ok, number_ok, typed_name_ok, same_bytes}
 use Rattle.lucid_parse.proofs.Repeats.{repeat_ok}
 use Rattle.lucid_parse.proofs.ExpressionSound.{expression_ok, expression_at_ok, expressions_ok, arguments_ok, array_call_ok}
 use Rattle.lucid_parse.proofs.StatementEquations.{event_spelled-Paren, event_spelled-Call, event_spelled-Delay, event_spelled-Locate, event_built-Paren, event_built-Call, event_built-Delay, event_built-Locate, statement_spelled-Declare, statement_spelled-Assign, statement_spelled-Call, statement_spelled-Array, statement_spelled-Cond, statement_spelled-Return, statement_spelled-Generate, statement_spelled-Printf, statement_spelled-Match, statement_built-Declare, statement_built-Assign, statement_built-Call, statement_built-Array, statement_built-Cond, statement_built-Return, statement_built-Generate, statement_built-Printf, statement_built-Match, no_spelled-Absent, no_spelled-Block, no_spelled-Cond, no_built-Absent, no_built-Block, no_built-Cond, choice_spelled-parts, choice_built-parts}
@@ -188,8 +188,8 @@ module _ (item : Parser S) (ok : (ts : Text) → Yields (item ts) (Statement ts)
 
   case_head_ok : (ts : Text) → Yields (read_s.case_head ts) (λ h. ts ≡ spell.sign signs.Or (spell.number h.0 (spell.sign signs.Arrow h.1)))
   unfolding read_s.case_head
-  case_head_ok (lexemes.Sign signs.Or ∷ lexemes.Number m ∷ lexemes.Sign signs.Arrow ∷ ts) = yields_some _ (m, ts) refl
-  case_head_ok ts = yields_none _
+  case_head_ok ts = bind _ _ _ _ (after_ok signs.Or ts) (λ r hr. bind _ _ _ _ (number_ok r) (λ m hm. bind _ _ _ _ (after_ok signs.Arrow m.1) (λ q hq.
+      yields_some _ (m.0, q) (hr ∙ ap (spell.sign signs.Or) (hm ∙ ap (spell.number m.0) hq)))))
 
   body_ok : (ts : Text) (h : ℕ × Text) → ts ≡ spell.sign signs.Or (spell.number h.0 (spell.sign signs.Arrow h.1)) → Yields (read_s.case_body item h) (λ x. (ts ≡ case_part x.0 x.1) × (all_are x.0.1 ≡ true))
   body_ok ts h hh = bind _ _ _ _ (block_ok h.1) (λ xs hx. yields_some _ ((h.0, xs.0), xs.1) (hh ∙ ap (λ z. spell.sign signs.Or (spell.number h.0 (spell.sign signs.Arrow z))) hx.0, hx.1))
@@ -212,14 +212,11 @@ module _ (item : Parser S) (ok : (ts : Text) → Yields (item ts) (Statement ts)
         (rw h.whole (h.written ∙ cases_as h.items x.1), list_all-map (λ c. spell.all_true c.1) (λ c. (c.0, map statement_built c.1)) x.0 ∙ rw h.whole h.built);
   }
 
-  last_if : (m : List ℕ) (ts : Text) (b : Bool) → bytes_eq m (codes "_") ≡ b → Yields (if b then Some ts else None) (λ r. spell.sign signs.Or (spell.name m (spell.sign signs.Arrow ts)) ≡ spell.sign signs.Or (spell.name (codes "_") (spell.sign signs.Arrow r)))
-  last_if m ts true h = yields_some _ ts (ap (λ k. spell.sign signs.Or (spell.name k (spell.sign signs.Arrow ts))) (same_bytes m (codes "_") h))
-  last_if m ts false h = yields_none _
-
   last_head_ok : (ts : Text) → Yields (read_s.last_head ts) (λ r. ts ≡ spell.sign signs.Or (spell.name (codes "_") (spell.sign signs.Arrow r)))
   unfolding read_s.last_head
-  last_head_ok (lexemes.Sign signs.Or ∷ lexemes.Name m ∷ lexemes.Sign signs.Arrow ∷ ts) = last_if m ts _ refl
-  last_head_ok ts = yields_none _
+  last_head_ok ts = bind _ _ _ _ (after_ok signs.Or ts) (λ r hr. bind _ _ _ _ (after_name_ok (codes "_") r) (λ q hq. record {
+    each = λ n given. hr ∙ ap (spell.sign signs.Or) (hq ∙ ap (spell.name (codes "_")) ((after_ok signs.Arrow q).each n given));
+  }))
 
   last_on_ok : (ts : Text) (o : Option Text) → Yields o (λ r. ts ≡ spell.sign signs.Or (spell.name (codes "_") (spell.sign signs.Arrow r))) → Yields (read_s.last_on item ts o) (λ x. (ts ≡ spell.last_arm (option_map (map statement_spelled) x.0) x.1) × (spell.last_built (option_map (map statement_built) x.0) ≡ true))
   last_on_ok ts None h = yields_some _ (None, ts) (refl, refl)
@@ -230,7 +227,7 @@ module _ (item : Parser S) (ok : (ts : Text) → Yields (item ts) (Statement ts)
   unfolding read_s.last_arm
   last_arm_ok ts = last_on_ok ts (read_s.last_head ts) (last_head_ok ts)
 
-  some_cases_ok : (cs : List (ℕ × List S)) → spell.cases_built (map (λ c. (c.0, map statement_built c.1)) cs) ≡ true → Yields (read_s.some_cases cs) (λ all. (all ≡ cs) × (spell.some_cases_built (map (λ c. (c.0, map statement_built c.1)) all) ≡ true))
+  some_cases_ok : (cs : List (ℕ × List S)) → spell.cases_built (map (λ c. (c.0, map statement_built c.1)) cs) ≡ true → Yields (read.some cs) (λ all. (all ≡ cs) × ((spell.is_some {X = ℕ × List Bool} (map (λ c. (c.0, map statement_built c.1)) all) && spell.cases_built (map (λ c. (c.0, map statement_built c.1)) all)) ≡ true))
   some_cases_ok [] h = yields_none _
   some_cases_ok (c ∷ cs) h = yields_some _ (c ∷ cs) (refl, h)
 

@@ -9,7 +9,7 @@ use Rattle.lucid_lex.specs.declared.word.Word.{Word}
 use Rattle.lucid_lex.specs.declared.word.Word.TheVariants as words
 use Rattle.lucid_lex.specs.contracts.sign.Sign as sign_type
 use Rattle.lucid_lex.specs.contracts.word.Word as word_type
-use Rattle.lucid_parse.specs.declared.lexeme.Lexeme.TheVariants as lexemes
+use Rattle.lucid_parse.specs.Lexemes as lexemes
 use Rattle.lucid_tree.specs.declared.tree.Ty.{Ty}
 use Rattle.lucid_tree.specs.declared.tree.Ty.TheVariants as types
 use Rattle.lucid_parse.specs.Reader as read

@@ -7,3 +7,5 @@ pub mod ReadExpression
 pub mod Reader
 pub mod ReadStatement
 pub mod Spelling
+pub mod Tokens
+pub mod Within

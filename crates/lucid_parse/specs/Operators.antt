@@ -1,11 +1,40 @@
--- The signs of expressions, and how tightly they bind: level 1 is the loosest, an operand by itself has level 9.
-use Rattle.std.specs.Prelude.{ℕ}
+-- The signs of expressions, and how tightly they bind.
+use Rattle.std.specs.Prelude.{ℕ, ◌+◌}
 use Rattle.lucid_lex.specs.declared.sign.Sign.{Sign}
 use Rattle.lucid_lex.specs.declared.sign.Sign.TheVariants as signs
 use Rattle.lucid_tree.specs.declared.tree.Pre.{Pre}
 use Rattle.lucid_tree.specs.declared.tree.Pre.TheVariants as pres
 use Rattle.lucid_tree.specs.declared.tree.Infix.{Infix}
 use Rattle.lucid_tree.specs.declared.tree.Infix.TheVariants as infixes
+
+-- the levels, from the loosest on
+abbrev pub disjunction : ℕ
+disjunction = 1
+
+abbrev pub conjunction : ℕ
+conjunction = 2
+
+abbrev pub comparison : ℕ
+comparison = 3
+
+abbrev pub bit_or : ℕ
+bit_or = 4
+
+abbrev pub bit_xor : ℕ
+bit_xor = 5
+
+abbrev pub bit_and : ℕ
+bit_and = 6
+
+abbrev pub shift : ℕ
+shift = 7
+
+abbrev pub sum : ℕ
+sum = 8
+
+-- an operand by itself
+abbrev pub tightest : ℕ
+tightest = 9
 
 abbrev pub pre_sign : Pre → Sign
 pre_sign pres.Minus = signs.Minus
@@ -31,29 +60,29 @@ infix_sign infixes.SatSub = signs.SatSub
 
 -- the level of what an infix sign makes
 abbrev pub level : Infix → ℕ
-level infixes.OrOr = 1
-level infixes.AndAnd = 2
-level infixes.EqualEqual = 3
-level infixes.NotEqual = 3
-level infixes.Less = 3
-level infixes.Greater = 3
-level infixes.LessEqual = 3
-level infixes.GreaterEqual = 3
-level infixes.Or = 4
-level infixes.Caret = 5
-level infixes.And = 6
-level infixes.Plus = 8
-level infixes.Minus = 8
-level infixes.SatAdd = 8
-level infixes.SatSub = 8
+level infixes.OrOr = disjunction
+level infixes.AndAnd = conjunction
+level infixes.EqualEqual = comparison
+level infixes.NotEqual = comparison
+level infixes.Less = comparison
+level infixes.Greater = comparison
+level infixes.LessEqual = comparison
+level infixes.GreaterEqual = comparison
+level infixes.Or = bit_or
+level infixes.Caret = bit_xor
+level infixes.And = bit_and
+level infixes.Plus = sum
+level infixes.Minus = sum
+level infixes.SatAdd = sum
+level infixes.SatSub = sum
 
 -- The least level of a left operand: signs of one level group to the left, but comparisons don't group. A right operand
 -- is of a higher level than its sign.
 abbrev pub left_level : Infix → ℕ
-left_level infixes.EqualEqual = 4
-left_level infixes.NotEqual = 4
-left_level infixes.Less = 4
-left_level infixes.Greater = 4
-left_level infixes.LessEqual = 4
-left_level infixes.GreaterEqual = 4
+left_level infixes.EqualEqual = comparison + 1
+left_level infixes.NotEqual = comparison + 1
+left_level infixes.Less = comparison + 1
+left_level infixes.Greater = comparison + 1
+left_level infixes.LessEqual = comparison + 1
+left_level infixes.GreaterEqual = comparison + 1
 left_level op = level op

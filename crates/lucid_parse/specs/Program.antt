@@ -1,6 +1,5 @@
 -- When the tokens of a text are a program, with which tree, and how far they are one where they are none.
-use Rattle.std.specs.Prelude.{◌≡◌, ℕ, ◌+◌, ◌-◌, ◌^◌, ◌<◌, ◌≤◌, ◌==◌, min, Bool, true, List, [], ◌∷◌, length, take, drop, map, count_by}
-use Rattle.std.specs.List.{list_all}
+use Rattle.std.specs.Prelude.{◌≡◌, ℕ, ◌+◌, ◌-◌, ◌^◌, ◌<◌, ◌≤◌, ◌==◌, min, true, List, [], ◌∷◌, length, take, drop, map, count_by}
 use Rattle.lucid_lex.specs.declared.token.Kind.{Kind}
 use Rattle.lucid_lex.specs.declared.token.Token.{Token}
 use Rattle.lucid_parse.specs.declared.error.ParseError.{ParseError}
@@ -8,7 +7,7 @@ use Rattle.lucid_parse.specs.declared.error.ParseError.TheVariants as errors
 use Rattle.lucid_tree.specs.declared.tree.Decl.{Decl}
 use Rattle.lucid_tree.specs.declared.tree.Tree.{Tree}
 use Rattle.lucid_parse.specs.Lexemes.{lexemes_of}
-use Rattle.lucid_parse.specs.Spelling.{Text, declaration_built, declarations, spell, IsWritten}
+use Rattle.lucid_parse.specs.Spelling.{Text, declarations, spell, all_written, IsWritten}
 
 -- the kinds of tokens, which nesting is counted over
 abbrev pub kinds_of : List Token → List Kind
@@ -43,7 +42,7 @@ pub record IsTreeOf (text : List ℕ) (ts : List Token) (t : Tree) : Type 0 wher
 pub record IsProgramBefore (ls : Text) (at : ℕ) : Type 0 where
   pub decls : List Decl
   pub rest : Text
-  pub written : list_all (λ x. declaration_built x.kind) decls ≡ true
+  pub written : all_written decls ≡ true
   pub spelled : ls ≡ declarations decls rest
   pub place : at + length rest ≡ length ls
 
@@ -57,10 +56,6 @@ pub record IsFault (ls : Text) (n : ℕ) : Type 0 where
   pub longest : (m : ℕ) → IsProgramBefore ls m → m ≤ at
 
 -- ---- while a program is read
-
--- the grammar builds all these declarations
-abbrev pub all_written : List Decl → Bool
-all_written xs = list_all (λ x. declaration_built x.kind) xs
 
 -- what is read so far, before the rest
 pub record Progress (text : List ℕ) (ts : List Token) (ls : Text) (all : List Decl) (rest : Text) : Type 0 where

@@ -1,13 +1,14 @@
 -- How expressions are read: an operand, and then, for as long as a sign follows that binds tightly enough, that sign with
 -- its right operand. `inner` reads an expression of at least a level that stands within.
-use Rattle.std.specs.Prelude.{ℕ, zero, suc, ◌+◌, true, false, ◌&&◌, nat_le, if◌then◌else◌, List, [], ◌∷◌, length, codes, Option, Some, None, option_map, bytes_eq}
+use Rattle.std.specs.Prelude.{ℕ, zero, suc, ◌+◌, Bool, true, false, ◌&&◌, nat_le, if◌then◌else◌, List, [], ◌∷◌, length, codes, Option, Some, None, option_map, bytes_eq}
 use Rattle.lucid_lex.specs.declared.sign.Sign.{Sign}
 use Rattle.lucid_lex.specs.declared.sign.Sign.TheVariants as signs
 use Rattle.lucid_lex.specs.declared.word.Word.TheVariants as words
-use Rattle.lucid_parse.specs.declared.lexeme.Lexeme.TheVariants as lexemes
-use Rattle.lucid_tree.specs.declared.tree.E.{E}
+use Rattle.lucid_parse.specs.Lexemes as lexemes
+use Rattle.lucid_tree.specs.declared.tree.E.{E, out-E}
 use Rattle.lucid_tree.specs.declared.tree.E.TheVariants as e
 use Rattle.lucid_tree.specs.declared.tree.A.{A}
+use Rattle.lucid_tree.specs.declared.tree.A.TheOpen.{E-F}
 use Rattle.lucid_tree.specs.declared.tree.A.TheVariants as a
 use Rattle.lucid_tree.specs.declared.tree.Pre.{Pre}
 use Rattle.lucid_tree.specs.declared.tree.Pre.TheVariants as pres
@@ -15,10 +16,10 @@ use Rattle.lucid_tree.specs.declared.tree.Infix.{Infix}
 use Rattle.lucid_tree.specs.declared.tree.Infix.TheVariants as infixes
 use Rattle.lucid_parse.specs.declared.operator.Next.{Next}
 use Rattle.lucid_parse.specs.declared.operator.Next.TheVariants as nexts
-use Rattle.lucid_parse.specs.declared.expression.Method.{Method}
-use Rattle.lucid_parse.specs.declared.expression.Method.TheVariants as methods
-use Rattle.lucid_parse.specs.Operators.{level, left_level}
-use Rattle.lucid_parse.specs.Reader.{Text, Outcome, Parser, ◌>>=◌, after, after_name, name, width, width_if, separated}
+use Rattle.lucid_parse.specs.declared.array.Method.{Method}
+use Rattle.lucid_parse.specs.declared.array.Method.TheVariants as methods
+use Rattle.lucid_parse.specs.Operators.{disjunction, shift, tightest, level, left_level}
+use Rattle.lucid_parse.specs.Reader.{Text, Outcome, Parser, ◌>>=◌, after, after_name, name, width, width_if, separated, some}
 
 -- ---- signs between operands
 
@@ -40,20 +41,25 @@ infix_of signs.SatAdd = Some infixes.SatAdd
 infix_of signs.SatSub = Some infixes.SatSub
 infix_of _ = None
 
+-- a shift, behind its sign
+abbrev pub shift_of : Bool → Text → Option (Next × Text)
+shift_of up (lexemes.Number n ∷ ts) = Some (nexts.Shift up n, ts)
+shift_of up _ = None
+
 -- what may follow an operand: an infix sign, or a whole shift
 unfoldable pub next_of : Text → Option (Next × Text)
-next_of (lexemes.Sign signs.ShiftLeft ∷ lexemes.Number n ∷ ts) = Some (nexts.Shift true n, ts)
-next_of (lexemes.Sign signs.ShiftRight ∷ lexemes.Number n ∷ ts) = Some (nexts.Shift false n, ts)
+next_of (lexemes.Sign signs.ShiftLeft ∷ ts) = shift_of true ts
+next_of (lexemes.Sign signs.ShiftRight ∷ ts) = shift_of false ts
 next_of (lexemes.Sign s ∷ ts) = option_map (λ op. (nexts.Infix op, ts)) (infix_of s)
 next_of _ = None
 
 abbrev pub next_level : Next → ℕ
 next_level (nexts.Infix op) = level op
-next_level (nexts.Shift up n) = 7
+next_level (nexts.Shift up n) = shift
 
 abbrev pub next_left : Next → ℕ
 next_left (nexts.Infix op) = left_level op
-next_left (nexts.Shift up n) = 7
+next_left (nexts.Shift up n) = shift
 
 -- only where it binds at least this tightly, and lets an operand of this level stand on its left
 abbrev pub within : ℕ → ℕ → Option (Next × Text) → Option (Next × Text)
@@ -92,7 +98,7 @@ arguments_on some ts None = do
 
 -- what a call is given, behind its open parenthesis
 unfoldable pub arguments : (ℕ → Parser E) → Parser (List E)
-arguments inner ts = arguments_on (separated (inner 1)) ts (after signs.CloseParen ts)
+arguments inner ts = arguments_on (separated (inner disjunction)) ts (after signs.CloseParen ts)
 
 abbrev pub named_on : (ℕ → Parser E) → List ℕ → Text → Option Text → Outcome E
 named_on inner n ts None = Some (e.Name n, ts)
@@ -112,19 +118,32 @@ after_time ts = do
   t ← after signs.OpenParen s
   after signs.CloseParen t
 
--- behind `hash`
-unfoldable pub hash : (ℕ → Parser E) → Parser E
-hash inner ts = do
+-- the width of a hash, up to the open parenthesis
+unfoldable pub hash_head : Parser ℕ
+hash_head ts = do
   w ← width ts
   r ← after signs.OpenParen w.1
-  xs ← separated (inner 1) r
-  s ← after signs.CloseParen xs.1
-  Some (e.Hash w.0 xs.0, s)
+  Some (w.0, r)
+
+-- behind `hash`
+abbrev pub hash : (ℕ → Parser E) → Parser E
+hash inner ts = do
+  w ← hash_head ts
+  xs ← arguments inner w.1
+  ys ← some xs.0
+  Some (e.Hash w.0 ys, xs.1)
+
+abbrev pub pre_of : Sign → Option Pre
+pre_of signs.Minus = Some pres.Minus
+pre_of signs.Tilde = Some pres.Tilde
+pre_of signs.Not = Some pres.Not
+pre_of _ = None
 
 -- behind a prefix sign
-unfoldable pub prefixed : (ℕ → Parser E) → Pre → Parser E
-prefixed inner p ts = do
-  x ← inner 9 ts
+abbrev pub prefixed : (ℕ → Parser E) → Text → Option Pre → Outcome E
+prefixed inner ts None = None
+prefixed inner ts (Some p) = do
+  x ← inner tightest ts
   Some (e.Prefix p x.0, x.1)
 
 -- behind an open parenthesis: the type of a cast and its operand, or an expression
@@ -132,10 +151,10 @@ unfoldable pub in_parens : (ℕ → Parser E) → Parser E
 in_parens inner (lexemes.Word words.Int ∷ ts) = do
   w ← width_if ts
   r ← after signs.CloseParen w.1
-  x ← inner 9 r
+  x ← inner tightest r
   Some (e.Cast w.0 x.0, x.1)
 in_parens inner ts = do
-  x ← inner 1 ts
+  x ← inner disjunction ts
   r ← after signs.CloseParen x.1
   Some (e.Paren x.0, r)
 
@@ -150,33 +169,6 @@ method_of bytes =
     else (if bytes_eq bytes (codes "update") then Some methods.Update
     else None))))
 
--- a memop and its argument
-unfoldable pub memop_part : (ℕ → Parser E) → Parser (List ℕ × E)
-memop_part inner ts = do
-  r ← after signs.Comma ts
-  n ← name r
-  s ← after signs.Comma n.1
-  x ← inner 1 s
-  Some ((n.0, x.0), x.1)
-
--- what follows the array's name and the index
-unfoldable pub array_rest : (ℕ → Parser E) → List ℕ → E → Method → Parser A
-array_rest inner n i methods.Get ts = Some (a.Get n i, ts)
-array_rest inner n i methods.Set ts = do
-  r ← after signs.Comma ts
-  x ← inner 1 r
-  Some (a.Set n i x.0, x.1)
-array_rest inner n i methods.Getm ts = do
-  x ← memop_part inner ts
-  Some (a.Getm n i x.0.0 x.0.1, x.1)
-array_rest inner n i methods.Setm ts = do
-  x ← memop_part inner ts
-  Some (a.Setm n i x.0.0 x.0.1, x.1)
-array_rest inner n i methods.Update ts = do
-  x ← memop_part inner ts
-  y ← memop_part inner x.1
-  Some (a.Update n i x.0.0 x.0.1 y.0.0 y.0.1, y.1)
-
 -- behind `Array`, up to the open parenthesis
 unfoldable pub array_method : Parser Method
 array_method ts = do
@@ -186,16 +178,66 @@ array_method ts = do
   s ← after signs.OpenParen n.1
   Some (m, s)
 
+-- what a call is given, one after another
+abbrev pub first : List E → Option (E × List E)
+first [] = None
+first (x ∷ xs) = Some (x, xs)
+
+abbrev pub name_at : E-F A E → Option (List ℕ)
+name_at (E-F.Name n) = Some n
+name_at _ = None
+
+-- where a name comes first
+unfoldable pub first_name : List E → Option (List ℕ × List E)
+first_name xs = do
+  x ← first xs
+  n ← name_at (out-E x.0)
+  Some (n, x.1)
+
+-- a memop and its argument
+unfoldable pub memop_part : List E → Option ((List ℕ × E) × List E)
+memop_part xs = do
+  m ← first_name xs
+  x ← first m.1
+  Some ((m.0, x.0), x.1)
+
+-- by what follows the array's name and the index
+unfoldable pub array_with : List ℕ → E → Method → List E → Option (A × List E)
+array_with n i methods.Get xs = Some (a.Get n i, xs)
+array_with n i methods.Set xs = do
+  x ← first xs
+  Some (a.Set n i x.0, x.1)
+array_with n i methods.Getm xs = do
+  x ← memop_part xs
+  Some (a.Getm n i x.0.0 x.0.1, x.1)
+array_with n i methods.Setm xs = do
+  x ← memop_part xs
+  Some (a.Setm n i x.0.0 x.0.1, x.1)
+array_with n i methods.Update xs = do
+  x ← memop_part xs
+  y ← memop_part x.1
+  Some (a.Update n i x.0.0 x.0.1 y.0.0 y.0.1, y.1)
+
+-- nothing is left over
+abbrev pub with_all : A → List E → Option A
+with_all x [] = Some x
+with_all x (y ∷ ys) = None
+
+-- the call by this method that is given these
+unfoldable pub array_of : Method → List E → Option A
+array_of m xs = do
+  n ← first_name xs
+  i ← first n.1
+  x ← array_with n.0 i.0 m i.1
+  with_all x.0 x.1
+
 -- behind `Array`
 unfoldable pub array_call : (ℕ → Parser E) → Parser A
 array_call inner ts = do
   m ← array_method ts
-  n ← name m.1
-  r ← after signs.Comma n.1
-  i ← inner 1 r
-  x ← array_rest inner n.0 i.0 m.0 i.1
-  s ← after signs.CloseParen x.1
-  Some (x.0, s)
+  xs ← arguments inner m.1
+  x ← array_of m.0 xs.0
+  Some (x, xs.1)
 
 -- ---- expressions
 
@@ -212,10 +254,8 @@ operand inner (lexemes.Word words.Hash ∷ ts) = hash inner ts
 operand inner (lexemes.Word words.ArrayCalls ∷ ts) = do
   x ← array_call inner ts
   Some (e.Array x.0, x.1)
-operand inner (lexemes.Sign signs.Minus ∷ ts) = prefixed inner pres.Minus ts
-operand inner (lexemes.Sign signs.Tilde ∷ ts) = prefixed inner pres.Tilde ts
-operand inner (lexemes.Sign signs.Not ∷ ts) = prefixed inner pres.Not ts
 operand inner (lexemes.Sign signs.OpenParen ∷ ts) = in_parens inner ts
+operand inner (lexemes.Sign s ∷ ts) = prefixed inner ts (pre_of s)
 operand inner _ = None
 
 -- an expression of at least this level, with at most so many expressions round one another
@@ -223,8 +263,8 @@ unfoldable pub expression_at : ℕ → ℕ → Parser E
 expression_at zero least ts = None
 expression_at (suc d) least ts = do
   x ← operand (expression_at d) ts
-  climb (expression_at d) least (length x.1) 9 x.0 x.1
+  climb (expression_at d) least (length x.1) tightest x.0 x.1
 
 -- an expression; it has no more expressions round one another than tokens
 unfoldable pub expression : Parser E
-expression ts = expression_at (length ts) 1 ts
+expression ts = expression_at (length ts) disjunction ts

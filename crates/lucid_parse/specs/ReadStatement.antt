@@ -2,7 +2,7 @@
 use Rattle.std.specs.Prelude.{ℕ, zero, suc, if◌then◌else◌, List, [], ◌∷◌, length, codes, Option, Some, None, option_map, is_some, bytes_eq}
 use Rattle.lucid_lex.specs.declared.sign.Sign.TheVariants as signs
 use Rattle.lucid_lex.specs.declared.word.Word.TheVariants as words
-use Rattle.lucid_parse.specs.declared.lexeme.Lexeme.TheVariants as lexemes
+use Rattle.lucid_parse.specs.Lexemes as lexemes
 use Rattle.lucid_tree.specs.declared.tree.E.{E}
 use Rattle.lucid_tree.specs.declared.tree.V.{V}
 use Rattle.lucid_tree.specs.declared.tree.V.TheVariants as v
@@ -11,7 +11,8 @@ use Rattle.lucid_tree.specs.declared.tree.S.TheVariants as s
 use Rattle.lucid_tree.specs.declared.tree.C.{C, roll-C}
 use Rattle.lucid_tree.specs.declared.tree.No.{No}
 use Rattle.lucid_tree.specs.declared.tree.No.TheVariants as n
-use Rattle.lucid_parse.specs.Reader.{Text, Outcome, Parser, ◌>>=◌, after, after_word, name, repeat, separated, typed_name}
+use Rattle.lucid_parse.specs.Operators.{disjunction}
+use Rattle.lucid_parse.specs.Reader.{Text, Outcome, Parser, ◌>>=◌, after, after_word, after_name, name, number, repeat, separated, some, typed_name}
 use Rattle.lucid_parse.specs.ReadExpression.{expression, expression_at, arguments, array_call}
 
 -- what a call is given, behind its open parenthesis
@@ -109,7 +110,7 @@ generated ts = do
 
 abbrev pub operands_on : Text → Option Text → Outcome (List E)
 operands_on ts None = Some ([], ts)
-operands_on ts (Some r) = separated (expression_at (length r) 1) r
+operands_on ts (Some r) = separated (expression_at (length r) disjunction) r
 
 -- expressions, each behind a comma
 unfoldable pub operands : Parser (List E)
@@ -178,8 +179,11 @@ choice_within inner ts = do
 
 -- what begins a case, up to its block
 unfoldable pub case_head : Text → Option (ℕ × Text)
-case_head (lexemes.Sign signs.Or ∷ lexemes.Number m ∷ lexemes.Sign signs.Arrow ∷ ts) = Some (m, ts)
-case_head _ = None
+case_head ts = do
+  r ← after signs.Or ts
+  m ← number r
+  q ← after signs.Arrow m.1
+  Some (m.0, q)
 
 abbrev pub case_body : Parser S → ℕ × Text → Outcome (ℕ × List S)
 case_body item h = do
@@ -194,8 +198,10 @@ cases item ts = repeat (one_case item) (length ts) [] ts
 
 -- what begins the last arm, up to its block
 unfoldable pub last_head : Text → Option Text
-last_head (lexemes.Sign signs.Or ∷ lexemes.Name m ∷ lexemes.Sign signs.Arrow ∷ ts) = if bytes_eq m (codes "_") then Some ts else None
-last_head _ = None
+last_head ts = do
+  r ← after signs.Or ts
+  q ← after_name (codes "_") r
+  after signs.Arrow q
 
 abbrev pub last_on : Parser S → Text → Option Text → Outcome (Option (List S))
 last_on item ts None = Some (None, ts)
@@ -206,18 +212,13 @@ last_on item ts (Some r) = do
 unfoldable pub last_arm : Parser S → Parser (Option (List S))
 last_arm item ts = last_on item ts (last_head ts)
 
--- at least one
-abbrev pub some_cases : List (ℕ × List S) → Option (List (ℕ × List S))
-some_cases [] = None
-some_cases (c ∷ cs) = Some (c ∷ cs)
-
 -- behind `match`
 unfoldable pub matched : Parser S → Parser S
 matched item ts = do
   x ← expression ts
   r ← after_word words.With x.1
   cs ← cases item r
-  all ← some_cases cs.0
+  all ← some cs.0
   l ← last_arm item cs.1
   Some (s.Match x.0 all l.0, l.1)
 

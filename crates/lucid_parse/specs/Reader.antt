@@ -1,7 +1,6 @@
 -- How tokens are read in: a reading takes a part off the front of a list of lexemes. What the parser's functions give is
 -- what the readings of this file and of its siblings give; that these read exactly what is spelled is a law.
 use Rattle.std.specs.Prelude.{◌≡◌, ℕ, zero, suc, Bool, true, false, if◌then◌else◌, List, [], ◌∷◌, ◌++◌, length, codes, Option, Some, None, option_map, Result, Ok, Err, bytes_eq}
-use Rattle.std.specs.Borrow.{Bor}
 use denote.Enum.Bare.{sameb}
 use Rattle.lucid_lex.specs.declared.sign.Sign.{Sign}
 use Rattle.lucid_lex.specs.declared.sign.Sign.TheVariants as signs
@@ -11,8 +10,10 @@ use Rattle.lucid_lex.specs.contracts.sign.Sign as sign_type
 use Rattle.lucid_lex.specs.contracts.word.Word as word_type
 use Rattle.lucid_parse.specs.declared.error.Stop.{Stop}
 use Rattle.lucid_parse.specs.declared.error.Stop.TheVariants as stops
-use Rattle.lucid_parse.specs.declared.lexeme.Lexeme.{Lexeme}
-use Rattle.lucid_parse.specs.declared.lexeme.Lexeme.TheVariants as lexemes
+use Rattle.lucid_parse.specs.Lexemes.{Lexeme}
+use Rattle.lucid_parse.specs.Lexemes as lexemes
+use Rattle.lucid_parse.specs.declared.rest.Tokens.{Tokens}
+use Rattle.lucid_parse.specs.Tokens.{said}
 use Rattle.lucid_tree.specs.declared.tree.Ty.{Ty}
 use Rattle.lucid_tree.specs.declared.tree.Ty.TheVariants as types
 
@@ -37,8 +38,8 @@ abbrev pub Fails : {X : Type 0} → Stop → Option X → Type 0
 Fails stops.NoTree o = o ≡ None
 Fails stops.Memory o = Unit {0}
 
-abbrev pub Reads : {A : Type 0} → Result (A × Bor Text) Stop → Outcome A → Type 0
-Reads (Ok x) o = o ≡ Some (x.0, x.1.now)
+abbrev pub Reads : {A : Type 0} → Result (A × Tokens) Stop → Outcome A → Type 0
+Reads (Ok x) o = o ≡ Some (x.0, said x.1)
 Reads (Err e) o = Fails e o
 
 -- the same for what is made of parts that are read
@@ -47,8 +48,8 @@ Gives (Ok x) o = o ≡ Some x
 Gives (Err e) o = Fails e o
 
 -- the same for what is passed over
-abbrev pub Leaves : Result (Bor Text) Stop → Option Text → Type 0
-Leaves (Ok x) o = o ≡ Some x.now
+abbrev pub Leaves : Result Tokens Stop → Option Text → Type 0
+Leaves (Ok x) o = o ≡ Some (said x)
 Leaves (Err e) o = Fails e o
 
 -- ---- single tokens
@@ -96,6 +97,11 @@ unfoldable pub separated : {A : Type 0} → Parser A → Parser (List A)
 separated item ts = do
   x ← item ts
   repeat (after_comma item) (length x.1) (x.0 ∷ []) x.1
+
+-- the list, where it isn't empty
+abbrev pub some : {A : Type 0} → List A → Option (List A)
+some [] = None
+some (x ∷ xs) = Some (x ∷ xs)
 
 -- ---- types
 

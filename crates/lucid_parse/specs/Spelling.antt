@@ -7,8 +7,8 @@ use Rattle.lucid_lex.specs.declared.sign.Sign.{Sign}
 use Rattle.lucid_lex.specs.declared.sign.Sign.TheVariants as signs
 use Rattle.lucid_lex.specs.declared.word.Word.{Word}
 use Rattle.lucid_lex.specs.declared.word.Word.TheVariants as words
-use Rattle.lucid_parse.specs.declared.lexeme.Lexeme.{Lexeme}
-use Rattle.lucid_parse.specs.declared.lexeme.Lexeme.TheVariants as lexemes
+use Rattle.lucid_parse.specs.Lexemes.{Lexeme}
+use Rattle.lucid_parse.specs.Lexemes as lexemes
 use Rattle.lucid_tree.specs.declared.tree.E.{E, fold-E}
 use Rattle.lucid_tree.specs.declared.tree.A.{A, fold-A}
 use Rattle.lucid_tree.specs.declared.tree.A.TheOpen.{A-F, E-F}
@@ -28,7 +28,7 @@ use Rattle.lucid_tree.specs.declared.tree.Decl.{Decl}
 use Rattle.lucid_tree.specs.declared.tree.DeclKind.{DeclKind}
 use Rattle.lucid_tree.specs.declared.tree.DeclKind.TheVariants as d
 use Rattle.lucid_tree.specs.declared.tree.Tree.{Tree}
-use Rattle.lucid_parse.specs.Operators.{pre_sign, infix_sign, level, left_level}
+use Rattle.lucid_parse.specs.Operators.{pre_sign, infix_sign, disjunction, shift, tightest, level, left_level}
 
 abbrev pub Text : Type 0
 Text = List Lexeme
@@ -126,52 +126,55 @@ spelled = fold-E Spelled Spelled spelled_A spelled_E
 
 -- ---- which expressions the grammar builds
 
--- all of these bind at least so tightly
+-- whether a part of this level may stand in a place for an expression
+abbrev pub binds : ℕ → Bool
+binds l = nat_le disjunction l
+
 abbrev pub all_bind : List ℕ → Bool
-all_bind ls = list_all (λ l. nat_le 1 l) ls
+all_bind ls = list_all binds ls
+
+-- whether there is one at least
+abbrev pub is_some : {X : Type 0} → List X → Bool
+is_some [] = false
+is_some (x ∷ xs) = true
 
 -- the level, where the operands are as the grammar has them
 abbrev pub level_if : Bool → ℕ → ℕ
 level_if b l = if b then l else 0
 
 abbrev pub level_A : A-F ℕ ℕ → ℕ
-level_A (A-F.Get n i) = level_if (nat_le 1 i) 9
-level_A (A-F.Set n i x) = level_if (nat_le 1 i && nat_le 1 x) 9
-level_A (A-F.Getm n i m x) = level_if (nat_le 1 i && nat_le 1 x) 9
-level_A (A-F.Setm n i m x) = level_if (nat_le 1 i && nat_le 1 x) 9
-level_A (A-F.Update n i g x s y) = level_if (nat_le 1 i && (nat_le 1 x && nat_le 1 y)) 9
-
--- at least one, each of them built
-abbrev pub some_bind : List ℕ → Bool
-some_bind [] = false
-some_bind (l ∷ ls) = all_bind (l ∷ ls)
+level_A (A-F.Get n i) = level_if (binds i) tightest
+level_A (A-F.Set n i x) = level_if (binds i && binds x) tightest
+level_A (A-F.Getm n i m x) = level_if (binds i && binds x) tightest
+level_A (A-F.Setm n i m x) = level_if (binds i && binds x) tightest
+level_A (A-F.Update n i g x s y) = level_if (binds i && (binds x && binds y)) tightest
 
 abbrev pub level_E : E-F ℕ ℕ → ℕ
-level_E (E-F.Number n) = 9
-level_E (E-F.Truth b) = 9
-level_E E-F.Me = 9
-level_E E-F.Time = 9
-level_E (E-F.Hash w ls) = level_if (some_bind ls) 9
-level_E (E-F.Name n) = 9
-level_E (E-F.Call n ls) = level_if (all_bind ls) 9
+level_E (E-F.Number n) = tightest
+level_E (E-F.Truth b) = tightest
+level_E E-F.Me = tightest
+level_E E-F.Time = tightest
+level_E (E-F.Hash w ls) = level_if (is_some ls && all_bind ls) tightest
+level_E (E-F.Name n) = tightest
+level_E (E-F.Call n ls) = level_if (all_bind ls) tightest
 level_E (E-F.Array l) = l
-level_E (E-F.Paren l) = level_if (nat_le 1 l) 9
-level_E (E-F.Prefix op l) = level_if (nat_le 9 l) 9
-level_E (E-F.Cast w l) = level_if (nat_le 9 l) 9
-level_E (E-F.Shift l up n) = level_if (nat_le 7 l) 7
+level_E (E-F.Paren l) = level_if (binds l) tightest
+level_E (E-F.Prefix op l) = level_if (nat_le tightest l) tightest
+level_E (E-F.Cast w l) = level_if (nat_le tightest l) tightest
+level_E (E-F.Shift l up n) = level_if (nat_le shift l) shift
 level_E (E-F.Infix op l m) = level_if (nat_le (left_level op) l && nat_le (level op + 1) m) (level op)
 
 abbrev pub array_level : A → ℕ
 array_level = fold-A ℕ ℕ level_A level_E
 
--- How tightly an expression binds: 1 to 9, and 0 where the grammar doesn't build it, since an operand of a looser level
+-- How tightly an expression binds, and 0 where the grammar doesn't build it, since an operand of a looser level
 -- has no parentheses round it.
 abbrev pub level_of : E → ℕ
 level_of = fold-E ℕ ℕ level_A level_E
 
 -- a place for an expression
 abbrev pub is_built : E → Bool
-is_built x = nat_le 1 (level_of x)
+is_built x = binds (level_of x)
 
 abbrev pub all_built : List E → Bool
 all_built xs = list_all is_built xs
@@ -249,11 +252,6 @@ all_true bs = list_all (λ b. b) bs
 abbrev pub cases_built : List (ℕ × List Bool) → Bool
 cases_built cs = list_all (λ c. all_true c.1) cs
 
--- at least one case
-abbrev pub some_cases_built : List (ℕ × List Bool) → Bool
-some_cases_built [] = false
-some_cases_built (c ∷ cs) = cases_built (c ∷ cs)
-
 abbrev pub last_built : Option (List Bool) → Bool
 last_built None = true
 last_built (Some bs) = all_true bs
@@ -271,12 +269,12 @@ abbrev pub built_S : S-F Bool Bool Bool → Bool
 built_S (S-F.Declare t n x) = is_built x
 built_S (S-F.Assign n x) = is_built x
 built_S (S-F.Call n xs) = all_built xs
-built_S (S-F.Array x) = nat_le 1 (array_level x)
+built_S (S-F.Array x) = binds (array_level x)
 built_S (S-F.«S::Cond» b) = b
 built_S (S-F.Return x) = returned_built x
 built_S (S-F.Generate v) = event_built v
 built_S (S-F.Printf t xs) = all_built xs
-built_S (S-F.Match x cs last) = is_built x && (some_cases_built cs && last_built last)
+built_S (S-F.Match x cs last) = is_built x && ((is_some cs && cases_built cs) && last_built last)
 
 abbrev pub built_C : C-F Bool Bool Bool → Bool
 built_C c = is_built c.test && (all_true c.yes && c.no)
@@ -324,11 +322,6 @@ declaration (d.Handle n ps ss) r = word words.Handle (name n (parameters ps (bod
 declaration (d.Fun t n ps ss) r = word words.Fun (answer t (name n (parameters ps (body ss r))))
 declaration (d.Group n ms) r = word words.Group (name n (sign signs.Equal (in_braces (with_commas (map number ms)) (sign signs.Semicolon r))))
 
--- at least one number
-abbrev pub is_some_number : List ℕ → Bool
-is_some_number [] = false
-is_some_number (n ∷ ns) = true
-
 abbrev pub body_built : List S → Bool
 body_built ss = list_all statement_built ss
 
@@ -340,7 +333,7 @@ declaration_built (d.Memop n first second ss) = body_built ss
 declaration_built (d.Event n ps) = true
 declaration_built (d.Handle n ps ss) = body_built ss
 declaration_built (d.Fun t n ps ss) = body_built ss
-declaration_built (d.Group n ms) = is_some_number ms
+declaration_built (d.Group n ms) = is_some ms
 
 -- the tokens of declarations one behind another, and of the rest
 abbrev pub declarations : List Decl → Spelled
@@ -350,6 +343,10 @@ declarations ds r = all_of (map (λ x. declaration x.kind) ds) r
 abbrev pub spell : Tree → Text
 spell t = declarations t.decls []
 
+-- the grammar builds all these declarations
+abbrev pub all_written : List Decl → Bool
+all_written ds = list_all (λ x. declaration_built x.kind) ds
+
 -- the grammar builds the tree
 abbrev pub IsWritten : Tree → Type 0
-IsWritten t = IsTrue (list_all (λ x. declaration_built x.kind) t.decls)
+IsWritten t = IsTrue (all_written t.decls)

@@ -1,47 +1,49 @@
 // Declarations and their parameters.
 ghost use Rattle.lucid_parse.specs.Reader as reader;
 ghost use Rattle.lucid_parse.specs.Reader.{Reads, separated};
+ghost use Rattle.lucid_parse.specs.Tokens.{said};
 ghost use Rattle.lucid_parse.specs.ReadDeclaration as spec;
 
 use crate::error::Stop;
-use crate::lexeme::Lexeme;
 use crate::parts::{
     after, array_type, expect, expect_name, expect_word, name, number, ty, typed_name,
 };
+use crate::rest::Tokens;
 use crate::statement::body;
-use lucid_base::Items;
+use crate::tokens::Lexeme;
+use lucid_base::{Id, Items};
 use lucid_lex::{Sign, Word};
 use lucid_tree::{DeclKind, P, Size, Ty};
 use std::alloc::Global;
 
 #[tactic(auto, unfolding(crate::specs::ReadDeclaration::declaration))]
-pub(crate) fn declaration(alloc: Global, lexemes: &[Lexeme]) -> Result<(DeclKind, &[Lexeme]), Stop>
-    ensures { Reads result (spec.declaration lexemes.now) }
+pub(crate) fn declaration(alloc: Global, tokens: Tokens) -> Result<(DeclKind, Tokens), Stop>
+    ensures { Reads result (spec.declaration (said tokens.entry)) }
 {
-    match lexemes {
-        [Lexeme::Word(Word::Const), rest @ ..] => constant(alloc, rest),
-        [Lexeme::Word(Word::Global), rest @ ..] => global_array(alloc, rest),
-        [Lexeme::Word(Word::Memop), rest @ ..] => memop(alloc, rest),
-        [Lexeme::Word(Word::Event), rest @ ..] => event_declared(alloc, rest),
-        [Lexeme::Word(Word::Handle), rest @ ..] => handler(alloc, rest),
-        [Lexeme::Word(Word::Fun), rest @ ..] => function(alloc, rest),
-        [Lexeme::Word(Word::Group), rest @ ..] => group(alloc, rest),
+    match tokens.split() {
+        Some((Lexeme::Word(Word::Const), rest)) => constant(alloc, rest),
+        Some((Lexeme::Word(Word::Global), rest)) => global_array(alloc, rest),
+        Some((Lexeme::Word(Word::Memop), rest)) => memop(alloc, rest),
+        Some((Lexeme::Word(Word::Event), rest)) => event_declared(alloc, rest),
+        Some((Lexeme::Word(Word::Handle), rest)) => handler(alloc, rest),
+        Some((Lexeme::Word(Word::Fun), rest)) => function(alloc, rest),
+        Some((Lexeme::Word(Word::Group), rest)) => group(alloc, rest),
         _ => Err(Stop::NoTree),
     }
 }
 
 #[tactic(auto, unfolding(crate::specs::ReadDeclaration::parameter))]
-fn parameter(alloc: Global, lexemes: &[Lexeme]) -> Result<(P, &[Lexeme]), Stop>
-    ensures { Reads result (spec.parameter lexemes.now) }
+fn parameter(alloc: Global, tokens: Tokens) -> Result<(P, Tokens), Stop>
+    ensures { Reads result (spec.parameter (said tokens.entry)) }
 {
-    match lexemes {
-        [Lexeme::Word(Word::ArrayCalls), rest @ ..] => {
+    match tokens.split() {
+        Some((Lexeme::Word(Word::ArrayCalls), rest)) => {
             let ((short, width), rest) = array_type(rest)?;
             let (name, rest) = name(alloc, rest)?;
             Ok((P::Array { short, width, name }, rest))
         }
         _ => {
-            let ((ty, name), rest) = typed_name(alloc, lexemes)?;
+            let ((ty, name), rest) = typed_name(alloc, tokens)?;
             Ok((P::Value(ty, name), rest))
         }
     }
@@ -49,10 +51,10 @@ fn parameter(alloc: Global, lexemes: &[Lexeme]) -> Result<(P, &[Lexeme]), Stop>
 
 /// Parameters with commas between them.
 #[tactic(auto, unfolding(crate::specs::Reader::separated, crate::specs::Reader::repeat))]
-fn some_parameters(alloc: Global, lexemes: &[Lexeme]) -> Result<(Items<P>, &[Lexeme]), Stop>
-    ensures { Reads result (separated spec.parameter lexemes.now) }
+fn some_parameters(alloc: Global, tokens: Tokens) -> Result<(Items<P>, Tokens), Stop>
+    ensures { Reads result (separated spec.parameter (said tokens.entry)) }
 {
-    let (first, mut rest) = parameter(alloc, lexemes)?;
+    let (first, mut rest) = parameter(alloc, tokens)?;
     let mut all = Items::new(alloc);
     all.push(first)?;
     for _turn in 0..rest.len() {
@@ -70,10 +72,10 @@ fn some_parameters(alloc: Global, lexemes: &[Lexeme]) -> Result<(Items<P>, &[Lex
 
 /// Parameters in parentheses.
 #[tactic(auto, unfolding(crate::specs::ReadDeclaration::parameters))]
-fn parameters(alloc: Global, lexemes: &[Lexeme]) -> Result<(Items<P>, &[Lexeme]), Stop>
-    ensures { Reads result (spec.parameters lexemes.now) }
+fn parameters(alloc: Global, tokens: Tokens) -> Result<(Items<P>, Tokens), Stop>
+    ensures { Reads result (spec.parameters (said tokens.entry)) }
 {
-    let rest = expect(Sign::OpenParen, lexemes)?;
+    let rest = expect(Sign::OpenParen, tokens)?;
     match after(Sign::CloseParen, rest) {
         Some(rest) => Ok((Items::new(alloc), rest)),
         None => {
@@ -85,10 +87,10 @@ fn parameters(alloc: Global, lexemes: &[Lexeme]) -> Result<(Items<P>, &[Lexeme])
 }
 
 #[tactic(auto, unfolding(crate::specs::ReadDeclaration::constant))]
-fn constant(alloc: Global, lexemes: &[Lexeme]) -> Result<(DeclKind, &[Lexeme]), Stop>
-    ensures { Reads result (spec.constant lexemes.now) }
+fn constant(alloc: Global, tokens: Tokens) -> Result<(DeclKind, Tokens), Stop>
+    ensures { Reads result (spec.constant (said tokens.entry)) }
 {
-    let ((ty, name), rest) = typed_name(alloc, lexemes)?;
+    let ((ty, name), rest) = typed_name(alloc, tokens)?;
     let rest = expect(Sign::Equal, rest)?;
     let (value, rest) = number(rest)?;
     let rest = expect(Sign::Semicolon, rest)?;
@@ -96,22 +98,22 @@ fn constant(alloc: Global, lexemes: &[Lexeme]) -> Result<(DeclKind, &[Lexeme]), 
 }
 
 #[tactic(auto, unfolding(crate::specs::ReadDeclaration::size))]
-fn array_size(alloc: Global, lexemes: &[Lexeme]) -> Result<(Size, &[Lexeme]), Stop>
-    ensures { Reads result (spec.size lexemes.now) }
+fn array_size(alloc: Global, tokens: Tokens) -> Result<(Size, Tokens), Stop>
+    ensures { Reads result (spec.size (said tokens.entry)) }
 {
-    match lexemes {
-        [Lexeme::Number(n), rest @ ..] => Ok((Size::Number(*n), rest)),
-        [Lexeme::Name(name), rest @ ..] => Ok((Size::Named(name.copy(alloc)?), rest)),
+    match tokens.split() {
+        Some((Lexeme::Number(n), rest)) => Ok((Size::Number(n), rest)),
+        Some((Lexeme::Name(name), rest)) => Ok((Size::Named(Id::new(alloc, name.bytes)?), rest)),
         _ => Err(Stop::NoTree),
     }
 }
 
 /// `Array.create(SIZE);`
 #[tactic(auto, unfolding(crate::specs::ReadDeclaration::created))]
-fn created(alloc: Global, lexemes: &[Lexeme]) -> Result<(Size, &[Lexeme]), Stop>
-    ensures { Reads result (spec.created lexemes.now) }
+fn created(alloc: Global, tokens: Tokens) -> Result<(Size, Tokens), Stop>
+    ensures { Reads result (spec.created (said tokens.entry)) }
 {
-    let rest = expect_word(Word::ArrayCalls, lexemes)?;
+    let rest = expect_word(Word::ArrayCalls, tokens)?;
     let rest = expect(Sign::Dot, rest)?;
     let rest = expect_name(b"create", rest)?;
     let rest = expect(Sign::OpenParen, rest)?;
@@ -122,10 +124,10 @@ fn created(alloc: Global, lexemes: &[Lexeme]) -> Result<(Size, &[Lexeme]), Stop>
 }
 
 #[tactic(auto, unfolding(crate::specs::ReadDeclaration::global_array))]
-fn global_array(alloc: Global, lexemes: &[Lexeme]) -> Result<(DeclKind, &[Lexeme]), Stop>
-    ensures { Reads result (spec.global_array lexemes.now) }
+fn global_array(alloc: Global, tokens: Tokens) -> Result<(DeclKind, Tokens), Stop>
+    ensures { Reads result (spec.global_array (said tokens.entry)) }
 {
-    let rest = expect_word(Word::ArrayCalls, lexemes)?;
+    let rest = expect_word(Word::ArrayCalls, tokens)?;
     let ((short, width), rest) = array_type(rest)?;
     let (name, rest) = name(alloc, rest)?;
     let rest = expect(Sign::Equal, rest)?;
@@ -142,10 +144,10 @@ fn global_array(alloc: Global, lexemes: &[Lexeme]) -> Result<(DeclKind, &[Lexeme
 }
 
 #[tactic(auto, unfolding(crate::specs::ReadDeclaration::memop))]
-fn memop(alloc: Global, lexemes: &[Lexeme]) -> Result<(DeclKind, &[Lexeme]), Stop>
-    ensures { Reads result (spec.memop lexemes.now) }
+fn memop(alloc: Global, tokens: Tokens) -> Result<(DeclKind, Tokens), Stop>
+    ensures { Reads result (spec.memop (said tokens.entry)) }
 {
-    let (name, rest) = name(alloc, lexemes)?;
+    let (name, rest) = name(alloc, tokens)?;
     let rest = expect(Sign::OpenParen, rest)?;
     let (first, rest) = typed_name(alloc, rest)?;
     let rest = expect(Sign::Comma, rest)?;
@@ -164,20 +166,20 @@ fn memop(alloc: Global, lexemes: &[Lexeme]) -> Result<(DeclKind, &[Lexeme]), Sto
 }
 
 #[tactic(auto, unfolding(crate::specs::ReadDeclaration::event_declared))]
-fn event_declared(alloc: Global, lexemes: &[Lexeme]) -> Result<(DeclKind, &[Lexeme]), Stop>
-    ensures { Reads result (spec.event_declared lexemes.now) }
+fn event_declared(alloc: Global, tokens: Tokens) -> Result<(DeclKind, Tokens), Stop>
+    ensures { Reads result (spec.event_declared (said tokens.entry)) }
 {
-    let (name, rest) = name(alloc, lexemes)?;
+    let (name, rest) = name(alloc, tokens)?;
     let (params, rest) = parameters(alloc, rest)?;
     let rest = expect(Sign::Semicolon, rest)?;
     Ok((DeclKind::Event { name, params }, rest))
 }
 
 #[tactic(auto, unfolding(crate::specs::ReadDeclaration::handler))]
-fn handler(alloc: Global, lexemes: &[Lexeme]) -> Result<(DeclKind, &[Lexeme]), Stop>
-    ensures { Reads result (spec.handler lexemes.now) }
+fn handler(alloc: Global, tokens: Tokens) -> Result<(DeclKind, Tokens), Stop>
+    ensures { Reads result (spec.handler (said tokens.entry)) }
 {
-    let (name, rest) = name(alloc, lexemes)?;
+    let (name, rest) = name(alloc, tokens)?;
     let (params, rest) = parameters(alloc, rest)?;
     let (body, rest) = body(alloc, rest)?;
     Ok((DeclKind::Handle { name, params, body }, rest))
@@ -185,23 +187,23 @@ fn handler(alloc: Global, lexemes: &[Lexeme]) -> Result<(DeclKind, &[Lexeme]), S
 
 /// The type of a function's answer, or `void`.
 #[tactic(auto, unfolding(crate::specs::ReadDeclaration::answer))]
-fn answer(lexemes: &[Lexeme]) -> Result<(Option<Ty>, &[Lexeme]), Stop>
-    ensures { Reads result (spec.answer lexemes.now) }
+fn answer(tokens: Tokens) -> Result<(Option<Ty>, Tokens), Stop>
+    ensures { Reads result (spec.answer (said tokens.entry)) }
 {
-    match lexemes {
-        [Lexeme::Word(Word::Void), rest @ ..] => Ok((None, rest)),
+    match tokens.split() {
+        Some((Lexeme::Word(Word::Void), rest)) => Ok((None, rest)),
         _ => {
-            let (ty, rest) = ty(lexemes)?;
+            let (ty, rest) = ty(tokens)?;
             Ok((Some(ty), rest))
         }
     }
 }
 
 #[tactic(auto, unfolding(crate::specs::ReadDeclaration::function))]
-fn function(alloc: Global, lexemes: &[Lexeme]) -> Result<(DeclKind, &[Lexeme]), Stop>
-    ensures { Reads result (spec.function lexemes.now) }
+fn function(alloc: Global, tokens: Tokens) -> Result<(DeclKind, Tokens), Stop>
+    ensures { Reads result (spec.function (said tokens.entry)) }
 {
-    let (answer, rest) = answer(lexemes)?;
+    let (answer, rest) = answer(tokens)?;
     let (name, rest) = name(alloc, rest)?;
     let (params, rest) = parameters(alloc, rest)?;
     let (body, rest) = body(alloc, rest)?;
@@ -218,10 +220,10 @@ fn function(alloc: Global, lexemes: &[Lexeme]) -> Result<(DeclKind, &[Lexeme]), 
 
 /// Numbers with commas between them.
 #[tactic(auto, unfolding(crate::specs::Reader::separated, crate::specs::Reader::repeat))]
-fn numbers(alloc: Global, lexemes: &[Lexeme]) -> Result<(Items<u64>, &[Lexeme]), Stop>
-    ensures { Reads result (separated reader.number lexemes.now) }
+fn numbers(alloc: Global, tokens: Tokens) -> Result<(Items<u64>, Tokens), Stop>
+    ensures { Reads result (separated reader.number (said tokens.entry)) }
 {
-    let (first, mut rest) = number(lexemes)?;
+    let (first, mut rest) = number(tokens)?;
     let mut all = Items::new(alloc);
     all.push(first)?;
     for _turn in 0..rest.len() {
@@ -238,10 +240,10 @@ fn numbers(alloc: Global, lexemes: &[Lexeme]) -> Result<(Items<u64>, &[Lexeme]),
 }
 
 #[tactic(auto, unfolding(crate::specs::ReadDeclaration::group))]
-fn group(alloc: Global, lexemes: &[Lexeme]) -> Result<(DeclKind, &[Lexeme]), Stop>
-    ensures { Reads result (spec.group lexemes.now) }
+fn group(alloc: Global, tokens: Tokens) -> Result<(DeclKind, Tokens), Stop>
+    ensures { Reads result (spec.group (said tokens.entry)) }
 {
-    let (name, rest) = name(alloc, lexemes)?;
+    let (name, rest) = name(alloc, tokens)?;
     let rest = expect(Sign::Equal, rest)?;
     let rest = expect(Sign::OpenBrace, rest)?;
     let (members, rest) = numbers(alloc, rest)?;

@@ -55,17 +55,6 @@ impl<T: Drop> From<AllocFailed<T>> for Stop {
     }
 }
 
-impl From<Memory> for ParseError {
-    ghost use Rattle.std.specs.Prelude.{◌≡◌};
-    ghost use Rattle.lucid_parse.specs.declared.error.ParseError.TheVariants as errors;
-
-    ghost from_gives = { λ _ e. e ≡ errors.Memory };
-
-    fn from(_memory: Memory) -> ParseError {
-        ParseError::Memory
-    }
-}
-
 impl From<AllocError> for ParseError {
     ghost use Rattle.std.specs.Prelude.{◌≡◌};
     ghost use Rattle.lucid_parse.specs.declared.error.ParseError.TheVariants as errors;

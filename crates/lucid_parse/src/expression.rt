@@ -1,36 +1,28 @@
 // Expressions, by how tightly their signs bind. `depth` bounds how many expressions stand round one another; where it is the
-// number of the lexemes, it never runs out, and the limits on nesting, which are tried before, bound the recursion by far less.
+// number of the tokens, it never runs out, and the limits on nesting, which are tried before, bound the recursion by far less.
 ghost use Rattle.std.specs.Prelude.{◌≡◌};
 ghost use Rattle.lucid_parse.specs.Reader.{Reads, Leaves, separated};
+ghost use Rattle.lucid_parse.specs.Tokens.{said};
+ghost use Rattle.lucid_parse.specs.Operators.{disjunction};
 ghost use Rattle.lucid_parse.specs.ReadExpression as spec;
 
+use crate::array::{array_method, array_of};
+use crate::ascii::Ascii;
 use crate::error::Stop;
-use crate::lexeme::Lexeme;
-use crate::operator::{Next, next_within, right_level};
-use crate::parts::{after, expect, expect_name, name, width, width_if};
+use crate::operator::{DISJUNCTION, Next, TIGHTEST, next_within, pre_of, right_level};
+use crate::parts::{after, expect, expect_name, some, width, width_if};
+use crate::rest::Tokens;
+use crate::tokens::Lexeme;
 use lucid_base::{Boxed, Id, Items};
 use lucid_lex::{Sign, Word};
-use lucid_tree::{A, E, Pre};
+use lucid_tree::E;
 use std::alloc::Global;
 
-/// The level of an operand by itself.
-const TIGHTEST: u8 = 9;
-
-/// A call on an array.
-#[derive(Clone, Copy)]
-pub(crate) enum Method {
-    Get,
-    Set,
-    Getm,
-    Setm,
-    Update,
-}
-
 #[tactic(auto, unfolding(crate::specs::ReadExpression::expression))]
-pub(crate) fn expression(alloc: Global, lexemes: &[Lexeme]) -> Result<(E, &[Lexeme]), Stop>
-    ensures { Reads result (spec.expression lexemes.now) }
+pub(crate) fn expression(alloc: Global, tokens: Tokens) -> Result<(E, Tokens), Stop>
+    ensures { Reads result (spec.expression (said tokens.entry)) }
 {
-    expression_at(alloc, lexemes.len(), 1, lexemes)
+    expression_at(alloc, tokens.len(), DISJUNCTION, tokens)
 }
 
 /// An expression of at least this level.
@@ -40,14 +32,14 @@ pub(crate) fn expression_at(
     alloc: Global,
     depth: usize,
     least: u8,
-    lexemes: &[Lexeme],
-) -> Result<(E, &[Lexeme]), Stop>
-    ensures { Reads result (spec.expression_at depth least lexemes.now) }
+    tokens: Tokens,
+) -> Result<(E, Tokens), Stop>
+    ensures { Reads result (spec.expression_at depth least (said tokens.entry)) }
 {
     if depth == 0 {
         return Err(Stop::NoTree);
     }
-    let (mut left, mut rest) = operand(alloc, depth - 1, lexemes)?;
+    let (mut left, mut rest) = operand(alloc, depth - 1, tokens)?;
     let mut tight = TIGHTEST;
     for _turn in 0..rest.len() {
         match next_within(least, tight, rest) {
@@ -70,45 +62,55 @@ fn grown(
     depth: usize,
     left: E,
     next: Next,
-    lexemes: &[Lexeme],
-) -> Result<(E, &[Lexeme]), Stop>
-    ensures { Reads result (spec.grown (spec.expression_at depth) left next lexemes.now) }
+    tokens: Tokens,
+) -> Result<(E, Tokens), Stop>
+    ensures { Reads result (spec.grown (spec.expression_at depth) left next (said tokens.entry)) }
 {
     match next {
         Next::Infix(op) => {
-            let (right, rest) = expression_at(alloc, depth, right_level(op), lexemes)?;
+            let (right, rest) = expression_at(alloc, depth, right_level(op), tokens)?;
             let left = Boxed::new(alloc, left)?;
             let right = Boxed::new(alloc, right)?;
             Ok((E::Infix(op, left, right), rest))
         }
-        Next::Shift(up, by) => Ok((E::Shift(Boxed::new(alloc, left)?, up, by), lexemes)),
+        Next::Shift(up, by) => Ok((E::Shift(Boxed::new(alloc, left)?, up, by), tokens)),
     }
 }
 
 #[cycle(expression)]
-#[tactic(auto, unfolding(crate::specs::ReadExpression::operand))]
-fn operand(alloc: Global, depth: usize, lexemes: &[Lexeme]) -> Result<(E, &[Lexeme]), Stop>
-    ensures { Reads result (spec.operand (spec.expression_at depth) lexemes.now) }
+#[tactic(auto, unfolding(crate::specs::ReadExpression::operand, crate::specs::ReadExpression::array_call))]
+fn operand(alloc: Global, depth: usize, tokens: Tokens) -> Result<(E, Tokens), Stop>
+    ensures { Reads result (spec.operand (spec.expression_at depth) (said tokens.entry)) }
 {
-    match lexemes {
-        [Lexeme::Number(n), rest @ ..] => Ok((E::Number(*n), rest)),
-        [Lexeme::Name(name), rest @ ..] => named(alloc, depth, name, rest),
-        [Lexeme::Word(Word::True), rest @ ..] => Ok((E::Truth(true), rest)),
-        [Lexeme::Word(Word::False), rest @ ..] => Ok((E::Truth(false), rest)),
-        [Lexeme::Word(Word::Me), rest @ ..] => Ok((E::Me, rest)),
-        [Lexeme::Word(Word::SysCalls), rest @ ..] => {
+    match tokens.split() {
+        Some((Lexeme::Number(n), rest)) => Ok((E::Number(n), rest)),
+        Some((Lexeme::Name(name), rest)) => named(alloc, depth, name, rest),
+        Some((Lexeme::Word(Word::True), rest)) => Ok((E::Truth(true), rest)),
+        Some((Lexeme::Word(Word::False), rest)) => Ok((E::Truth(false), rest)),
+        Some((Lexeme::Word(Word::Me), rest)) => Ok((E::Me, rest)),
+        Some((Lexeme::Word(Word::SysCalls), rest)) => {
             let rest = expect_time(rest)?;
             Ok((E::Time, rest))
         }
-        [Lexeme::Word(Word::Hash), rest @ ..] => hash(alloc, depth, rest),
-        [Lexeme::Word(Word::ArrayCalls), rest @ ..] => {
-            let (call, rest) = array_call(alloc, depth, rest)?;
+        Some((Lexeme::Word(Word::Hash), rest)) => {
+            let (width, rest) = hash_head(rest)?;
+            let (operands, rest) = arguments(alloc, depth, rest)?;
+            Ok((E::Hash(width, some(operands)?), rest))
+        }
+        Some((Lexeme::Word(Word::ArrayCalls), rest)) => {
+            let (method, rest) = array_method(rest)?;
+            let (given, rest) = arguments(alloc, depth, rest)?;
+            let call = array_of(method, given)?;
             Ok((E::Array(Boxed::new(alloc, call)?), rest))
         }
-        [Lexeme::Sign(Sign::Minus), rest @ ..] => prefixed(alloc, depth, Pre::Minus, rest),
-        [Lexeme::Sign(Sign::Tilde), rest @ ..] => prefixed(alloc, depth, Pre::Tilde, rest),
-        [Lexeme::Sign(Sign::Not), rest @ ..] => prefixed(alloc, depth, Pre::Not, rest),
-        [Lexeme::Sign(Sign::OpenParen), rest @ ..] => in_parens(alloc, depth, rest),
+        Some((Lexeme::Sign(Sign::OpenParen), rest)) => in_parens(alloc, depth, rest),
+        Some((Lexeme::Sign(sign), rest)) => match pre_of(sign) {
+            Some(pre) => {
+                let (operand, rest) = expression_at(alloc, depth, TIGHTEST, rest)?;
+                Ok((E::Prefix(pre, Boxed::new(alloc, operand)?), rest))
+            }
+            None => Err(Stop::NoTree),
+        },
         _ => Err(Stop::NoTree),
     }
 }
@@ -119,16 +121,16 @@ fn operand(alloc: Global, depth: usize, lexemes: &[Lexeme]) -> Result<(E, &[Lexe
 fn named<'a>(
     alloc: Global,
     depth: usize,
-    name: &Id,
-    lexemes: &'a [Lexeme],
-) -> Result<(E, &'a [Lexeme]), Stop>
-    ensures { Reads result (spec.named (spec.expression_at depth) name.now lexemes.now) }
+    name: Ascii<'a>,
+    tokens: Tokens<'a>,
+) -> Result<(E, Tokens<'a>), Stop>
+    ensures { Reads result (spec.named (spec.expression_at depth) name.entry.bytes.now (said tokens.entry)) }
 {
-    match after(Sign::OpenParen, lexemes) {
-        None => Ok((E::Name(name.copy(alloc)?), lexemes)),
+    match after(Sign::OpenParen, tokens) {
+        None => Ok((E::Name(Id::new(alloc, name.bytes)?), tokens)),
         Some(rest) => {
             let (arguments, rest) = arguments(alloc, depth, rest)?;
-            Ok((E::Call(name.copy(alloc)?, arguments), rest))
+            Ok((E::Call(Id::new(alloc, name.bytes)?, arguments), rest))
         }
     }
 }
@@ -139,14 +141,14 @@ fn named<'a>(
 pub(crate) fn arguments(
     alloc: Global,
     depth: usize,
-    lexemes: &[Lexeme],
-) -> Result<(Items<E>, &[Lexeme]), Stop>
-    ensures { Reads result (spec.arguments (spec.expression_at depth) lexemes.now) }
+    tokens: Tokens,
+) -> Result<(Items<E>, Tokens), Stop>
+    ensures { Reads result (spec.arguments (spec.expression_at depth) (said tokens.entry)) }
 {
-    match after(Sign::CloseParen, lexemes) {
+    match after(Sign::CloseParen, tokens) {
         Some(rest) => Ok((Items::new(alloc), rest)),
         None => {
-            let (all, rest) = expressions(alloc, depth, lexemes)?;
+            let (all, rest) = expressions(alloc, depth, tokens)?;
             let rest = expect(Sign::CloseParen, rest)?;
             Ok((all, rest))
         }
@@ -159,18 +161,18 @@ pub(crate) fn arguments(
 pub(crate) fn expressions(
     alloc: Global,
     depth: usize,
-    lexemes: &[Lexeme],
-) -> Result<(Items<E>, &[Lexeme]), Stop>
-    ensures { Reads result (separated (spec.expression_at depth 1) lexemes.now) }
+    tokens: Tokens,
+) -> Result<(Items<E>, Tokens), Stop>
+    ensures { Reads result (separated (spec.expression_at depth disjunction) (said tokens.entry)) }
 {
-    let (first, mut rest) = expression_at(alloc, depth, 1, lexemes)?;
+    let (first, mut rest) = expression_at(alloc, depth, DISJUNCTION, tokens)?;
     let mut all = Items::new(alloc);
     all.push(first)?;
     for _turn in 0..rest.len() {
         match after(Sign::Comma, rest) {
             None => return Ok((all, rest)),
             Some(more) => {
-                let (next, after) = expression_at(alloc, depth, 1, more)?;
+                let (next, after) = expression_at(alloc, depth, DISJUNCTION, more)?;
                 all.push(next)?;
                 rest = after;
             }
@@ -181,167 +183,42 @@ pub(crate) fn expressions(
 
 /// Passes over `.time()`.
 #[tactic(auto, unfolding(crate::specs::ReadExpression::after_time))]
-fn expect_time(lexemes: &[Lexeme]) -> Result<&[Lexeme], Stop>
-    ensures { Leaves result (spec.after_time lexemes.now) }
+fn expect_time(tokens: Tokens) -> Result<Tokens, Stop>
+    ensures { Leaves result (spec.after_time (said tokens.entry)) }
 {
-    let rest = expect(Sign::Dot, lexemes)?;
+    let rest = expect(Sign::Dot, tokens)?;
     let rest = expect_name(b"time", rest)?;
     let rest = expect(Sign::OpenParen, rest)?;
     expect(Sign::CloseParen, rest)
 }
 
-/// Behind `hash`.
-#[cycle(expression)]
-#[tactic(auto, unfolding(crate::specs::ReadExpression::hash))]
-fn hash(alloc: Global, depth: usize, lexemes: &[Lexeme]) -> Result<(E, &[Lexeme]), Stop>
-    ensures { Reads result (spec.hash (spec.expression_at depth) lexemes.now) }
+/// The width of a hash, up to the open parenthesis.
+#[tactic(auto, unfolding(crate::specs::ReadExpression::hash_head))]
+fn hash_head(tokens: Tokens) -> Result<(u64, Tokens), Stop>
+    ensures { Reads result (spec.hash_head (said tokens.entry)) }
 {
-    let (width, rest) = width(lexemes)?;
+    let (width, rest) = width(tokens)?;
     let rest = expect(Sign::OpenParen, rest)?;
-    let (operands, rest) = expressions(alloc, depth, rest)?;
-    let rest = expect(Sign::CloseParen, rest)?;
-    Ok((E::Hash(width, operands), rest))
-}
-
-/// Behind a prefix sign.
-#[cycle(expression)]
-#[tactic(auto, unfolding(crate::specs::ReadExpression::prefixed))]
-fn prefixed(
-    alloc: Global,
-    depth: usize,
-    pre: Pre,
-    lexemes: &[Lexeme],
-) -> Result<(E, &[Lexeme]), Stop>
-    ensures { Reads result (spec.prefixed (spec.expression_at depth) pre lexemes.now) }
-{
-    let (operand, rest) = expression_at(alloc, depth, TIGHTEST, lexemes)?;
-    Ok((E::Prefix(pre, Boxed::new(alloc, operand)?), rest))
+    Ok((width, rest))
 }
 
 /// Behind an open parenthesis: the type of a cast and its operand, or an expression.
 #[cycle(expression)]
 #[tactic(auto, unfolding(crate::specs::ReadExpression::in_parens))]
-fn in_parens(alloc: Global, depth: usize, lexemes: &[Lexeme]) -> Result<(E, &[Lexeme]), Stop>
-    ensures { Reads result (spec.in_parens (spec.expression_at depth) lexemes.now) }
+fn in_parens(alloc: Global, depth: usize, tokens: Tokens) -> Result<(E, Tokens), Stop>
+    ensures { Reads result (spec.in_parens (spec.expression_at depth) (said tokens.entry)) }
 {
-    match lexemes {
-        [Lexeme::Word(Word::Int), rest @ ..] => {
+    match tokens.split() {
+        Some((Lexeme::Word(Word::Int), rest)) => {
             let (width, rest) = width_if(rest)?;
             let rest = expect(Sign::CloseParen, rest)?;
             let (operand, rest) = expression_at(alloc, depth, TIGHTEST, rest)?;
             Ok((E::Cast(width, Boxed::new(alloc, operand)?), rest))
         }
         _ => {
-            let (inner, rest) = expression_at(alloc, depth, 1, lexemes)?;
+            let (inner, rest) = expression_at(alloc, depth, DISJUNCTION, tokens)?;
             let rest = expect(Sign::CloseParen, rest)?;
             Ok((E::Paren(Boxed::new(alloc, inner)?), rest))
         }
     }
-}
-
-fn method_of(bytes: &[u8]) -> Option<Method>
-    ensures { result ≡ spec.method_of bytes.now }
-{
-    if bytes == b"get".as_slice() {
-        Some(Method::Get)
-    } else if bytes == b"set".as_slice() {
-        Some(Method::Set)
-    } else if bytes == b"getm".as_slice() {
-        Some(Method::Getm)
-    } else if bytes == b"setm".as_slice() {
-        Some(Method::Setm)
-    } else if bytes == b"update".as_slice() {
-        Some(Method::Update)
-    } else {
-        None
-    }
-}
-
-/// Behind `Array`, up to the open parenthesis.
-#[tactic(auto, unfolding(crate::specs::ReadExpression::array_method))]
-fn array_method(lexemes: &[Lexeme]) -> Result<(Method, &[Lexeme]), Stop>
-    ensures { Reads result (spec.array_method lexemes.now) }
-{
-    let rest = expect(Sign::Dot, lexemes)?;
-    match rest {
-        [Lexeme::Name(name), rest @ ..] => match method_of(name.bytes()) {
-            Some(method) => {
-                let rest = expect(Sign::OpenParen, rest)?;
-                Ok((method, rest))
-            }
-            None => Err(Stop::NoTree),
-        },
-        _ => Err(Stop::NoTree),
-    }
-}
-
-/// A call on an array, behind `Array`.
-#[cycle(expression)]
-#[tactic(auto, unfolding(crate::specs::ReadExpression::array_call))]
-pub(crate) fn array_call(
-    alloc: Global,
-    depth: usize,
-    lexemes: &[Lexeme],
-) -> Result<(A, &[Lexeme]), Stop>
-    ensures { Reads result (spec.array_call (spec.expression_at depth) lexemes.now) }
-{
-    let (method, rest) = array_method(lexemes)?;
-    let (name, rest) = name(alloc, rest)?;
-    let rest = expect(Sign::Comma, rest)?;
-    let (index, rest) = expression_at(alloc, depth, 1, rest)?;
-    let (call, rest) = array_rest(alloc, depth, name, index, method, rest)?;
-    let rest = expect(Sign::CloseParen, rest)?;
-    Ok((call, rest))
-}
-
-/// What follows the array's name and the index.
-#[cycle(expression)]
-#[tactic(auto, unfolding(crate::specs::ReadExpression::array_rest))]
-fn array_rest(
-    alloc: Global,
-    depth: usize,
-    name: Id,
-    index: E,
-    method: Method,
-    lexemes: &[Lexeme],
-) -> Result<(A, &[Lexeme]), Stop>
-    ensures { Reads result (spec.array_rest (spec.expression_at depth) name index method lexemes.now) }
-{
-    match method {
-        Method::Get => Ok((A::Get(name, index), lexemes)),
-        Method::Set => {
-            let rest = expect(Sign::Comma, lexemes)?;
-            let (value, rest) = expression_at(alloc, depth, 1, rest)?;
-            Ok((A::Set(name, index, value), rest))
-        }
-        Method::Getm => {
-            let ((memop, argument), rest) = memop_part(alloc, depth, lexemes)?;
-            Ok((A::Getm(name, index, memop, argument), rest))
-        }
-        Method::Setm => {
-            let ((memop, argument), rest) = memop_part(alloc, depth, lexemes)?;
-            Ok((A::Setm(name, index, memop, argument), rest))
-        }
-        Method::Update => {
-            let ((get, get_argument), rest) = memop_part(alloc, depth, lexemes)?;
-            let ((set, set_argument), rest) = memop_part(alloc, depth, rest)?;
-            Ok((
-                A::Update(name, index, get, get_argument, set, set_argument),
-                rest,
-            ))
-        }
-    }
-}
-
-/// A memop and its argument, each behind a comma.
-#[cycle(expression)]
-#[tactic(auto, unfolding(crate::specs::ReadExpression::memop_part))]
-fn memop_part(alloc: Global, depth: usize, lexemes: &[Lexeme]) -> Result<((Id, E), &[Lexeme]), Stop>
-    ensures { Reads result (spec.memop_part (spec.expression_at depth) lexemes.now) }
-{
-    let rest = expect(Sign::Comma, lexemes)?;
-    let (memop, rest) = name(alloc, rest)?;
-    let rest = expect(Sign::Comma, rest)?;
-    let (argument, rest) = expression_at(alloc, depth, 1, rest)?;
-    Ok(((memop, argument), rest))
 }

@@ -1,41 +1,43 @@
-// Small parts of the grammar: single tokens, widths and types. Each function takes its part off the front of the lexemes
+// Small parts of the grammar: single tokens, widths and types. Each function takes its part off the front of the tokens
 // and gives the rest with it.
 ghost use Rattle.std.specs.Prelude.{◌≡◌, option_map};
 ghost use Rattle.lucid_parse.specs.Reader as spec;
-ghost use Rattle.lucid_parse.specs.Reader.{Reads, Leaves};
+ghost use Rattle.lucid_parse.specs.Reader.{Reads, Gives, Leaves};
+ghost use Rattle.lucid_parse.specs.Tokens.{said};
 
 use crate::error::Stop;
-use crate::lexeme::Lexeme;
-use lucid_base::Id;
+use crate::rest::Tokens;
+use crate::tokens::Lexeme;
+use lucid_base::{Id, Items};
 use lucid_lex::{Sign, Word};
 use lucid_tree::Ty;
 use std::alloc::Global;
 
-/// What follows the sign, where the lexemes begin with it.
-pub(crate) fn after(sign: Sign, lexemes: &[Lexeme]) -> Option<&[Lexeme]>
-    ensures { option_map (λ rest. rest.now) result ≡ spec.after sign lexemes.now }
+/// What follows the sign, where the tokens begin with it.
+pub(crate) fn after(sign: Sign, tokens: Tokens) -> Option<Tokens>
+    ensures { option_map (λ rest. said rest) result ≡ spec.after sign (said tokens.entry) }
 {
-    match lexemes {
-        [Lexeme::Sign(found), rest @ ..] => { if *found == sign { Some(rest) } else { None } }
+    match tokens.split() {
+        Some((Lexeme::Sign(found), rest)) => { if found == sign { Some(rest) } else { None } }
         _ => None,
     }
 }
 
-pub(crate) fn expect(sign: Sign, lexemes: &[Lexeme]) -> Result<&[Lexeme], Stop>
-    ensures { Leaves result (spec.after sign lexemes.now) }
+pub(crate) fn expect(sign: Sign, tokens: Tokens) -> Result<Tokens, Stop>
+    ensures { Leaves result (spec.after sign (said tokens.entry)) }
 {
-    match after(sign, lexemes) {
+    match after(sign, tokens) {
         Some(rest) => Ok(rest),
         None => Err(Stop::NoTree),
     }
 }
 
-pub(crate) fn expect_word(word: Word, lexemes: &[Lexeme]) -> Result<&[Lexeme], Stop>
-    ensures { Leaves result (spec.after_word word lexemes.now) }
+pub(crate) fn expect_word(word: Word, tokens: Tokens) -> Result<Tokens, Stop>
+    ensures { Leaves result (spec.after_word word (said tokens.entry)) }
 {
-    match lexemes {
-        [Lexeme::Word(found), rest @ ..] => {
-            if *found == word {
+    match tokens.split() {
+        Some((Lexeme::Word(found), rest)) => {
+            if found == word {
                 Ok(rest)
             } else {
                 Err(Stop::NoTree)
@@ -45,65 +47,85 @@ pub(crate) fn expect_word(word: Word, lexemes: &[Lexeme]) -> Result<&[Lexeme], S
     }
 }
 
-/// Passes over the name with these bytes.
-pub(crate) fn expect_name<'a>(bytes: &[u8], lexemes: &'a [Lexeme]) -> Result<&'a [Lexeme], Stop>
-    ensures { Leaves result (spec.after_name bytes.now lexemes.now) }
+/// What follows the name with these bytes, where the tokens begin with it.
+pub(crate) fn after_name<'a>(bytes: &[u8], tokens: Tokens<'a>) -> Option<Tokens<'a>>
+    ensures { option_map (λ rest. said rest) result ≡ spec.after_name bytes.now (said tokens.entry) }
 {
-    match lexemes {
-        [Lexeme::Name(found), rest @ ..] => {
-            if found.bytes() == bytes {
-                Ok(rest)
+    match tokens.split() {
+        Some((Lexeme::Name(found), rest)) => {
+            if found.bytes == bytes {
+                Some(rest)
             } else {
-                Err(Stop::NoTree)
+                None
             }
         }
+        _ => None,
+    }
+}
+
+pub(crate) fn expect_name<'a>(bytes: &[u8], tokens: Tokens<'a>) -> Result<Tokens<'a>, Stop>
+    ensures { Leaves result (spec.after_name bytes.now (said tokens.entry)) }
+{
+    match after_name(bytes, tokens) {
+        Some(rest) => Ok(rest),
+        None => Err(Stop::NoTree),
+    }
+}
+
+pub(crate) fn name(alloc: Global, tokens: Tokens) -> Result<(Id, Tokens), Stop>
+    ensures { Reads result (spec.name (said tokens.entry)) }
+{
+    match tokens.split() {
+        Some((Lexeme::Name(found), rest)) => Ok((Id::new(alloc, found.bytes)?, rest)),
         _ => Err(Stop::NoTree),
     }
 }
 
-pub(crate) fn name(alloc: Global, lexemes: &[Lexeme]) -> Result<(Id, &[Lexeme]), Stop>
-    ensures { Reads result (spec.name lexemes.now) }
+pub(crate) fn number(tokens: Tokens) -> Result<(u64, Tokens), Stop>
+    ensures { Reads result (spec.number (said tokens.entry)) }
 {
-    match lexemes {
-        [Lexeme::Name(found), rest @ ..] => Ok((found.copy(alloc)?, rest)),
+    match tokens.split() {
+        Some((Lexeme::Number(n), rest)) => Ok((n, rest)),
         _ => Err(Stop::NoTree),
     }
 }
 
-pub(crate) fn number(lexemes: &[Lexeme]) -> Result<(u64, &[Lexeme]), Stop>
-    ensures { Reads result (spec.number lexemes.now) }
+/// The list, where it isn't empty.
+pub(crate) fn some<T: Drop>(items: Items<T>) -> Result<Items<T>, Stop>
+    ensures { Gives result (spec.some items) }
 {
-    match lexemes {
-        [Lexeme::Number(n), rest @ ..] => Ok((*n, rest)),
-        _ => Err(Stop::NoTree),
+    if items.is_empty() {
+        Err(Stop::NoTree)
+    } else {
+        Ok(items)
     }
 }
 
 #[tactic(auto, unfolding(crate::specs::Reader::width_end))]
-fn width_end(lexemes: &[Lexeme]) -> Result<(u64, &[Lexeme]), Stop>
-    ensures { Reads result (spec.width_end lexemes.now) }
+fn width_end(tokens: Tokens) -> Result<(u64, Tokens), Stop>
+    ensures { Reads result (spec.width_end (said tokens.entry)) }
 {
-    let (n, rest) = number(lexemes)?;
+    let (n, rest) = number(tokens)?;
     let rest = expect(Sign::ShiftRight, rest)?;
     Ok((n, rest))
 }
 
 /// `<<NUMBER>>`
 #[tactic(auto, unfolding(crate::specs::Reader::width))]
-pub(crate) fn width(lexemes: &[Lexeme]) -> Result<(u64, &[Lexeme]), Stop>
-    ensures { Reads result (spec.width lexemes.now) }
+pub(crate) fn width(tokens: Tokens) -> Result<(u64, Tokens), Stop>
+    ensures { Reads result (spec.width (said tokens.entry)) }
 {
-    let rest = expect(Sign::ShiftLeft, lexemes)?;
+    let rest = expect(Sign::ShiftLeft, tokens)?;
     width_end(rest)
 }
 
 /// `<<NUMBER>>`, where it is there.
 #[tactic(auto, unfolding(crate::specs::Reader::width_if))]
-pub(crate) fn width_if(lexemes: &[Lexeme]) -> Result<(Option<u64>, &[Lexeme]), Stop>
-    ensures { Reads result (spec.width_if lexemes.now) }
+pub(crate) fn width_if(tokens: Tokens) -> Result<(Option<u64>, Tokens), Stop>
+    ensures { Reads result (spec.width_if (said tokens.entry)) }
 {
-    match after(Sign::ShiftLeft, lexemes) {
-        None => Ok((None, lexemes)),
+    match after(Sign::ShiftLeft, tokens) {
+        None => Ok((None, tokens)),
         Some(rest) => {
             let (n, rest) = width_end(rest)?;
             Ok((Some(n), rest))
@@ -112,37 +134,37 @@ pub(crate) fn width_if(lexemes: &[Lexeme]) -> Result<(Option<u64>, &[Lexeme]), S
 }
 
 #[tactic(auto, unfolding(crate::specs::Reader::ty))]
-pub(crate) fn ty(lexemes: &[Lexeme]) -> Result<(Ty, &[Lexeme]), Stop>
-    ensures { Reads result (spec.ty lexemes.now) }
+pub(crate) fn ty(tokens: Tokens) -> Result<(Ty, Tokens), Stop>
+    ensures { Reads result (spec.ty (said tokens.entry)) }
 {
-    match lexemes {
-        [Lexeme::Word(Word::Int), rest @ ..] => {
+    match tokens.split() {
+        Some((Lexeme::Word(Word::Int), rest)) => {
             let (width, rest) = width_if(rest)?;
             Ok((Ty::Int(width), rest))
         }
-        [Lexeme::Word(Word::Bool), rest @ ..] => Ok((Ty::Bool, rest)),
+        Some((Lexeme::Word(Word::Bool), rest)) => Ok((Ty::Bool, rest)),
         _ => Err(Stop::NoTree),
     }
 }
 
 /// A type and a name.
 #[tactic(auto, unfolding(crate::specs::Reader::typed_name))]
-pub(crate) fn typed_name(alloc: Global, lexemes: &[Lexeme]) -> Result<((Ty, Id), &[Lexeme]), Stop>
-    ensures { Reads result (spec.typed_name lexemes.now) }
+pub(crate) fn typed_name(alloc: Global, tokens: Tokens) -> Result<((Ty, Id), Tokens), Stop>
+    ensures { Reads result (spec.typed_name (said tokens.entry)) }
 {
-    let (ty, rest) = ty(lexemes)?;
+    let (ty, rest) = ty(tokens)?;
     let (name, rest) = name(alloc, rest)?;
     Ok(((ty, name), rest))
 }
 
 /// What follows `Array` in a type: whether `.t` is absent, and the width.
 #[tactic(auto, unfolding(crate::specs::Reader::array_type))]
-pub(crate) fn array_type(lexemes: &[Lexeme]) -> Result<((bool, u64), &[Lexeme]), Stop>
-    ensures { Reads result (spec.array_type lexemes.now) }
+pub(crate) fn array_type(tokens: Tokens) -> Result<((bool, u64), Tokens), Stop>
+    ensures { Reads result (spec.array_type (said tokens.entry)) }
 {
-    match after(Sign::Dot, lexemes) {
+    match after(Sign::Dot, tokens) {
         None => {
-            let (width, rest) = width(lexemes)?;
+            let (width, rest) = width(tokens)?;
             Ok(((true, width), rest))
         }
         Some(rest) => {

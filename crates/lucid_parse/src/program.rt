@@ -9,9 +9,8 @@ ghost use Rattle.lucid_parse.specs.Program.{kinds_of, IsTreeOf, IsFault, Progres
 
 use crate::declaration::declaration;
 use crate::error::{ParseError, Stop};
-use crate::lexeme;
-use crate::lexeme::Lexeme;
 use crate::nesting::too_deep;
+use crate::rest::Tokens;
 use lucid_base::Items;
 use lucid_lex::{Token, tokens_stand};
 use lucid_tree::{Decl, Tree};
@@ -49,29 +48,22 @@ pub fn parse(alloc: Global, text: &[u8], tokens: &[Token]) -> Result<Tree, Parse
     if let Some(n) = too_deep(tokens) {
         return Err(ParseError::TooDeep(n));
     }
-    let lexemes = lexeme::lexemes_of(alloc, text, tokens)?;
-    tree_of(alloc, text, tokens, lexemes.as_slice())
+    tree_of(alloc, text, tokens)
 }
 
-/// The tree that the lexemes spell, with the lines of the tokens that say them.
-fn tree_of(
-    alloc: Global,
-    text: &[u8],
-    tokens: &[Token],
-    lexemes: &[Lexeme],
-) -> Result<Tree, ParseError>
+/// The tree that the tokens spell, with their lines.
+fn tree_of(alloc: Global, text: &[u8], tokens: &[Token]) -> Result<Tree, ParseError>
     requires stand { All (IsTokenOf text.now) tokens.now }
     requires order { Rising 0 tokens.now }
-    requires said { lexemes.now ≡ lexemes_of text.now tokens.now }
-    ensures read { IfOk result (λ tree. Progress text.now tokens.now lexemes.now tree.decls []) }
-    ensures why { IfErr result (λ e. IsWhy lexemes.now e) }
+    ensures read { IfOk result (λ tree. Progress text.now tokens.now (lexemes_of text.now tokens.now) tree.decls []) }
+    ensures why { IfErr result (λ e. IsWhy (lexemes_of text.now tokens.now) e) }
 {
     let mut decls = Items::new(alloc);
-    let mut rest = lexemes;
+    let mut rest = Tokens::new(text, tokens);
     let mut line = 1;
     let mut from = 0;
-    'each: while !rest.is_empty() {
-        let at = lexemes.len() - rest.len();
+    'each: while rest.len() > 0 {
+        let at = tokens.len() - rest.len();
         match declaration(alloc, rest) {
             Err(Stop::Memory) => return Err(ParseError::Memory),
             Err(Stop::NoTree) => return Err(ParseError::NoTree(at + 1)),

@@ -1,14 +1,16 @@
-// Statements, and the blocks of them. `depth` bounds how many stand round one another; where it is the number of the lexemes,
+// Statements, and the blocks of them. `depth` bounds how many stand round one another; where it is the number of the tokens,
 // it never runs out, and the limits on nesting, which are tried before, bound the recursion by far less.
 ghost use Rattle.std.specs.Prelude.{◌≡◌, Some, option_map};
 ghost use Rattle.lucid_parse.specs.Reader.{Reads, Gives};
+ghost use Rattle.lucid_parse.specs.Tokens.{said};
 ghost use Rattle.lucid_parse.specs.ReadStatement as spec;
 
 use crate::error::Stop;
 use crate::expression::expression;
-use crate::lexeme::Lexeme;
-use crate::parts::{after, expect, expect_word};
+use crate::parts::{after, after_name, expect, expect_word, some};
+use crate::rest::Tokens;
 use crate::simple::simple;
+use crate::tokens::Lexeme;
 use lucid_base::{Boxed, Items};
 use lucid_lex::{Sign, Word};
 use lucid_tree::{C, No, S};
@@ -16,18 +18,18 @@ use std::alloc::Global;
 
 /// A block: statements in braces.
 #[tactic(auto, unfolding(crate::specs::ReadStatement::body))]
-pub(crate) fn body(alloc: Global, lexemes: &[Lexeme]) -> Result<(Items<S>, &[Lexeme]), Stop>
-    ensures { Reads result (spec.body lexemes.now) }
+pub(crate) fn body(alloc: Global, tokens: Tokens) -> Result<(Items<S>, Tokens), Stop>
+    ensures { Reads result (spec.body (said tokens.entry)) }
 {
-    block(alloc, lexemes.len(), lexemes)
+    block(alloc, tokens.len(), tokens)
 }
 
 #[cycle(statement)]
 #[tactic(auto, unfolding(crate::specs::ReadStatement::block))]
-fn block(alloc: Global, depth: usize, lexemes: &[Lexeme]) -> Result<(Items<S>, &[Lexeme]), Stop>
-    ensures { Reads result (spec.block (spec.inner_at depth).statement lexemes.now) }
+fn block(alloc: Global, depth: usize, tokens: Tokens) -> Result<(Items<S>, Tokens), Stop>
+    ensures { Reads result (spec.block (spec.inner_at depth).statement (said tokens.entry)) }
 {
-    let rest = expect(Sign::OpenBrace, lexemes)?;
+    let rest = expect(Sign::OpenBrace, tokens)?;
     let (all, rest) = statements(alloc, depth, rest)?;
     let rest = expect(Sign::CloseBrace, rest)?;
     Ok((all, rest))
@@ -36,16 +38,12 @@ fn block(alloc: Global, depth: usize, lexemes: &[Lexeme]) -> Result<(Items<S>, &
 /// The statements up to a `}`.
 #[cycle(statement)]
 #[tactic(auto, unfolding(crate::specs::ReadStatement::statements, crate::specs::Reader::repeat))]
-fn statements(
-    alloc: Global,
-    depth: usize,
-    lexemes: &[Lexeme],
-) -> Result<(Items<S>, &[Lexeme]), Stop>
-    ensures { Reads result (spec.statements (spec.inner_at depth).statement lexemes.now) }
+fn statements(alloc: Global, depth: usize, tokens: Tokens) -> Result<(Items<S>, Tokens), Stop>
+    ensures { Reads result (spec.statements (spec.inner_at depth).statement (said tokens.entry)) }
 {
     let mut all = Items::new(alloc);
-    let mut rest = lexemes;
-    for _turn in 0..lexemes.len() {
+    let mut rest = tokens;
+    for _turn in 0..tokens.len() {
         match after(Sign::CloseBrace, rest) {
             Some(_) => return Ok((all, rest)),
             None => {
@@ -61,40 +59,40 @@ fn statements(
 /// With at most `depth` statements round one another.
 #[cycle(statement)]
 #[tactic(auto, unfolding(crate::specs::ReadStatement::inner_at))]
-fn statement(alloc: Global, depth: usize, lexemes: &[Lexeme]) -> Result<(S, &[Lexeme]), Stop>
-    ensures { Reads result ((spec.inner_at depth).statement lexemes.now) }
+fn statement(alloc: Global, depth: usize, tokens: Tokens) -> Result<(S, Tokens), Stop>
+    ensures { Reads result ((spec.inner_at depth).statement (said tokens.entry)) }
 {
     if depth == 0 {
         return Err(Stop::NoTree);
     }
-    statement_within(alloc, depth - 1, lexemes)
+    statement_within(alloc, depth - 1, tokens)
 }
 
 #[cycle(statement)]
 #[tactic(auto, unfolding(crate::specs::ReadStatement::statement_within))]
-fn statement_within(alloc: Global, depth: usize, lexemes: &[Lexeme]) -> Result<(S, &[Lexeme]), Stop>
-    ensures { Reads result (spec.statement_within (spec.inner_at depth) lexemes.now) }
+fn statement_within(alloc: Global, depth: usize, tokens: Tokens) -> Result<(S, Tokens), Stop>
+    ensures { Reads result (spec.statement_within (spec.inner_at depth) (said tokens.entry)) }
 {
-    match lexemes {
-        [Lexeme::Word(Word::If), rest @ ..] => {
+    match tokens.split() {
+        Some((Lexeme::Word(Word::If), rest)) => {
             let (choice, rest) = choice(alloc, depth, rest)?;
             Ok((S::Cond(Boxed::new(alloc, choice)?), rest))
         }
-        [Lexeme::Word(Word::Match), rest @ ..] => matched(alloc, depth, rest),
-        _ => simple(alloc, lexemes),
+        Some((Lexeme::Word(Word::Match), rest)) => matched(alloc, depth, rest),
+        _ => simple(alloc, tokens),
     }
 }
 
 /// Behind `if`.
 #[cycle(statement)]
 #[tactic(auto, unfolding(crate::specs::ReadStatement::inner_at, crate::specs::ReadStatement::choice_within))]
-fn choice(alloc: Global, depth: usize, lexemes: &[Lexeme]) -> Result<(C, &[Lexeme]), Stop>
-    ensures { Reads result ((spec.inner_at depth).choice lexemes.now) }
+fn choice(alloc: Global, depth: usize, tokens: Tokens) -> Result<(C, Tokens), Stop>
+    ensures { Reads result ((spec.inner_at depth).choice (said tokens.entry)) }
 {
     if depth == 0 {
         return Err(Stop::NoTree);
     }
-    let rest = expect(Sign::OpenParen, lexemes)?;
+    let rest = expect(Sign::OpenParen, tokens)?;
     let (test, rest) = expression(alloc, rest)?;
     let rest = expect(Sign::CloseParen, rest)?;
     let (yes, rest) = block(alloc, depth - 1, rest)?;
@@ -104,19 +102,21 @@ fn choice(alloc: Global, depth: usize, lexemes: &[Lexeme]) -> Result<(C, &[Lexem
 
 #[cycle(statement)]
 #[tactic(auto, unfolding(crate::specs::ReadStatement::alternative))]
-fn alternative(alloc: Global, depth: usize, lexemes: &[Lexeme]) -> Result<(No, &[Lexeme]), Stop>
-    ensures { Reads result (spec.alternative (spec.inner_at depth) lexemes.now) }
+fn alternative(alloc: Global, depth: usize, tokens: Tokens) -> Result<(No, Tokens), Stop>
+    ensures { Reads result (spec.alternative (spec.inner_at depth) (said tokens.entry)) }
 {
-    match lexemes {
-        [Lexeme::Word(Word::Else), Lexeme::Word(Word::If), rest @ ..] => {
-            let (choice, rest) = choice(alloc, depth, rest)?;
-            Ok((else_if(alloc, choice)?, rest))
-        }
-        [Lexeme::Word(Word::Else), rest @ ..] => {
-            let (block, rest) = block(alloc, depth, rest)?;
-            Ok((No::Block(block), rest))
-        }
-        _ => Ok((No::Absent, lexemes)),
+    match tokens.split() {
+        Some((Lexeme::Word(Word::Else), behind)) => match behind.split() {
+            Some((Lexeme::Word(Word::If), rest)) => {
+                let (choice, rest) = choice(alloc, depth, rest)?;
+                Ok((else_if(alloc, choice)?, rest))
+            }
+            _ => {
+                let (block, rest) = block(alloc, depth, behind)?;
+                Ok((No::Block(block), rest))
+            }
+        },
+        _ => Ok((No::Absent, tokens)),
     }
 }
 
@@ -129,17 +129,18 @@ fn else_if(alloc: Global, choice: C) -> Result<No, Stop>
 
 /// What begins a case, up to its block.
 #[tactic(auto, unfolding(crate::specs::ReadStatement::case_head))]
-fn case_head(lexemes: &[Lexeme]) -> Option<(u64, &[Lexeme])>
-    ensures { option_map (λ h. (h.0, h.1.now)) result ≡ spec.case_head lexemes.now }
+fn case_head(tokens: Tokens) -> Option<(u64, Tokens)>
+    ensures { option_map (λ h. (h.0, said h.1)) result ≡ spec.case_head (said tokens.entry) }
 {
-    match lexemes {
-        [
-            Lexeme::Sign(Sign::Or),
-            Lexeme::Number(n),
-            Lexeme::Sign(Sign::Arrow),
-            rest @ ..,
-        ] => Some((*n, rest)),
-        _ => None,
+    match after(Sign::Or, tokens) {
+        Some(rest) => match rest.split() {
+            Some((Lexeme::Number(n), rest)) => match after(Sign::Arrow, rest) {
+                Some(rest) => Some((n, rest)),
+                None => None,
+            },
+            _ => None,
+        },
+        None => None,
     }
 }
 
@@ -148,13 +149,13 @@ fn case_head(lexemes: &[Lexeme]) -> Option<(u64, &[Lexeme])>
 fn cases(
     alloc: Global,
     depth: usize,
-    lexemes: &[Lexeme],
-) -> Result<(Items<(u64, Items<S>)>, &[Lexeme]), Stop>
-    ensures { Reads result (spec.cases (spec.inner_at depth).statement lexemes.now) }
+    tokens: Tokens,
+) -> Result<(Items<(u64, Items<S>)>, Tokens), Stop>
+    ensures { Reads result (spec.cases (spec.inner_at depth).statement (said tokens.entry)) }
 {
     let mut all = Items::new(alloc);
-    let mut rest = lexemes;
-    for _turn in 0..lexemes.len() {
+    let mut rest = tokens;
+    for _turn in 0..tokens.len() {
         match case_head(rest) {
             None => return Ok((all, rest)),
             Some((n, more)) => {
@@ -169,37 +170,25 @@ fn cases(
 
 /// What begins the last arm, up to its block.
 #[tactic(auto, unfolding(crate::specs::ReadStatement::last_head))]
-fn last_head(lexemes: &[Lexeme]) -> Option<&[Lexeme]>
-    ensures { option_map (λ rest. rest.now) result ≡ spec.last_head lexemes.now }
+fn last_head(tokens: Tokens) -> Option<Tokens>
+    ensures { option_map (λ rest. said rest) result ≡ spec.last_head (said tokens.entry) }
 {
-    match lexemes {
-        [
-            Lexeme::Sign(Sign::Or),
-            Lexeme::Name(name),
-            Lexeme::Sign(Sign::Arrow),
-            rest @ ..,
-        ] => {
-            if name.bytes() == b"_".as_slice() {
-                Some(rest)
-            } else {
-                None
-            }
-        }
-        _ => None,
+    match after(Sign::Or, tokens) {
+        Some(rest) => match after_name(b"_", rest) {
+            Some(rest) => after(Sign::Arrow, rest),
+            None => None,
+        },
+        None => None,
     }
 }
 
 #[cycle(statement)]
 #[tactic(auto, unfolding(crate::specs::ReadStatement::last_arm))]
-fn last_arm(
-    alloc: Global,
-    depth: usize,
-    lexemes: &[Lexeme],
-) -> Result<(Option<Items<S>>, &[Lexeme]), Stop>
-    ensures { Reads result (spec.last_arm (spec.inner_at depth).statement lexemes.now) }
+fn last_arm(alloc: Global, depth: usize, tokens: Tokens) -> Result<(Option<Items<S>>, Tokens), Stop>
+    ensures { Reads result (spec.last_arm (spec.inner_at depth).statement (said tokens.entry)) }
 {
-    match last_head(lexemes) {
-        None => Ok((None, lexemes)),
+    match last_head(tokens) {
+        None => Ok((None, tokens)),
         Some(rest) => {
             let (block, rest) = block(alloc, depth, rest)?;
             Ok((Some(block), rest))
@@ -207,27 +196,16 @@ fn last_arm(
     }
 }
 
-/// The cases, of which there is at least one.
-fn some_cases(cases: Items<(u64, Items<S>)>) -> Result<Items<(u64, Items<S>)>, Stop>
-    ensures { Gives result (spec.some_cases cases) }
-{
-    if cases.is_empty() {
-        Err(Stop::NoTree)
-    } else {
-        Ok(cases)
-    }
-}
-
 /// Behind `match`.
 #[cycle(statement)]
 #[tactic(auto, unfolding(crate::specs::ReadStatement::matched))]
-fn matched(alloc: Global, depth: usize, lexemes: &[Lexeme]) -> Result<(S, &[Lexeme]), Stop>
-    ensures { Reads result (spec.matched (spec.inner_at depth).statement lexemes.now) }
+fn matched(alloc: Global, depth: usize, tokens: Tokens) -> Result<(S, Tokens), Stop>
+    ensures { Reads result (spec.matched (spec.inner_at depth).statement (said tokens.entry)) }
 {
-    let (test, rest) = expression(alloc, lexemes)?;
+    let (test, rest) = expression(alloc, tokens)?;
     let rest = expect_word(Word::With, rest)?;
     let (cases, rest) = cases(alloc, depth, rest)?;
-    let cases = some_cases(cases)?;
+    let cases = some(cases)?;
     let (last, rest) = last_arm(alloc, depth, rest)?;
     Ok((S::Match { test, cases, last }, rest))
 }

@@ -1,4 +1,5 @@
 use Rattle.std.proofs.Common.{◌≡◌, ◌+◌, ◌-◌, ◌*◌}
+use Rattle.lucid_parse.specs.Tokens.{said}
 use Rattle.lucid_parse.specs.Reader.{after_comma, repeat, separated}
 use Rattle.lucid_parse.specs.ReadExpression.{climb, expression_at}
 use Rattle.lucid_parse.proofs.expression.+expression.Given as goal
@@ -14,29 +15,14 @@ decreases-grown l = 5 * l.depth + 1
 abbrev pub decreases-expressions : goal.decreases-expressions
 decreases-expressions l = 5 * l.depth + 1
 
-abbrev pub decreases-memop_part : goal.decreases-memop_part
-decreases-memop_part l = 5 * l.depth + 1
-
-abbrev pub decreases-prefixed : goal.decreases-prefixed
-decreases-prefixed l = 5 * l.depth + 1
-
 abbrev pub decreases-in_parens : goal.decreases-in_parens
 decreases-in_parens l = 5 * l.depth + 1
-
-abbrev pub decreases-hash : goal.decreases-hash
-decreases-hash l = 5 * l.depth + 2
 
 abbrev pub decreases-arguments : goal.decreases-arguments
 decreases-arguments l = 5 * l.depth + 2
 
-abbrev pub decreases-array_rest : goal.decreases-array_rest
-decreases-array_rest l = 5 * l.depth + 2
-
 abbrev pub decreases-named : goal.decreases-named
 decreases-named l = 5 * l.depth + 3
-
-abbrev pub decreases-array_call : goal.decreases-array_call
-decreases-array_call l = 5 * l.depth + 3
 
 abbrev pub decreases-operand : goal.decreases-operand
 decreases-operand l = 5 * l.depth + 4
@@ -44,7 +30,7 @@ decreases-operand l = 5 * l.depth + 4
 -- what is left to read gives what the whole gives
 
 abbrev pub invariant-expression_at-loop-turn : goal.invariant-expression_at-loop-turn
-invariant-expression_at-loop-turn l = climb (expression_at (l.depth - 1)) l.least (l._turn-end - l._turn) l.tight l.left l.rest ≡ expression_at l.depth l.least l.fn.lexemes
+invariant-expression_at-loop-turn l = climb (expression_at (l.depth - 1)) l.least (l._turn-end - l._turn) l.tight l.left (said l.rest) ≡ expression_at l.depth l.least (said l.fn.tokens)
 
 abbrev pub invariant-expressions-loop-turn : goal.invariant-expressions-loop-turn
-invariant-expressions-loop-turn l = repeat (after_comma (expression_at l.depth 1)) (l._turn-end - l._turn) l.all l.rest ≡ separated (expression_at l.depth 1) l.fn.lexemes
+invariant-expressions-loop-turn l = repeat (after_comma (expression_at l.depth 1)) (l._turn-end - l._turn) l.all (said l.rest) ≡ separated (expression_at l.depth 1) (said l.fn.tokens)

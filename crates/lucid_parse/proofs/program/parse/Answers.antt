@@ -1,4 +1,5 @@
-use Rattle.std.proofs.Common.{◌∙◌}
+use Rattle.std.proofs.Common.{refl}
+use Rattle.lucid_parse.specs.Lexemes.{lexemes_of}
 use Rattle.lucid_parse.proofs.Programs.{one_tree, tokens_rise, finds, faults}
 use Rattle.lucid_parse.proofs.program.parse.Goals as goal
 
@@ -10,16 +11,13 @@ tree_of-requires-clause-order c = tokens_rise c.args.text.now c.args.tokens.now 
 pub returns-in-Some-clause-one : goal.returns-in-Some-clause-one
 returns-in-Some-clause-one c = one_tree c.args.text.now c.args.tokens.now
 
-pub returns-in_err-lexemes-clause-one : goal.returns-in_err-lexemes-clause-one
-returns-in_err-lexemes-clause-one c = one_tree c.args.text.now c.args.tokens.now
-
 pub returns-clause-one : goal.returns-clause-one
 returns-clause-one c = one_tree c.args.text.now c.args.tokens.now
 
 -- what is so is answered
 
 pub returns-clause-parses : goal.returns-clause-parses
-returns-clause-parses c = λ tree shallow is. finds c.args.text.now c.args.tokens.now c.as_slice.result.now c.tree_of.result (c.as_slice.ensures.value ∙ c.in_ok-lexemes.ensures) c.tree_of.ensures.read c.tree_of.ensures.why tree is
+returns-clause-parses c = λ tree shallow is. finds c.args.text.now c.args.tokens.now (lexemes_of c.args.text.now c.args.tokens.now) c.tree_of.result refl c.tree_of.ensures.read c.tree_of.ensures.why tree is
 
 pub returns-clause-refuses : goal.returns-clause-refuses
-returns-clause-refuses c = λ n shallow fault. faults c.args.text.now c.args.tokens.now c.as_slice.result.now c.tree_of.result (c.as_slice.ensures.value ∙ c.in_ok-lexemes.ensures) c.tree_of.ensures.read c.tree_of.ensures.why n fault
+returns-clause-refuses c = λ n shallow fault. faults c.args.text.now c.args.tokens.now (lexemes_of c.args.text.now c.args.tokens.now) c.tree_of.result refl c.tree_of.ensures.read c.tree_of.ensures.why n fault

@@ -1,4 +1,5 @@
 use Rattle.std.proofs.Common.{◌≡◌, ◌+◌, ◌-◌, ◌*◌}
+use Rattle.lucid_parse.specs.Tokens.{said}
 use Rattle.lucid_parse.specs.Reader.{repeat}
 use Rattle.lucid_parse.specs.ReadStatement.{before_brace, one_case, statements, cases, inner_at}
 use Rattle.lucid_parse.proofs.statement.+statement.Given as goal
@@ -35,7 +36,7 @@ decreases-statement_within l = 6 * l.depth + 5
 -- what is left to read gives what the whole gives
 
 abbrev pub invariant-statements-loop-turn : goal.invariant-statements-loop-turn
-invariant-statements-loop-turn l = repeat (before_brace (inner_at l.depth).statement) (l._turn-end - l._turn) l.all l.rest ≡ statements (inner_at l.depth).statement l.fn.lexemes
+invariant-statements-loop-turn l = repeat (before_brace (inner_at l.depth).statement) (l._turn-end - l._turn) l.all (said l.rest) ≡ statements (inner_at l.depth).statement (said l.fn.tokens)
 
 abbrev pub invariant-cases-loop-turn : goal.invariant-cases-loop-turn
-invariant-cases-loop-turn l = repeat (one_case (inner_at l.depth).statement) (l._turn-end - l._turn) l.all l.rest ≡ cases (inner_at l.depth).statement l.fn.lexemes
+invariant-cases-loop-turn l = repeat (one_case (inner_at l.depth).statement) (l._turn-end - l._turn) l.all (said l.rest) ≡ cases (inner_at l.depth).statement (said l.fn.tokens)
