@@ -1,7 +1,8 @@
 // What whoever builds bodies stands on: a node of a body keeps all rules of a valid program where its parts do, and a program whose
 // bodies do is valid.
-// It promises laws alone, each a field of the records in specs/ExprNodes.antt, StmtNodes.antt and AssigningNodes.antt or a definition
-// of Programs.antt, for cores and for flat programs at once. They are stated at every place that holds what is named, so nothing is carried from one scope to another.
+// It promises laws alone: a field each of the records in specs/ExprNodes.antt, StmtNodes.antt, AssigningNodes.antt and InlinedNodes.antt,
+// and the definitions of Programs.antt, for cores and for flat programs at once. They hold at every place that has what is named, so
+// nothing is carried from one scope to another.
 // Stands on lucid_base and lucid_core.
 #![tactic(auto)]
 
