@@ -1,6 +1,6 @@
 -- A body is derived where the numbering rises along each of its paths, and so a cycle leaves no derivation.
-use Rattle.std.proofs.Common.{◌≡◌, ℕ, zero, suc, ◌+◌, ◌<◌, ◌≤◌, List, [], ◌∷◌, ◌++◌, length, refl, subst, ◌∙◌, arith, slice_index_or, inl, inr}
-use Rattle.std.specs.Prelude.{All, Contains}
+use Rattle.std.proofs.Common.{◌≡◌, ℕ, ◌+◌, ◌<◌, ◌≤◌, List, [], ◌∷◌, ◌++◌, subst, ◌∙◌, arith, slice_index_or, inl, inr}
+use Rattle.std.specs.Prelude.{All}
 use Rattle.std.proofs.lemmas.List.Elements.{All-contains}
 use Rattle.lucid_base.specs.declared.array.ArrayName.{ArrayName}
 use Rattle.lucid_base.specs.declared.array.ArrayName.TheVariants.{Global, Param}
@@ -11,17 +11,8 @@ use Rattle.lucid_order.specs.Ends.{Derives, Numbering}
 use Rattle.lucid_order.specs.Laws.{CyclesRefuse, EndsAreGreatest, PathsDecide, RisesAlong, path_end}
 use Rattle.lucid_order.specs.Order.{Rises}
 use Rattle.lucid_order.specs.Paths.{Path, paths}
-use Rattle.lucid_order.proofs.Matching.{In, body_matches, climbs_rise, rises_next}
-
-in_at : {A : Type 0} (xs : List A) (k : ℕ) (d : A) → k < length xs → In (slice_index_or xs k d) xs
-in_at [] k d l = absurd (omega arith)
-in_at (x ∷ xs) zero d l = inl refl
-in_at (x ∷ xs) (suc k) d l = inr (in_at xs k d (omega arith))
-
-contains : {A : Type 0} (y : A) (xs : List A) → In y xs → Contains xs y
-contains y [] h = absurd h
-contains y (x ∷ xs) (inl e) = (0, omega arith, e)
-contains y (x ∷ xs) (inr h) = let rest = contains y xs h in let within = rest.1 in (suc rest.0, omega arith, rest.2)
+use Rattle.lucid_order.proofs.Matching.{body_matches, climbs_rise, rises_next}
+use Rattle.lucid_order.proofs.Members.{In, contains, in_at}
 
 derived_rises : (funs : List FunDef) (body : List Stmt) (N : Numbering) (c end : ℕ) → Derives funs N c body end → (p : Path) → In p (paths funs body) → RisesAlong N c p × (path_end N c p ≤ end)
 derived_rises funs body N c end is p h = climbs_rise N c p end ((body_matches funs body N).climbs c end is p h)

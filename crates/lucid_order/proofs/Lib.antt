@@ -1,10 +1,11 @@
 pub mod Alike
-pub mod Climbs
 pub mod Cycles
 pub mod Matching
+pub mod Members
 pub mod OrderProofs
 pub mod OwnNumbers
 pub mod PathProofs
 pub mod Rising
+pub mod Touched
 pub mod Transfer
 pub mod Walks

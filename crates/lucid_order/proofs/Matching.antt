@@ -12,56 +12,9 @@ use Rattle.lucid_order.specs.Ends.{End, FunEnd, Numbering, body_end}
 use Rattle.lucid_order.specs.Laws.{RisesAlong, path_end}
 use Rattle.lucid_order.specs.Paths as u
 use Rattle.lucid_order.specs.Paths.{Path, Paths, each_then, body_paths}
+use Rattle.lucid_order.proofs.Members.{In, in_either, in_left, in_map, in_right, in_then, of_map, of_then}
 use Rattle.lucid_order.proofs.Transfer.{some_then}
 use Rattle.lucid_order.proofs.Walks.{bodies_relate}
-
--- ---- members of lists
-
-abbrev pub In : {A : Type 0} → A → List A → Type 0
-In y [] = ⊥
-In y (x ∷ xs) = (x ≡ y) ⊎ In y xs
-
-in_left : {A : Type 0} (y : A) (xs ys : List A) → In y xs → In y (xs ++ ys)
-in_left y [] ys h = absurd h
-in_left y (x ∷ xs) ys (inl e) = inl e
-in_left y (x ∷ xs) ys (inr h) = inr (in_left y xs ys h)
-
-in_right : {A : Type 0} (y : A) (xs ys : List A) → In y ys → In y (xs ++ ys)
-in_right y [] ys h = h
-in_right y (x ∷ xs) ys h = inr (in_right y xs ys h)
-
-in_either : {A : Type 0} (y : A) (xs ys : List A) → In y (xs ++ ys) → In y xs ⊎ In y ys
-in_either y [] ys h = inr h
-in_either y (x ∷ xs) ys (inl e) = inl (inl e)
-in_either y (x ∷ xs) ys (inr h) = of (in_either y xs ys h)
-  where
-    of : In y xs ⊎ In y ys → ((x ≡ y) ⊎ In y xs) ⊎ In y ys
-    of (inl k) = inl (inr k)
-    of (inr k) = inr k
-
-in_map : {A B : Type 0} (f : A → B) (y : A) (xs : List A) → In y xs → In (f y) (map f xs)
-in_map f y [] h = h
-in_map f y (x ∷ xs) (inl e) = inl (ap f e)
-in_map f y (x ∷ xs) (inr h) = inr (in_map f y xs h)
-
-of_map : {A B : Type 0} (f : A → B) (z : B) (xs : List A) → In z (map f xs) → (y : A) × In y xs × (f y ≡ z)
-of_map f z [] h = absurd h
-of_map f z (x ∷ xs) (inl e) = (x, inl refl, e)
-of_map f z (x ∷ xs) (inr h) = let rest = of_map f z xs h in (rest.0, inr rest.1, rest.2)
-
-in_then : (p q : Path) (ps qs : List Path) → In p ps → In q qs → In (p ++ q) (each_then ps qs)
-in_then p q [] qs h k = absurd h
-in_then p q (x ∷ ps) qs (inl e) k = in_left (p ++ q) (map (λ r. x ++ r) qs) (each_then ps qs) (subst (λ (z : Path). In (z ++ q) (map (λ r. x ++ r) qs)) e (in_map (λ r. x ++ r) q qs k))
-in_then p q (x ∷ ps) qs (inr h) k = in_right (p ++ q) (map (λ r. x ++ r) qs) (each_then ps qs) (in_then p q ps qs h k)
-
-of_then : (r : Path) (ps qs : List Path) → In r (each_then ps qs) → (p : Path) × (q : Path) × In p ps × In q qs × (p ++ q ≡ r)
-of_then r [] qs h = absurd h
-of_then r (x ∷ ps) qs h = of (in_either r (map (λ q. x ++ q) qs) (each_then ps qs) h) (of_then r ps qs)
-  where
-    of : In r (map (λ q. x ++ q) qs) ⊎ In r (each_then ps qs) → (In r (each_then ps qs) → (p : Path) × (q : Path) × In p ps × In q qs × (p ++ q ≡ r)) →
-        (p : Path) × (q : Path) × ((x ≡ p) ⊎ In p ps) × In q qs × (p ++ q ≡ r)
-    of (inl k) later = let found = of_map (λ q. x ++ q) r qs k in (x, found.0, inl refl, found.1, found.2)
-    of (inr k) later = let found = later k in (found.0, found.1, inr found.2, found.3, found.4)
 
 -- ---- paths under a numbering
 

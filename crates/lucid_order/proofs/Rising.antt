@@ -1,31 +1,33 @@
 -- In an accepted program every event calls the arrays in their order, each at most once.
-use Rattle.std.proofs.Common.{◌≡◌, ℕ, zero, suc, ◌+◌, ◌<◌, ◌≤◌, List, [], ◌∷◌, Option, None, Some, length, map, refl, ap, arith, option_and_then, slice_get, slice_index_or}
+use Rattle.std.proofs.Common.{◌≡◌, ℕ, zero, suc, ◌+◌, ◌<◌, ◌≤◌, List, [], ◌∷◌, Option, None, Some, length, map, refl, sym, ap, subst, arith, option_and_then, slice_get, slice_index_or}
 use Rattle.std.specs.Prelude.{AllPairs, Contains}
 use Rattle.std.proofs.lemmas.List.Elements.{All-contains, Contains-append_right}
 use Rattle.lucid_core.specs.declared.defs.EventDef.{EventDef}
 use Rattle.lucid_core.specs.declared.defs.HandlerDef.{HandlerDef}
-use Rattle.lucid_core.specs.Acts.{begun_with}
-use Rattle.lucid_core.specs.Meaning.{funs_of}
+use Rattle.lucid_core.specs.Acts.{array_of, begun_with}
 use Rattle.lucid_core.specs.Parts.{Parts}
-use Rattle.lucid_core.specs.Step.{handled, started, taken_at}
+use Rattle.lucid_core.specs.Step.{handled, started, taken_at, touches}
 use Rattle.lucid_core.specs.Valid.{IsSound}
-use Rattle.lucid_order.specs.Ends as o
-use Rattle.lucid_order.specs.Laws.{TouchesRise}
+use Rattle.lucid_order.specs.Laws.{RisesAlong, TouchesFollowPaths, TouchesRise, own_numbers}
 use Rattle.lucid_order.specs.Order.{Body, InOrder, IsAccepted, bodies, fun_bodies}
-use Rattle.lucid_order.proofs.Climbs.{Climbs, all_rise, body_follows}
+use Rattle.lucid_order.specs.Paths.{Path, paths}
+use Rattle.lucid_order.proofs.Cycles.{paths_decide}
+use Rattle.lucid_order.proofs.Members.{In, contains, of_map}
 use Rattle.lucid_order.proofs.OwnNumbers.{by_own_numbers}
+use Rattle.lucid_order.proofs.Touched.{runs_along}
 
-no_earlier : (c : ℕ) (xs : List ℕ) (d : ℕ) → Climbs c xs d → (j e : ℕ) → j < length xs → c ≤ slice_index_or xs j e
-no_earlier c [] d h j e k = absurd (omega arith)
-no_earlier c (x ∷ xs) d h zero e k = h.0
-no_earlier c (x ∷ xs) d h (suc j) e k = let r = no_earlier (x + 1) xs d h.1 j e (omega arith) in let f = h.0 in omega arith
+-- What rises along a path from a place stands behind it, and rises itself.
+none_before : (c : ℕ) (p : Path) → RisesAlong own_numbers c p → (j e : ℕ) → j < length (map own_numbers p) → c ≤ slice_index_or (map own_numbers p) j e
+none_before c [] h j e k = absurd (omega arith)
+none_before c (x ∷ p) h zero e k = h.0
+none_before c (x ∷ p) h (suc j) e k = let rest = none_before (own_numbers x + 1) p h.1 j e (omega arith) in let first = h.0 in omega arith
 
-climbs_rise : (c : ℕ) (xs : List ℕ) (d : ℕ) → Climbs c xs d → AllPairs (λ a b. a < b) xs
-climbs_rise c [] d h i j e k l = absurd (omega arith)
-climbs_rise c (x ∷ xs) d h zero zero e k l = absurd (omega arith)
-climbs_rise c (x ∷ xs) d h zero (suc j) e k l = let r = no_earlier (x + 1) xs d h.1 j e (omega arith) in omega arith
-climbs_rise c (x ∷ xs) d h (suc i) zero e k l = absurd (omega arith)
-climbs_rise c (x ∷ xs) d h (suc i) (suc j) e k l = climbs_rise (x + 1) xs d h.1 i j e (omega arith) (omega arith)
+path_rises : (c : ℕ) (p : Path) → RisesAlong own_numbers c p → AllPairs (λ a b. a < b) (map own_numbers p)
+path_rises c [] h i j e k l = absurd (omega arith)
+path_rises c (x ∷ p) h zero zero e k l = absurd (omega arith)
+path_rises c (x ∷ p) h zero (suc j) e k l = let rest = none_before (own_numbers x + 1) p h.1 j e (omega arith) in omega arith
+path_rises c (x ∷ p) h (suc i) zero e k l = absurd (omega arith)
+path_rises c (x ∷ p) h (suc i) (suc j) e k l = path_rises (own_numbers x + 1) p h.1 i j e (omega arith) (omega arith)
 
 among : {A B : Type 0} (f : A → B) (xs : List A) (k : ℕ) (x : A) → slice_get xs k ≡ Some x → Contains (map f xs) (f x)
 among f [] k x is = absurd (cc)
@@ -39,13 +41,23 @@ handler_in_order parts accepted k h is =
     All-contains (λ b. InOrder (length parts.arrays) b.funs b.body) (bodies parts) (body h) accepted
     (Contains-append_right (fun_bodies [] parts.funs) (map body parts.handlers) (body h) (among body parts.handlers k h is))
 
+-- A handler that is run calls one of its paths.
+handler_along : (parts : Parts) (h : HandlerDef) (cells : List (List ℕ)) (now me : ℕ) (args : List ℕ) → In (handled (Some h) parts cells now me args).calls (map (map (array_of [])) (paths parts.funs h.body))
+handler_along parts h cells now me args = runs_along now me [] parts.funs h.body (started cells (begun_with (taken_at h.locals args) h.locals))
+
+pub touches_follow_paths : TouchesFollowPaths
+touches_follow_paths parts cells now me event h is =
+    let calls = λ (o : Option HandlerDef). (handled o parts cells now me event.args).calls in
+    let along = map (map (array_of [])) (paths parts.funs h.body) in
+    contains (touches parts cells now me event) along (subst (λ (o : Option HandlerDef). In (calls o) along) (sym is) (handler_along parts h cells now me event.args))
+
 handler_rises : (parts : Parts) → IsSound parts → (k : ℕ) (h : HandlerDef) → slice_get parts.handlers k ≡ Some h → InOrder (length parts.arrays) parts.funs h.body →
     (cells : List (List ℕ)) (now me : ℕ) (args : List ℕ) → AllPairs (λ a b. a < b) (handled (Some h) parts cells now me args).calls
 handler_rises parts sound k h is order cells now me args =
-    let own = by_own_numbers parts sound.names k h is order in
-    climbs_rise 0 (handled (Some h) parts cells now me args).calls own.0
-    (body_follows h.body (record { now = now; me = me; arrays = []; funs = funs_of now me parts.funs }) (o.ends_of parts.funs) (all_rise now me parts.funs)
-    (started cells (begun_with (taken_at h.locals args) h.locals)) 0 own.0 own.1)
+    let ps = paths parts.funs h.body in
+    let rises = (paths_decide parts.funs h.body own_numbers 0).0 (by_own_numbers parts sound.names k h is order) in
+    let path = of_map (map (array_of [])) (handled (Some h) parts cells now me args).calls ps (handler_along parts h cells now me args) in
+    subst (λ (xs : List ℕ). AllPairs (λ a b. a < b) xs) path.2 (path_rises 0 path.0 (All-contains (RisesAlong own_numbers 0) ps path.0 rises (contains path.0 ps path.1)))
 
 pub touches_rise : (parts : Parts) → IsSound parts → IsAccepted parts → TouchesRise parts
 touches_rise parts sound accepted cells now me event = at (option_and_then (λ (e : EventDef). e.handler) (slice_get parts.events event.id))

@@ -1,5 +1,5 @@
 -- What the order of arrays promises of a program.
-use Rattle.std.specs.Prelude.{◌≡◌, ◌<◌, ◌↔◌, ℕ, ◌+◌, ◌≤◌, List, [], ◌∷◌, Some, All, AllPairs, Any, length, slice_get}
+use Rattle.std.specs.Prelude.{◌≡◌, ◌<◌, ◌↔◌, ℕ, ◌+◌, ◌≤◌, List, [], ◌∷◌, Some, All, AllPairs, Any, Contains, length, map, slice_get}
 use Rattle.lucid_base.specs.declared.array.ArrayName.{ArrayName}
 use Rattle.lucid_base.specs.declared.array.ArrayName.TheVariants.{Global, Param}
 use Rattle.lucid_base.specs.declared.event.Event.{Event}
@@ -8,7 +8,7 @@ use Rattle.lucid_core.specs.declared.defs.FunDef.{FunDef}
 use Rattle.lucid_core.specs.declared.defs.HandlerDef.{HandlerDef}
 use Rattle.lucid_core.specs.Acts.{array_of}
 use Rattle.lucid_core.specs.Parts.{Parts}
-use Rattle.lucid_core.specs.Step.{touches}
+use Rattle.lucid_core.specs.Step.{handler_of, touches}
 use Rattle.lucid_order.specs.Cycle.{IsCycle}
 use Rattle.lucid_order.specs.Ends.{Numbering, Derives, body_end, ends_of}
 use Rattle.lucid_order.specs.Order.{InOrder}
@@ -60,3 +60,8 @@ EndsAreGreatest = (funs : List FunDef) (body : List Stmt) (N : Numbering) (c end
 -- A body that has a cycle is not in order.
 abbrev pub CyclesRefuse : Type 0
 CyclesRefuse = (arrays : ℕ) (funs : List FunDef) (body : List Stmt) (first : ArrayName) (others : List ArrayName) → IsCycle arrays (paths funs body) first others → ¬ InOrder arrays funs body
+
+-- What an event calls is one of the paths of its handler.
+abbrev pub TouchesFollowPaths : Type 0
+TouchesFollowPaths = (parts : Parts) (cells : List (List ℕ)) (now me : ℕ) (event : Event) (h : HandlerDef) → handler_of parts event.id ≡ Some h →
+    Contains (map (map (array_of [])) (paths parts.funs h.body)) (touches parts cells now me event)

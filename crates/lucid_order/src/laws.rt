@@ -1,5 +1,5 @@
 // Laws of the order, each on a function that does nothing.
-ghost use Rattle.lucid_order.specs.Laws.{TouchesRise, OwnNumbersDecide, EndsTurnOnDeclared, PathsDecide, EndsAreGreatest, CyclesRefuse};
+ghost use Rattle.lucid_order.specs.Laws.{TouchesRise, OwnNumbersDecide, EndsTurnOnDeclared, PathsDecide, EndsAreGreatest, CyclesRefuse, TouchesFollowPaths};
 ghost use Rattle.lucid_order.specs.Order.{IsAccepted};
 
 use lucid_core::{Core, Flat};
@@ -39,4 +39,9 @@ pub fn paths_decide()
     ensures derived { PathsDecide }
     ensures end { EndsAreGreatest }
     ensures cycles { CyclesRefuse }
+{}
+
+/// What an event calls is one of the paths of its handler, in every program, valid or not.
+pub fn touches_follow_paths()
+    ensures { TouchesFollowPaths }
 {}

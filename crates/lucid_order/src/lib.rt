@@ -9,5 +9,6 @@ mod examples;
 mod laws;
 
 pub use laws::{
-    ends_turn_on_declared, flat_own_numbers_decide, own_numbers_decide, paths_decide, touches_rise,
+    ends_turn_on_declared, flat_own_numbers_decide, own_numbers_decide, paths_decide,
+    touches_follow_paths, touches_rise,
 };
