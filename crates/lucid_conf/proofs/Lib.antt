@@ -1,0 +1,4 @@
+pub mod Answered
+pub mod Apart
+pub mod LastNamed
+pub mod PlainScenarios

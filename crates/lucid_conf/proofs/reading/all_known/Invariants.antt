@@ -1,0 +1,8 @@
+use Rattle.std.proofs.Common.{◌≡◌}
+use Rattle.serde_json.specs.View.{members_view}
+use Rattle.lucid_conf.specs.Reading.{all_known}
+use Rattle.lucid_conf.proofs.reading.all_known.Given as goal
+
+abbrev pub invariant-loop-key : goal.invariant-loop-key
+invariant-loop-key l = (goal.iterator-loop-key).can_next l.key-iterator × (goal.iterator-loop-key).is_finite l.key-iterator
+    × (all_known l.keys (members_view l.key-iterator) ≡ all_known l.keys (members_view l.members.entries))

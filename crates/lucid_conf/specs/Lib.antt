@@ -1,0 +1,9 @@
+pub mod Answers
+pub mod Fields
+pub mod Items
+pub mod Kept
+pub mod Keys
+pub mod Laws
+pub mod Named
+pub mod Reading
+pub mod Tables

@@ -1,0 +1,75 @@
+// The windows in which a link is down.
+ghost use Rattle.std.specs.Prelude.{◌≡◌, ◌<◌, ◌≤◌, [], length, IfOk, IfSome};
+ghost use Rattle.std.specs.List.{All};
+ghost use Rattle.serde_json.specs.View.{items_view, view};
+ghost use Rattle.lucid_conf.specs.declared.key.Key.TheVariants as key;
+ghost use Rattle.lucid_conf.specs.Answers.{Gives};
+ghost use Rattle.lucid_conf.specs.Items.{most_windows, window as window_read};
+ghost use Rattle.lucid_conf.specs.Kept.{IsWindow};
+ghost use Rattle.lucid_conf.specs.Reading.{each};
+ghost use Rattle.lucid_conf.specs.Tables.{down_read};
+
+use crate::items::number_at;
+use crate::links::are_linked;
+use crate::reading::{bad, bad_at, items};
+use crate::{ConfError, Down, Key, Link};
+use lucid_base::Items;
+use serde_json::Value;
+use std::alloc::Global;
+
+const MOST_WINDOWS: usize = 1_024;
+
+fn window(links: &[Link], before: &[Down], item: &Value) -> Option<Down>
+    ensures value { result ≡ window_read links.now before.now (view item.now) }
+    ensures is { IfSome result (IsWindow links.now) }
+    ensures few { IfSome result (λ _. length before.now < most_windows) }
+{
+    let a = number_at(item, 0)?;
+    let b = number_at(item, 1)?;
+    let from = number_at(item, 2)?;
+    let until = number_at(item, 3)?;
+    if item.get(4usize).is_some() || !are_linked(links, a, b) {
+        return None;
+    }
+    if from >= until || before.len() >= MOST_WINDOWS {
+        return None;
+    }
+    Some(Down {
+        a: a as u32,
+        b: b as u32,
+        from,
+        until,
+    })
+}
+
+/// The windows that the file has; in version 1 the key must be absent.
+pub(crate) fn down(
+    alloc: Global,
+    value: &Value,
+    version: u64,
+    links: &[Link],
+) -> Result<Items<Down>, ConfError>
+    ensures value { Gives result (down_read version links.now (view value.now)) }
+    ensures each { IfOk result (All (IsWindow links.now)) }
+    ensures few { IfOk result (λ windows. length windows ≤ most_windows) }
+{
+    if version != 2 && value.get(Key::Down.name()).is_some() {
+        return bad(Key::Down);
+    }
+    each_window(alloc, links, items(value, Key::Down)?)
+}
+
+fn each_window(alloc: Global, links: &[Link], values: &[Value]) -> Result<Items<Down>, ConfError>
+    ensures value { Gives result (each key.Down (window_read links.now) [] (items_view values.now)) }
+    ensures each { IfOk result (All (IsWindow links.now)) }
+    ensures few { IfOk result (λ windows. length windows ≤ most_windows) }
+{
+    let mut down = Items::new(alloc);
+    for value in values {
+        match window(links, down.as_slice(), value) {
+            None => return bad_at(Key::Down, down.len()),
+            Some(window) => down.push(window)?,
+        }
+    }
+    Ok(down)
+}

@@ -1,0 +1,98 @@
+// The events of a scenario.
+ghost use Rattle.std.specs.Prelude.{◌≡◌, [], IfOk, IfSome};
+ghost use Rattle.std.specs.List.{All};
+ghost use Rattle.serde_json.specs.View.{view, items_view, members_view};
+ghost use Rattle.lucid_conf.specs.declared.key.Key.TheVariants as key;
+ghost use Rattle.lucid_conf.specs.Answers.{Gives};
+ghost use Rattle.lucid_conf.specs.Items.{is_event_key as is_key, are_event_keys as are_keys, event as event_read};
+ghost use Rattle.lucid_conf.specs.Kept.{IsFileEvent};
+ghost use Rattle.lucid_conf.specs.Named.{NumbersLast, event_names};
+ghost use Rattle.lucid_conf.specs.Reading.{each, list};
+
+use crate::items::{args_of, number_of, text_of};
+use crate::names::{Names, events_by_name, number_named};
+use crate::reading::{bad_at, items};
+use crate::{ConfError, FileEvent, Key};
+use lucid_base::{Event, Items};
+use lucid_core::Core;
+use serde_json::{Map, Value};
+use std::alloc::Global;
+
+fn is_event_key(key: &str) -> bool
+    ensures { result ≡ is_key key.now }
+{
+    key == "at" || key == "switch" || key == "name" || key == "args"
+}
+
+fn are_event_keys(members: &Map<String, Value>) -> bool
+    ensures { result ≡ are_keys (members_view members.now.entries) }
+{
+    for (key, _) in members.iter() {
+        if !is_event_key(key.as_str()) {
+            return false;
+        }
+    }
+    true
+}
+
+fn event(core: &Core, names: &Names, switches: u32, item: &Value) -> Option<FileEvent>
+    requires { NumbersLast names.now (event_names core.now.events) }
+    ensures value { result ≡ event_read core.now switches [] (view item.now) }
+    ensures is { IfSome result (IsFileEvent core.now switches) }
+{
+    if !are_event_keys(item.as_object()?) {
+        return None;
+    }
+    let at = number_of(item, "at")?;
+    let switch = number_of(item, "switch")?;
+    if switch >= switches as u64 {
+        return None;
+    }
+    let id = number_named(names, text_of(item, "name")?)?;
+    let args = args_of(item.get("args")?)?;
+    let event = Event { id, args };
+    if !core.fits(&event) {
+        return None;
+    }
+    Some(FileEvent {
+        at,
+        switch: switch as u32,
+        event,
+    })
+}
+
+/// The events that the file has.
+pub(crate) fn events(
+    alloc: Global,
+    value: &Value,
+    core: &Core,
+    switches: u32,
+) -> Result<Items<FileEvent>, ConfError>
+    ensures value { Gives result (list (view value.now) key.Events (event_read core.now switches)) }
+    ensures each { IfOk result (All (IsFileEvent core.now switches)) }
+{
+    let values = items(value, Key::Events)?;
+    let names = events_by_name(alloc, core.events())?;
+    each_event(alloc, core, &names, switches, values)
+}
+
+fn each_event(
+    alloc: Global,
+    core: &Core,
+    names: &Names,
+    switches: u32,
+    values: &[Value],
+) -> Result<Items<FileEvent>, ConfError>
+    requires { NumbersLast names.now (event_names core.now.events) }
+    ensures value { Gives result (each key.Events (event_read core.now switches) [] (items_view values.now)) }
+    ensures each { IfOk result (All (IsFileEvent core.now switches)) }
+{
+    let mut events = Items::new(alloc);
+    for value in values {
+        match event(core, names, switches, value) {
+            None => return bad_at(Key::Events, events.len()),
+            Some(event) => events.push(event)?,
+        }
+    }
+    Ok(events)
+}

@@ -1,0 +1,26 @@
+// The two JSON files: limits of a target, and scenarios of a network.
+// `limits_of` and `scene_of` answer exactly what the tables in specs/Tables.antt read of the value that the bytes spell, or the first key that
+// fails and, of a list, the first bad item (specs/Items.antt says what an item must be). What an accepted file keeps, so that nobody above tests
+// it again, is in specs/Kept.antt. Stands on lucid_base, lucid_core for programs and the fit of events, serde_json and indexmap.
+#![tactic(auto)]
+
+mod down;
+mod error;
+mod events;
+mod items;
+mod key;
+mod laws;
+mod limits;
+mod links;
+mod names;
+mod reading;
+mod scenario;
+mod scene;
+mod steps;
+
+pub use error::ConfError;
+pub use key::Key;
+pub use laws::plain_scenarios_stay;
+pub use limits::{Limits, limits_of};
+pub use scenario::scene_of;
+pub use scene::{Down, FileEvent, Link, Scene, Step};

@@ -1,0 +1,83 @@
+// The links of a scenario.
+ghost use Rattle.std.specs.Prelude.{◌≡◌, ◌<◌, ◌^◌, IsTrue, [], false, IfOk, IfSome};
+ghost use Rattle.std.specs.List.{All, AllPairs};
+ghost use Rattle.serde_json.specs.View.{view, items_view};
+ghost use Rattle.lucid_conf.specs.declared.key.Key.TheVariants as key;
+ghost use Rattle.lucid_conf.specs.Answers.{Gives};
+ghost use Rattle.lucid_conf.specs.Items.{are_linked as are_joined, link as link_read};
+ghost use Rattle.lucid_conf.specs.Kept.{IsLink, AreApart};
+ghost use Rattle.lucid_conf.specs.Reading.{each, list};
+
+use crate::items::number_at;
+use crate::reading::{bad_at, items};
+use crate::{ConfError, Key, Link};
+use lucid_base::Items;
+use serde_json::Value;
+use std::alloc::Global;
+
+// The longest latency of a link, in ticks.
+const MOST_LATENCY: u64 = 65_536;
+
+/// Whether one of the links joins these two, in either direction. It tries them one by one: with no pair twice there are at most 2,016 of 64 switches.
+pub(crate) fn are_linked(links: &[Link], a: u64, b: u64) -> bool
+    ensures value { result ≡ are_joined links.now a b }
+    ensures small { IsTrue result → (a < 2 ^ 32) × (b < 2 ^ 32) }
+{
+    for l in links {
+        if (l.a as u64 == a && l.b as u64 == b) || (l.a as u64 == b && l.b as u64 == a) {
+            return true;
+        }
+    }
+    false
+}
+
+fn link(switches: u32, before: &[Link], item: &Value) -> Option<Link>
+    ensures value { result ≡ link_read switches before.now (view item.now) }
+    ensures is { IfSome result (IsLink switches) }
+    ensures apart { IfSome result (λ l. are_joined before.now l.a l.b ≡ false) }
+{
+    let a = number_at(item, 0)?;
+    let b = number_at(item, 1)?;
+    let latency = number_at(item, 2)?;
+    if item.get(3usize).is_some() {
+        return None;
+    }
+    if !(a < switches as u64 && b < switches as u64 && a != b) {
+        return None;
+    }
+    if !(1 <= latency && latency <= MOST_LATENCY) {
+        return None;
+    }
+    if are_linked(before, a, b) {
+        return None;
+    }
+    Some(Link {
+        a: a as u32,
+        b: b as u32,
+        latency,
+    })
+}
+
+/// The links that the file has.
+pub(crate) fn links(alloc: Global, value: &Value, switches: u32) -> Result<Items<Link>, ConfError>
+    ensures value { Gives result (list (view value.now) key.Links (link_read switches)) }
+    ensures each { IfOk result (All (IsLink switches)) }
+    ensures apart { IfOk result (AllPairs AreApart) }
+{
+    each_link(alloc, switches, items(value, Key::Links)?)
+}
+
+fn each_link(alloc: Global, switches: u32, values: &[Value]) -> Result<Items<Link>, ConfError>
+    ensures value { Gives result (each key.Links (link_read switches) [] (items_view values.now)) }
+    ensures each { IfOk result (All (IsLink switches)) }
+    ensures apart { IfOk result (AllPairs AreApart) }
+{
+    let mut links = Items::new(alloc);
+    for value in values {
+        match link(switches, links.as_slice(), value) {
+            None => return bad_at(Key::Links, links.len()),
+            Some(link) => links.push(link)?,
+        }
+    }
+    Ok(links)
+}

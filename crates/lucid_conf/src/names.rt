@@ -1,0 +1,58 @@
+// A program's events and arrays by name: the map of a name gives the number of the last that is declared with it.
+ghost use Rattle.std.specs.Prelude.{◌≡◌, ℕ, List, OnOk, IfOk, Some, if◌then◌else◌};
+ghost use Rattle.std.specs.Str.{bytes_eq};
+ghost use Rattle.std.specs.HashMap.{get_by_text};
+ghost use Rattle.lucid_conf.specs.Named.{event_names, array_names, NumbersLast};
+
+use indexmap::IndexMap;
+use lucid_base::{ArrayDef, Id, Memory};
+use lucid_core::EventDef;
+use std::alloc::Global;
+
+pub(crate) type Names = IndexMap<String, u32>;
+
+fn put(alloc: Global, names: &mut Names, id: &Id, number: usize) -> Result<(), Memory>
+    ensures { OnOk result ((n : List ℕ) → get_by_text names.new n ≡ (if bytes_eq n id.now then Some number else get_by_text names.old n)) }
+{
+    let name = String::from_str(alloc, id.as_str())?;
+    match u32::try_from(number) {
+        Ok(number) => {
+            names.insert(name, number)?;
+            Ok(())
+        }
+        // No memory holds so many declarations.
+        Err(_) => Err(Memory),
+    }
+}
+
+/// The events by name.
+pub(crate) fn events_by_name(alloc: Global, events: &[EventDef]) -> Result<Names, Memory>
+    ensures { IfOk result (λ names. NumbersLast names (event_names events.now)) }
+{
+    let mut names = IndexMap::new(alloc);
+    for i in 0..events.len() {
+        put(alloc, &mut names, &events[i].name, i)?;
+    }
+    Ok(names)
+}
+
+/// The arrays by name.
+pub(crate) fn arrays_by_name(alloc: Global, arrays: &[ArrayDef]) -> Result<Names, Memory>
+    ensures { IfOk result (λ names. NumbersLast names (array_names arrays.now)) }
+{
+    let mut names = IndexMap::new(alloc);
+    for i in 0..arrays.len() {
+        put(alloc, &mut names, &arrays[i].name, i)?;
+    }
+    Ok(names)
+}
+
+/// The number of the last that is declared with this name.
+pub(crate) fn number_named(names: &Names, name: &str) -> Option<u32>
+    ensures { result ≡ get_by_text names.now name.now }
+{
+    match names.get(name) {
+        None => None,
+        Some(number) => Some(*number),
+    }
+}

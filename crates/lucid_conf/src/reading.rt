@@ -1,0 +1,130 @@
+// Reading a value key by key. Each function is the word of its name in specs/Reading.antt.
+ghost use Rattle.std.specs.Prelude.{◌≡◌, IfOk, IfErr, Ok, None};
+ghost use Rattle.serde_json.specs.View.{view, items_view, members_view};
+ghost use Rattle.lucid_conf.specs.Answers.{Reads, Refuses, Gives, Fails};
+ghost use Rattle.lucid_conf.specs.Keys.{is_known as is_known_name};
+ghost use Rattle.lucid_conf.specs.Reading.{IsBetween, bad as bad_key, or_bad_at, all_known as all_are_known, file as file_read};
+ghost use Rattle.lucid_conf.specs.Reading.{number as number_read, required as required_read, items as items_read};
+
+use crate::{ConfError, Key};
+use serde_json::{Map, Value};
+use std::alloc::Global;
+
+/// The value that the bytes spell.
+pub(crate) fn value_of(alloc: Global, bytes: &[u8]) -> Result<Value, ConfError>
+    ensures ok { IfOk result (λ v. Reads bytes.now (view v)) }
+    ensures err { IfErr result (λ e. Refuses e (λ d. Ok d) bytes.now) }
+{
+    match Value::from_slice(alloc, bytes) {
+        Ok(value) => Ok(value),
+        Err(error) => {
+            if error.is_memory() {
+                Err(ConfError::Memory)
+            } else {
+                Err(ConfError::NotJson)
+            }
+        }
+    }
+}
+
+/// This key fails.
+pub(crate) fn bad<T>(key: Key) -> Result<T, ConfError>
+    ensures { Gives result (bad_key key) }
+{
+    Err(ConfError::BadField { key, place: None })
+}
+
+/// This key fails, and the item at this place is its first bad one.
+pub(crate) fn bad_at<T>(key: Key, place: usize) -> Result<T, ConfError>
+    ensures { Gives result (or_bad_at key place None) }
+{
+    match u32::try_from(place) {
+        Ok(place) => Err(ConfError::BadField {
+            key,
+            place: Some(place),
+        }),
+        // No memory holds so many items.
+        Err(_) => Err(ConfError::Memory),
+    }
+}
+
+fn is_known(keys: &[Key], text: &str) -> bool
+    ensures { result ≡ is_known_name keys.now text.now }
+{
+    keys.iter().any(|key| key.name() == text)
+}
+
+fn all_known(keys: &[Key], members: &Map<String, Value>) -> bool
+    ensures { result ≡ all_are_known keys.now (members_view members.now.entries) }
+{
+    for (key, _) in members.iter() {
+        if !is_known(keys, key.as_str()) {
+            return false;
+        }
+    }
+    true
+}
+
+/// The value is an object, and has none but these keys.
+pub(crate) fn file(value: &Value, keys: &[Key]) -> Result<(), ConfError>
+    ensures { Gives result (file_read (view value.now) keys.now) }
+{
+    match value.as_object() {
+        None => bad(Key::File),
+        Some(members) => {
+            if all_known(keys, members) {
+                Ok(())
+            } else {
+                bad(Key::Other)
+            }
+        }
+    }
+}
+
+/// A number from `least` to `most`, or the default where the key is absent.
+pub(crate) fn number(
+    value: &Value,
+    key: Key,
+    least: u64,
+    most: u64,
+    default: u64,
+) -> Result<u64, ConfError>
+    requires { IsBetween least most default }
+    ensures value { Gives result (number_read (view value.now) key least most default) }
+    ensures within { IfOk result (IsBetween least most) }
+{
+    match value.get(key.name()) {
+        None => Ok(default),
+        Some(found) => match found.as_u64() {
+            Some(n) if least <= n && n <= most => Ok(n),
+            _ => bad(key),
+        },
+    }
+}
+
+/// A number that has to be there.
+pub(crate) fn required(value: &Value, key: Key) -> Result<u64, ConfError>
+    ensures { Gives result (required_read (view value.now) key) }
+{
+    match value.get(key.name()) {
+        None => bad(key),
+        Some(found) => match found.as_u64() {
+            None => bad(key),
+            Some(n) => Ok(n),
+        },
+    }
+}
+
+/// The items of a list, none where the key is absent.
+pub(crate) fn items(value: &Value, key: Key) -> Result<&[Value], ConfError>
+    ensures ok { IfOk result (λ items. items_read (view value.now) key ≡ Ok (items_view items.now)) }
+    ensures err { IfErr result (λ e. Fails e (items_read (view value.now) key)) }
+{
+    match value.get(key.name()) {
+        None => Ok(&[]),
+        Some(found) => match found.as_array() {
+            None => bad(key),
+            Some(list) => Ok(list.as_slice()),
+        },
+    }
+}
