@@ -7,7 +7,7 @@ ghost use Rattle.lucid_log.specs.Cells.{shown_line, lines_from, cells_text};
 use crate::cell::hold_line;
 use lucid_base::ArrayDef;
 use lucid_core::Cells;
-use lucid_io::{Room, Sink, WriteFault, hold, release};
+use lucid_io::{Room, Sink, WriteFault, release};
 
 /// What cells hold, by the number of their array and their own, as a core's cells or a pipeline's registers do.
 pub trait ArrayCells {
@@ -95,7 +95,7 @@ fn hold_shown<S: Sink>(
     ensures part { OnErr result (PutsPart S.written S.faults sink.old sink.new (room.old ++ shown_line switch name.now cell value)) }
 {
     if value == 0 {
-        return hold(sink, room, b"");
+        return Ok(());
     }
     hold_line(sink, room, switch, name, cell, value)
 }
