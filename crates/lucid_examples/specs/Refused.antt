@@ -1,18 +1,23 @@
 -- Programs that break a rule: each is valid but for what is written, and the rule that it is tested by refuses it.
-use Rattle.std.specs.Prelude.{◌≡◌, ◌^◌, List, [], ◌∷◌, None, Some, false, replicate}
+use Rattle.std.specs.Prelude.{◌≡◌, ℕ, ◌^◌, List, [], ◌∷◌, ◌++◌, None, Some, Bool, true, false, not, replicate}
+use Rattle.std.specs.List.{list_all}
 use Rattle.lucid_base.specs.declared.array.ArrayName.TheVariants.{Global, Param}
 use Rattle.lucid_base.specs.declared.memory_alu.MemArg.TheVariants.{Fixed}
 use Rattle.lucid_base.specs.declared.memory_alu.MemSide.TheVariants.{One}
+use Rattle.lucid_base.specs.declared.ops.BinOp.TheVariants.{Add}
+use Rattle.lucid_base.specs.declared.ops.UnOp.TheVariants.{Neg}
+use Rattle.lucid_core.specs.declared.body.Expr.{Expr}
 use Rattle.lucid_core.specs.declared.body.Stmt.{Stmt}
 use Rattle.lucid_core.specs.declared.body.Expr.TheOpen.{Expr-F}
-use Rattle.lucid_core.specs.declared.body.Expr.TheViews.{roll-Expr}
+use Rattle.lucid_core.specs.declared.body.Expr.TheViews.{roll-Expr, roll-Touch}
 use Rattle.lucid_core.specs.Assigned.{reads_follow_assignments}
 use Rattle.lucid_core.specs.Events.{events_and_handlers_agree}
-use Rattle.lucid_core.specs.ExamplePrograms.{local, one, yes, call, inlined, assign, drop_value, choose, generate, to_each, say, return, plus, update, note, bumps, handles, program, small, with_bump, with_handler, flat, bump_put_in}
+use Rattle.lucid_core.specs.ExamplePrograms.{local, number, one, yes, less, hash, call, inlined, assign, drop_value, choose, generate, generate_with, to_each, to_each_after, say, return, plus, update, update_with, note, bump, handler, bumps, handles, program, small, with_bump, with_handler, flat, bump_put_in}
 use Rattle.lucid_core.specs.Limits.{declarations_keep_limits, bodies_keep_limits}
 use Rattle.lucid_core.specs.Names.{names_are_there}
 use Rattle.lucid_core.specs.Numbered.{declarations_are_numbered}
 use Rattle.lucid_core.specs.OutCount.{outs_are_few}
+use Rattle.lucid_core.specs.Parts.{Parts}
 use Rattle.lucid_core.specs.Returns.{returns_stand_last}
 use Rattle.lucid_core.specs.Syntax.{has_core_syntax, has_flat_syntax}
 use Rattle.lucid_core.specs.Texts.{texts_are_filled}
@@ -24,6 +29,86 @@ named_outside = drop_value bump_put_in ∷ drop_value (local 2) ∷ []
 
 abbrev pub reads_another : List Stmt
 reads_another = drop_value (inlined ((2, one) ∷ []) (return (Some (local 0)) ∷ [])) ∷ []
+
+-- An expression in each place of an expression, and in each place of a statement.
+abbrev pub within : Expr → List Expr
+within x =
+    roll-Expr (Expr-F.Un Neg x)
+    ∷ roll-Expr (Expr-F.Bin Add x one)
+    ∷ roll-Expr (Expr-F.Bin Add one x)
+    ∷ less x one
+    ∷ less one x
+    ∷ roll-Expr (Expr-F.Cast 8 x)
+    ∷ hash 7 x
+    ∷ call 0 (Global 0 ∷ []) (x ∷ [])
+    ∷ update (Global 0) x plus
+    ∷ update_with (Global 0) one plus x one
+    ∷ update_with (Global 0) one plus one x
+    ∷ []
+
+abbrev pub stands_in : Expr → List Stmt
+stands_in x =
+    drop_value x
+    ∷ assign 2 x
+    ∷ choose x [] []
+    ∷ choose yes (drop_value x ∷ []) []
+    ∷ choose yes [] (drop_value x ∷ [])
+    ∷ generate 0 (x ∷ one ∷ [])
+    ∷ generate_with 0 (one ∷ one ∷ []) (Some x) None false
+    ∷ generate_with 0 (one ∷ one ∷ []) None (Some x) false
+    ∷ to_each 0 (x ∷ one ∷ []) (5 ∷ [])
+    ∷ to_each_after 0 (one ∷ one ∷ []) (Some x) (5 ∷ [])
+    ∷ say 0 (x ∷ [])
+    ∷ []
+
+-- The same in the argument and in the statements of an `Inlined`.
+abbrev pub inlined_with : Expr → List Expr
+inlined_with x = inlined ((2, x) ∷ []) [] ∷ inlined ((2, one) ∷ []) (drop_value x ∷ []) ∷ []
+
+-- A rule refuses each of these: expressions, or statements, before the handler's own.
+abbrev pub refuses_exprs : (Parts → Bool) → (List Stmt → Parts) → List Expr → Bool
+refuses_exprs rule program xs = list_all (λ x. not (rule (program (drop_value x ∷ [])))) xs
+
+abbrev pub refuses_stmts : (Parts → Bool) → (List Stmt → Parts) → List Stmt → Bool
+refuses_stmts rule program ss = list_all (λ s. not (rule (program (s ∷ [])))) ss
+
+-- What each rule refuses wherever it stands: no such local, two widths, a return that isn't the last, nine prints, a local that isn't assigned yet,
+-- a hash of nothing, a print without its number, a call with its body put in, and a call.
+abbrev pub nine_prints : Expr
+nine_prints = inlined [] (replicate 9 (say 0 (one ∷ [])))
+
+abbrev pub two_returns : Expr
+two_returns = inlined [] (return None ∷ return None ∷ [])
+
+abbrev pub empty_print : Expr
+empty_print = inlined [] (say 0 [] ∷ [])
+
+abbrev pub hash_of_nothing : Expr
+hash_of_nothing = roll-Expr (Expr-F.Hash 32 [])
+
+-- A flat program of this handler, with this many locals more.
+abbrev pub flat_with : ℕ → List Stmt → Parts
+flat_with more ss = record small { funs = []; handlers = record (handler ss) { locals = 32 ∷ 32 ∷ 32 ∷ replicate more 32 } ∷ [] }
+
+-- bump(bump(i)) with both bodies put in: the inner one is the argument of the outer one.
+abbrev pub nested : List Stmt
+nested = drop_value (inlined ((2, inlined ((3, local 0) ∷ []) (return (Some (local 3)) ∷ [])) ∷ []) (return (Some (local 2)) ∷ [])) ∷ []
+
+-- The statements of the inner one read a local of the outer one.
+abbrev pub inner_reads_outer : List Stmt
+inner_reads_outer = drop_value (inlined ((2, one) ∷ []) (drop_value (inlined [] (return (Some (local 2)) ∷ [])) ∷ return (Some (local 2)) ∷ [])) ∷ []
+
+-- Its argument names the local that it is to be held in.
+abbrev pub argument_names_own : List Stmt
+argument_names_own = assign 2 one ∷ drop_value (inlined ((2, local 2) ∷ []) (return (Some (local 2)) ∷ [])) ∷ []
+
+-- It is held in a parameter of the handler.
+abbrev pub holds_in_parameter : List Stmt
+holds_in_parameter = drop_value (inlined ((1, one) ∷ []) (return (Some (local 1)) ∷ [])) ∷ assign 2 one ∷ []
+
+-- A group as a flat program has it: its arguments are held, and each member is sent an event.
+abbrev pub group_put_in : List Stmt
+group_put_in = assign 2 one ∷ generate_with 0 (local 2 ∷ local 2 ∷ []) None (Some (number 5)) false ∷ generate_with 0 (local 2 ∷ local 2 ∷ []) None (Some (number 7)) false ∷ []
 
 -- Each of these breaks the rule that it is tested by.
 pub record RulesRefuse : Type 0 where
@@ -60,3 +145,58 @@ pub record RulesRefuse : Type 0 where
   pub reads_another : inlined_keep_to_themselves (flat reads_another) ≡ false
   pub sometimes_a_value : returns_stand_last (flat (drop_value (inlined ((2, one) ∷ []) (choose yes (return (Some one) ∷ []) [] ∷ [])) ∷ [])) ≡ false
   pub no_value : widths_agree (flat (assign 2 (inlined [] []) ∷ [])) ≡ false
+  pub parameters_beyond_locals : names_are_there (record small { funs = record (bump bumps) { params = 3 } ∷ [] }) ≡ false
+  pub other_handler : events_and_handlers_agree (record small { events = note ∷ record note { params = [] } ∷ [] }) ≡ false
+  pub no_such_handler : events_and_handlers_agree (record small { events = note ∷ record note { handler = Some 1 } ∷ [] }) ≡ false
+  pub other_operand : widths_agree (with_handler (drop_value (less one yes) ∷ [])) ≡ false
+  pub other_set_memop : widths_agree (with_handler (drop_value (roll-Expr (Expr-F.Array (roll-Touch (record { array = Global 0; index = one; get = plus; get_arg = one; set = record plus { width = 16 }; set_arg = one; answers = true })))) ∷ [])) ≡ false
+  pub other_memop_argument : widths_agree (with_handler (drop_value (update_with (Global 0) one plus yes one) ∷ [])) ≡ false
+  pub other_set_argument : widths_agree (with_handler (drop_value (update_with (Global 0) one plus one yes) ∷ [])) ≡ false
+  pub nine_outs_in_function : outs_are_few (with_bump (replicate 9 (say 0 (one ∷ [])) ++ bumps)) ≡ false
+  pub read_in_condition : reads_follow_assignments (with_handler (choose (less (local 2) one) [] [] ∷ [])) ≡ false
+  pub read_in_call_of_array : reads_follow_assignments (with_handler (drop_value (update (Global 0) (local 2) plus) ∷ [])) ≡ false
+  pub read_in_argument : reads_follow_assignments (flat (drop_value (inlined ((2, local 2) ∷ []) (return (Some (local 2)) ∷ [])) ∷ [])) ≡ false
+  pub read_in_inlined : reads_follow_assignments (flat (drop_value (inlined [] (return (Some (local 2)) ∷ [])) ∷ [])) ≡ false
+  pub size_65537 : declarations_keep_limits (record small { arrays = record { name = []; width = 32; size = 65537 } ∷ [] }) ≡ false
+  pub wide_number_in_declared_memop : declarations_keep_limits (record small { memops = record { name = []; alu = record plus { yes = One (Fixed (2 ^ 32)) } } ∷ [] }) ≡ false
+  pub nine_arrays : declarations_keep_limits (record small { funs = record (bump bumps) { arrays = replicate 9 32 } ∷ [] }) ≡ false
+  pub nine_values : declarations_keep_limits (record small { funs = record (bump bumps) { params = 9 } ∷ [] }) ≡ false
+  pub none_hashed : bodies_keep_limits (with_handler (drop_value (roll-Expr (Expr-F.Hash 32 [])) ∷ [])) ≡ false
+  pub nine_said : bodies_keep_limits (with_handler (say 0 (replicate 9 one) ∷ [])) ≡ false
+  pub nine_sent : bodies_keep_limits (with_handler (generate 0 (replicate 9 one) ∷ [])) ≡ false
+  pub no_members : bodies_keep_limits (with_handler (to_each 0 (one ∷ one ∷ []) [] ∷ [])) ≡ false
+  pub nine_members : bodies_keep_limits (with_handler (to_each 0 (one ∷ one ∷ []) (0 ∷ 1 ∷ 2 ∷ 3 ∷ 4 ∷ 5 ∷ 6 ∷ 7 ∷ 8 ∷ []) ∷ [])) ≡ false
+  pub number_0 : declarations_are_numbered (record small { funs = record (bump bumps) { decl = 0 } ∷ [] }) ≡ false
+  pub same_number : declarations_are_numbered (record small { funs = bump bumps ∷ bump bumps ∷ [] }) ≡ false
+  pub same_number_of_handlers : declarations_are_numbered (record small { handlers = handler handles ∷ handler handles ∷ [] }) ≡ false
+  pub number_of_a_handler : declarations_are_numbered (record small { funs = record (bump bumps) { decl = 5 } ∷ [] }) ≡ false
+  pub group_in_flat : has_flat_syntax (flat (to_each 0 (one ∷ one ∷ []) (5 ∷ []) ∷ [])) ≡ false
+  pub inner_reads_outer : inlined_keep_to_themselves (flat inner_reads_outer) ≡ false
+  pub argument_names_own : inlined_keep_to_themselves (flat argument_names_own) ≡ false
+  pub holds_in_parameter : inlined_keep_to_themselves (flat holds_in_parameter) ≡ false
+  pub local_in_expressions : refuses_exprs names_are_there with_handler (within (local 9)) ≡ true
+  pub local_in_statements : refuses_stmts names_are_there with_handler (stands_in (local 9)) ≡ true
+  pub local_in_inlined : refuses_exprs names_are_there with_handler (inlined_with (local 9)) ≡ true
+  pub widths_in_expressions : refuses_exprs widths_agree with_handler (within (less one yes)) ≡ true
+  pub widths_in_statements : refuses_stmts widths_agree with_handler (stands_in (less one yes)) ≡ true
+  pub widths_in_inlined : refuses_exprs widths_agree with_handler (inlined_with (less one yes)) ≡ true
+  pub return_in_expressions : refuses_exprs returns_stand_last with_handler (within two_returns) ≡ true
+  pub return_in_statements : refuses_stmts returns_stand_last with_handler (stands_in two_returns) ≡ true
+  pub return_in_inlined : refuses_exprs returns_stand_last with_handler (inlined_with two_returns) ≡ true
+  pub prints_in_expressions : refuses_exprs outs_are_few with_handler (within nine_prints) ≡ true
+  pub prints_in_statements : refuses_stmts outs_are_few with_handler (stands_in nine_prints) ≡ true
+  pub prints_in_inlined : refuses_exprs outs_are_few with_handler (inlined_with nine_prints) ≡ true
+  pub early_in_expressions : refuses_exprs reads_follow_assignments with_handler (within (local 2)) ≡ true
+  pub early_in_statements : refuses_stmts reads_follow_assignments with_handler (stands_in (local 2)) ≡ true
+  pub hash_in_expressions : refuses_exprs bodies_keep_limits with_handler (within hash_of_nothing) ≡ true
+  pub hash_in_statements : refuses_stmts bodies_keep_limits with_handler (stands_in hash_of_nothing) ≡ true
+  pub hash_in_inlined : refuses_exprs bodies_keep_limits with_handler (inlined_with hash_of_nothing) ≡ true
+  pub text_in_expressions : refuses_exprs texts_are_filled with_handler (within empty_print) ≡ true
+  pub text_in_statements : refuses_stmts texts_are_filled with_handler (stands_in empty_print) ≡ true
+  pub text_in_inlined : refuses_exprs texts_are_filled with_handler (inlined_with empty_print) ≡ true
+  pub inlined_in_expressions : refuses_exprs has_core_syntax with_handler (within (inlined [] [])) ≡ true
+  pub inlined_in_statements : refuses_stmts has_core_syntax with_handler (stands_in (inlined [] [])) ≡ true
+  pub inlined_in_inlined : refuses_exprs has_core_syntax with_handler (inlined_with (inlined [] [])) ≡ true
+  pub call_in_expressions : refuses_exprs has_flat_syntax flat (within (call 0 [] [])) ≡ true
+  pub call_in_statements : refuses_stmts has_flat_syntax flat (stands_in (call 0 [] [])) ≡ true
+  pub call_in_inlined : refuses_exprs has_flat_syntax flat (inlined_with (call 0 [] [])) ≡ true
