@@ -8,6 +8,8 @@ mod base;
 #[cfg(test)]
 mod print;
 #[cfg(test)]
+mod scenarios;
+#[cfg(test)]
 mod small;
 #[cfg(test)]
 mod texts;
