@@ -12,7 +12,7 @@ use Rattle.lucid_core.specs.declared.body.Expr.TheOpen.{Expr-F}
 use Rattle.lucid_core.specs.declared.body.Expr.TheViews.{roll-Expr, roll-Touch}
 use Rattle.lucid_core.specs.Assigned.{reads_follow_assignments}
 use Rattle.lucid_core.specs.Events.{events_and_handlers_agree}
-use Rattle.lucid_core.specs.ExamplePrograms.{local, number, one, yes, less, hash, call, inlined, assign, drop_value, choose, generate, generate_with, to_each, to_each_after, say, return, plus, update, update_with, note, bump, handler, bumps, handles, program, small, with_bump, with_handler, flat, bump_put_in}
+use Rattle.lucid_core.specs.ExamplePrograms.{local, number, one, yes, less, hash, call, inlined, assign, drop_value, choose, generate, generate_with, to_each, to_each_after, say, return, plus, array, update, update_with, note, bump, handler, bumps, handles, program, small, with_bump, with_handler, flat, bump_put_in}
 use Rattle.lucid_core.specs.Limits.{declarations_keep_limits, bodies_keep_limits}
 use Rattle.lucid_core.specs.Names.{names_are_there}
 use Rattle.lucid_core.specs.Numbered.{declarations_are_numbered}
@@ -152,7 +152,7 @@ pub record RulesRefuse : Type 0 where
   pub other_set_memop : widths_agree (with_handler (drop_value (roll-Expr (Expr-F.Array (roll-Touch (record { array = Global 0; index = one; get = plus; get_arg = one; set = record plus { width = 16 }; set_arg = one; answers = true })))) ∷ [])) ≡ false
   pub other_memop_argument : widths_agree (with_handler (drop_value (update_with (Global 0) one plus yes one) ∷ [])) ≡ false
   pub other_set_argument : widths_agree (with_handler (drop_value (update_with (Global 0) one plus one yes) ∷ [])) ≡ false
-  pub nine_outs_in_function : outs_are_few (with_bump (replicate 9 (say 0 (one ∷ [])) ++ bumps)) ≡ false
+  pub nine_outs_in_function : outs_are_few (record small { funs = bump bumps ∷ bump (replicate 9 (say 0 (one ∷ [])) ++ bumps) ∷ [] }) ≡ false
   pub read_in_condition : reads_follow_assignments (with_handler (choose (less (local 2) one) [] [] ∷ [])) ≡ false
   pub read_in_call_of_array : reads_follow_assignments (with_handler (drop_value (update (Global 0) (local 2) plus) ∷ [])) ≡ false
   pub read_in_argument : reads_follow_assignments (flat (drop_value (inlined ((2, local 2) ∷ []) (return (Some (local 2)) ∷ [])) ∷ [])) ≡ false
@@ -200,3 +200,18 @@ pub record RulesRefuse : Type 0 where
   pub call_in_expressions : refuses_exprs has_flat_syntax flat (within (call 0 [] [])) ≡ true
   pub call_in_statements : refuses_stmts has_flat_syntax flat (stands_in (call 0 [] [])) ≡ true
   pub call_in_inlined : refuses_exprs has_flat_syntax flat (inlined_with (call 0 [] [])) ≡ true
+  pub no_such_array_given : names_are_there (with_handler (drop_value (call 0 (Global 2 ∷ []) (one ∷ [])) ∷ [])) ≡ false
+  pub no_such_array_parameter : names_are_there (with_bump (drop_value (update (Param 1) one plus) ∷ bumps)) ≡ false
+  pub no_such_local_assigned : names_are_there (with_handler (assign 9 one ∷ [])) ≡ false
+  pub no_such_local_held : names_are_there (flat (drop_value (inlined ((9, one) ∷ []) []) ∷ [])) ≡ false
+  pub no_such_event_for_group : names_are_there (with_handler (to_each 1 [] (5 ∷ []) ∷ [])) ≡ false
+  pub other_array : widths_agree (record (with_handler (drop_value (call 0 (Global 1 ∷ []) (one ∷ [])) ∷ [])) { arrays = array 4 ∷ record (array 8) { width = 16 } ∷ [] }) ≡ false
+  pub other_argument : widths_agree (with_handler (drop_value (call 0 (Global 0 ∷ []) (yes ∷ [])) ∷ [])) ≡ false
+  pub other_sum : widths_agree (with_handler (drop_value (roll-Expr (Expr-F.Bin Add one yes)) ∷ [])) ≡ false
+  pub other_get_memop : widths_agree (with_handler (drop_value (roll-Expr (Expr-F.Array (roll-Touch (record { array = Global 0; index = one; get = record plus { width = 16 }; get_arg = one; set = plus; set_arg = one; answers = true })))) ∷ [])) ≡ false
+  pub other_event_argument : widths_agree (with_handler (generate 0 (one ∷ yes ∷ []) ∷ [])) ≡ false
+  pub other_held : widths_agree (flat (drop_value (inlined ((2, yes) ∷ []) []) ∷ [])) ≡ false
+  pub two_answers : widths_agree (flat (drop_value (inlined [] (choose yes (return (Some one) ∷ []) (return (Some yes) ∷ []) ∷ [])) ∷ [])) ≡ false
+  pub function_gives_other : widths_agree (with_bump (return (Some yes) ∷ [])) ≡ false
+  pub wide_number_in_get : bodies_keep_limits (with_handler (drop_value (roll-Expr (Expr-F.Array (roll-Touch (record { array = Global 0; index = one; get = record plus { yes = One (Fixed (2 ^ 32)) }; get_arg = one; set = plus; set_arg = one; answers = true })))) ∷ [])) ≡ false
+  pub wide_number_in_set : bodies_keep_limits (with_handler (drop_value (roll-Expr (Expr-F.Array (roll-Touch (record { array = Global 0; index = one; get = plus; get_arg = one; set = record plus { yes = One (Fixed (2 ^ 32)) }; set_arg = one; answers = true })))) ∷ [])) ≡ false
