@@ -1,12 +1,13 @@
 // The texts of lucid_log that no form of words writes yet, as they stand on paper, and how many writes they take.
-ghost use Rattle.std.specs.Prelude.{◌≡◌, ◌<◌, ◌≤◌, length, None, IsTrue, IfOk};
+ghost use Rattle.std.specs.Prelude.{◌≡◌, ◌<◌, ◌≤◌, length, None, IsTrue, IfOk, slice_index};
 ghost use Rattle.std.specs.List.{All};
+ghost use Rattle.lucid_base.specs.Cells.{place_of};
 ghost use Rattle.lucid_core.specs.Fits.{out_fits, say_fits};
 
 use lucid_base::{Args, ArrayDef, Event, Id, Items, Memory, Out, Outs, Target, Width};
-use lucid_core::{Cells, Core, EventDef};
+use lucid_core::{Core, EventDef};
 use lucid_io::{Failed, MemSink, Sink, WriteFault};
-use lucid_log::{Piece, put_block, put_cell, put_cells, put_ending, put_pieces};
+use lucid_log::{ArrayCells, Piece, put_block, put_cell, put_cells, put_ending, put_pieces};
 use std::alloc::Global;
 use std::test::Fail;
 
@@ -141,14 +142,48 @@ fn blocks(rt: HostRuntime) -> Result<(), Fail> {
     Ok(())
 }
 
+/// Cells by array.
+#[derive(Drop)]
+struct Rows {
+    rows: Vec<Items<u64>>,
+}
+
+impl ArrayCells for Rows {
+    ghost held = { λ cells. cells.rows.items };
+
+    fn value(&self, array: u32, cell: u64) -> u64 {
+        match self.rows.get(array as usize) {
+            None => 0,
+            Some(row) => read(row.as_slice(), cell),
+        }
+    }
+}
+
+fn read(row: &[u64], cell: u64) -> u64
+    ensures { result ≡ slice_index row.now (place_of row.now cell) }
+{
+    if row.is_empty() {
+        0
+    } else {
+        row[(cell % row.len() as u64) as usize]
+    }
+}
+
+fn two_rows(alloc: Global, first: &[u64], second: &[u64]) -> Result<Rows, Memory> {
+    let mut rows = Vec::new(alloc);
+    rows.push(Items::from_slice(alloc, first)?)?;
+    rows.push(Items::from_slice(alloc, second)?)?;
+    Ok(Rows { rows })
+}
+
 #[test]
 fn cells_endings_and_hexadecimal(rt: HostRuntime) -> Result<(), Fail> {
     let alloc = rt.alloc();
     let core = program(alloc, Width::new(32).expect(&rt, "a width"))?;
     assert!(rt; core.arrays().len() == 2);
-    let mut cells = Cells::new(alloc, &core)?;
-    cells.set(0, 1, 2);
-    cells.set(1, 999, 7);
+    let mut last = [0; 1000];
+    last[999] = 7;
+    let cells = two_rows(alloc, &[0, 2, 0, 0], &last)?;
     let mut sink = MemSink::new(alloc, 200, Vec::new(alloc))?;
     assert_eq!(rt; put_cells(&mut sink, 3, core.arrays(), &cells), Ok(()));
     assert_eq!(rt; put_cell(&mut sink, &core, 0, 0, 1, 2), Ok(()));
@@ -212,10 +247,7 @@ fn a_block_is_one_write_and_many_cells_are_few(rt: HostRuntime) -> Result<(), Fa
     assert_eq!(rt; sink.writes, 30_000);
 
     // 1,000 lines of 16,890 bytes in all, at most 4,096 a write.
-    let mut cells = Cells::new(alloc, &core)?;
-    for cell in 0..1000 {
-        cells.set(1, cell, 1);
-    }
+    let cells = two_rows(alloc, &[0; 4], &[1; 1000])?;
     let mut sink = Counter { writes: 0 };
     assert_eq!(rt; put_cells(&mut sink, 0, core.arrays(), &cells), Ok(()));
     assert_eq!(rt; sink.writes, 5);
