@@ -1,17 +1,15 @@
 -- The functions before a function.
 use Rattle.std.proofs.Common.{◌≡◌, ℕ, zero, suc, ◌+◌, ◌<◌, ◌≤◌, List, [], ◌∷◌, map, take, None, Some, refl, arith}
-use Rattle.std.specs.Prelude.{slice_get, Result}
+use Rattle.std.specs.Prelude.{slice_get}
 use Rattle.std.specs.Option.{option_map}
 use Rattle.std.proofs.lemmas.Option.{slice_get_within}
 use denote.Param.Weighed.{most}
 use Rattle.lucid_base.specs.declared.bits.Bits.{Bits}
-use Rattle.lucid_base.specs.declared.memory.Memory.{Memory}
 use Rattle.lucid_core.specs.declared.body.Stmt.{Stmt}
 use Rattle.lucid_core.specs.declared.body.Expr.TheViews.{size-Stmt}
 use Rattle.lucid_core.specs.declared.defs.FunDef.{FunDef}
 use Rattle.lucid_core.specs.Acts.{Frame, Fun, State, begun_with, block, called}
 use Rattle.lucid_core.specs.Meaning.{call, effect_of, fun_of, funs_of}
-use Rattle.lucid_core.specs.Running.{Running, Does}
 use Rattle.lucid_core.specs.Values.{nothing}
 use Rattle.lucid_core.specs.Weight.{weight}
 use Rattle.lucid_core.proofs.Grown.{grow, grow-at}
@@ -33,7 +31,7 @@ pub call_none : (p : Frame) (fs : List FunDef) (k : ℕ) (arrays : List ℕ) (ar
 call_none p fs k arrays args s known is = rw (known, funs_of-at p.now p.me fs k, ← is) refl
 
 -- A call of a function that is there runs its body on locals of its own, behind the functions before it.
-pub call_some : (p : Frame) (fs before : List FunDef) (k : ℕ) (arrays : List ℕ) (args locals : List Bits) (widths : List ℕ) (body : List Stmt) (old new : Running) (r : Result Bits Memory) (f : FunDef) →
+pub call_some : (p : Frame) (fs before : List FunDef) (k : ℕ) (arrays : List ℕ) (args locals : List Bits) (widths : List ℕ) (body : List Stmt) (f : FunDef) (s : State) →
     p.funs ≡ funs_of p.now p.me fs → Some f ≡ slice_get fs k → before ≡ take k fs → widths ≡ f.locals → body ≡ f.body → locals ≡ begun_with args widths →
-    Does (called locals (block (map effect_of body)) (record { now = p.now; me = p.me; arrays = arrays; funs = funs_of p.now p.me before })) old new r → Does (call k arrays args p) old new r
-call_some p fs before k arrays args locals widths body old new r f known is at ws ss begun does = rw (known, funs_of-at p.now p.me fs k, ← is, ← at, ← ws, ← ss, ← begun) does
+    call k arrays args p s ≡ called locals (block (map effect_of body)) (record { now = p.now; me = p.me; arrays = arrays; funs = funs_of p.now p.me before }) s
+call_some p fs before k arrays args locals widths body f s known is at ws ss begun = rw (known, funs_of-at p.now p.me fs k, ← is, ← at, ← ws, ← ss, ← begun) refl

@@ -1,9 +1,12 @@
--- A run in progress: the state so far, and the cells that it began with.
-use Rattle.std.specs.Prelude.{◌≡◌, ℕ, List, [], ◌∷◌, Ok, Err}
+-- A run in progress: the state so far, and the cells that it began with. Which statements send something out.
+use Rattle.std.specs.Prelude.{◌≡◌, ℕ, List, [], ◌∷◌, Bool, true, false, Ok, Err}
 use Rattle.std.specs.Prelude.{Result}
 use Rattle.lucid_base.specs.declared.memory.Memory.{Memory}
 use Rattle.lucid_base.specs.declared.event.Out.{Out}
 use Rattle.lucid_base.specs.declared.event.Out.TheVariants as out
+use Rattle.lucid_core.specs.declared.body.Stmt.{Stmt}
+use Rattle.lucid_core.specs.declared.body.Expr.TheOpen.{Stmt-F}
+use Rattle.lucid_core.specs.declared.body.Expr.TheFolds.{fold-Stmt}
 use Rattle.lucid_core.specs.declared.draft.Draft.{Draft}
 use Rattle.lucid_core.specs.declared.draft.Draft.TheVariants.{Gen, Say}
 use Rattle.lucid_core.specs.declared.place.Place.{Place}
@@ -37,3 +40,16 @@ Does act old new (Err e) = new.start ≡ old.start
 -- Where a body runs, as the definition has it.
 abbrev pub frame : Place → Frame
 frame place = record { now = place.moment.now; me = place.moment.me; arrays = place.arrays.now; funs = funs_of place.moment.now place.moment.me place.funs.now }
+
+abbrev sends : Stmt-F Bool Bool Bool → Bool
+sends (Stmt-F.Gen event xs delay to delay_first) = true
+sends (Stmt-F.Multi event xs delay members) = true
+sends (Stmt-F.Say form xs) = true
+sends (Stmt-F.Assign i x) = false
+sends (Stmt-F.Drop x) = false
+sends (Stmt-F.If x ss ts) = false
+sends (Stmt-F.Return x) = false
+
+-- A statement that sends something out itself.
+abbrev pub sends_out : Stmt → Bool
+sends_out = fold-Stmt Bool Bool Bool (λ x. false) sends (λ t. false)

@@ -1,10 +1,10 @@
 // The interpreter: it does to a run what the definition says of each part of a body, or runs out of memory.
 // A function is run behind the functions before it, so that each call leaves fewer of them.
-ghost use Rattle.std.specs.Prelude.{◌≡◌, ◌++◌, IfOk, IfSome, OnOk, OnErr, map, slice_get, take};
+ghost use Rattle.std.specs.Prelude.{◌≡◌, ◌++◌, IfOk, IfSome, IsTrue, OnOk, OnErr, map, slice_get, take};
 ghost use Rattle.std.specs.Option.{option_map};
-ghost use Rattle.lucid_core.specs.Acts.{all, array_of, begun_with, block, both, called as called_on};
-ghost use Rattle.lucid_core.specs.Meaning.{all_given, call as call_of, delay_of, effect_of, expr_step, generated, holding, target_of, touch_of, value_of};
-ghost use Rattle.lucid_core.specs.Running.{Does, frame, out_of, with_state};
+ghost use Rattle.lucid_core.specs.Acts.{all, array_of, begun_with, block, both};
+ghost use Rattle.lucid_core.specs.Meaning.{call as call_of, delay_of, effect_of, expr_step, generated, holding, target_of, touch_of, value_of};
+ghost use Rattle.lucid_core.specs.Running.{Does, frame, out_of, sends_out, with_state};
 ghost use Rattle.lucid_base.specs.declared.event.Target.TheVariants.{At};
 ghost use Rattle.lucid_core.specs.declared.body.Expr.TheOpen.{Expr-F};
 
@@ -67,19 +67,6 @@ fn values(place: Place, run: &mut Run, es: &[Expr]) -> Result<Items<Bits>, Memor
     Ok(vs)
 }
 
-/// What arguments give, from left to right, with the locals that are to hold them.
-#[cycle(run)]
-fn givens(place: Place, run: &mut Run, given: &[(u32, Expr)]) -> Result<Items<(u32, Bits)>, Memory>
-    ensures { Does (all_given (map (λ g. (g.0, value_of g.1)) given.now) (frame place.entry)) run.old run.new result }
-{
-    let mut held = Items::new(place.alloc);
-    for (i, e) in given {
-        let v = value(place, run, e)?;
-        held.push((*i, v))?;
-    }
-    Ok(held)
-}
-
 /// What a call with its body put in answers: the body runs on a copy of the locals, in which the arguments are held.
 #[cycle(run)]
 fn inlined(
@@ -90,10 +77,16 @@ fn inlined(
 ) -> Result<Bits, Memory>
     ensures { Does (expr_step (Expr-F.Inlined (map (λ g. (g.0, value_of g.1)) given.now) (map effect_of stmts.now)) (frame place.entry)) run.old run.new result }
 {
-    let held = givens(place, run, given)?;
+    let mut held = Items::new(place.alloc);
+    for (i, e) in given {
+        let v = value(place, run, e)?;
+        held.push((*i, v))?;
+    }
     let mut locals = run.copy_locals(place.alloc)?;
     hold(&mut locals, held.as_slice());
-    called(place, run, locals, stmts)
+    let caller = run.enter(locals);
+    effects(place, run, stmts)?;
+    Ok(run.leave(caller))
 }
 
 /// What a call of an array answers.
@@ -124,29 +117,16 @@ fn call(
         None => Ok(nothing()),
         Some((funs, f)) => {
             let locals = with_zeros(args, f.locals.as_slice())?;
+            let caller = run.enter(locals);
             let place = Place {
                 arrays,
                 funs,
                 ..place
             };
-            called(place, run, locals, f.body.as_slice())
+            effects(place, run, f.body.as_slice())?;
+            Ok(run.leave(caller))
         }
     }
-}
-
-/// What a body answers that runs on locals of its own.
-#[cycle(run)]
-fn called(place: Place, run: &mut Run, locals: Items<Bits>, stmts: &[Stmt]) -> Result<Bits, Memory>
-    ensures { Does (called_on locals (block (map effect_of stmts.now)) (frame place.entry)) run.old run.new result }
-{
-    let callers = run.enter(locals);
-    let before = run.answer();
-    run.set_answer(nothing());
-    effects(place, run, stmts)?;
-    let result = run.answer();
-    run.set_answer(before);
-    run.enter(callers);
-    Ok(result)
 }
 
 /// What a block does.
@@ -183,42 +163,7 @@ fn effect(place: Place, run: &mut Run, stmt: &Stmt) -> Result<(), Memory>
                 effects(place, run, yes.as_slice())
             }
         }
-        Stmt::Gen {
-            event,
-            args,
-            delay,
-            to,
-            delay_first,
-        } => {
-            let args = values(place, run, args.as_slice())?;
-            let (delay, to) = delay_and_target(place, run, delay, to, *delay_first)?;
-            run.send(generate(place.alloc, *event, args.as_slice(), delay, to)?)?;
-            Ok(())
-        }
-        Stmt::Multi {
-            event,
-            args,
-            delay,
-            members,
-        } => {
-            let args = values(place, run, args.as_slice())?;
-            let delay = delay_in(place, run, delay)?;
-            send_each(
-                place.alloc,
-                run,
-                *event,
-                args.as_slice(),
-                delay,
-                members.as_slice(),
-            )?;
-            Ok(())
-        }
-        Stmt::Say { form, args } => {
-            let args = values(place, run, args.as_slice())?;
-            let args = numbers(place.alloc, args.as_slice())?;
-            run.send(Draft::Say { form: *form, args })?;
-            Ok(())
-        }
+        Stmt::Gen { .. } | Stmt::Multi { .. } | Stmt::Say { .. } => sends(place, run, stmt),
         Stmt::Return(None) => Ok(()),
         Stmt::Return(Some(e)) => {
             let v = value(place, run, e)?;
@@ -228,7 +173,46 @@ fn effect(place: Place, run: &mut Run, stmt: &Stmt) -> Result<(), Memory>
     }
 }
 
-/// The delay and the target of an event that is sent, in the order in which they are written.
+/// What a statement does that sends something out itself.
+#[cycle(run)]
+fn sends(place: Place, run: &mut Run, stmt: &Stmt) -> Result<(), Memory>
+    requires { IsTrue (sends_out stmt.now) }
+    ensures { Does (effect_of stmt.now (frame place.entry)) run.old run.new result }
+{
+    match stmt {
+        Stmt::Gen {
+            event,
+            args,
+            delay,
+            to,
+            delay_first,
+        } => {
+            let args = values(place, run, args.as_slice())?;
+            let (delay, to) = delay_and_target(place, run, delay, to, *delay_first)?;
+            run.send(generate(place.alloc, *event, args.as_slice(), delay, to)?)
+        }
+        Stmt::Multi {
+            event,
+            args,
+            delay,
+            members,
+        } => {
+            let args = values(place, run, args.as_slice())?;
+            // Its members stand for a target.
+            let (delay, _) = delay_and_target(place, run, delay, &None, true)?;
+            send_each(place.alloc, run, *event, args, delay, members.as_slice())
+        }
+        Stmt::Say { form, args } => {
+            let args = values(place, run, args.as_slice())?;
+            let args = numbers(place.alloc, args.as_slice())?;
+            run.send(Draft::Say { form: *form, args })
+        }
+        // No other statement sends.
+        _ => Ok(()),
+    }
+}
+
+/// The delay and the target of an event that is sent, in the order in which they are written: 0 and here where they aren't.
 #[cycle(run)]
 fn delay_and_target(
     place: Place,
@@ -239,36 +223,21 @@ fn delay_and_target(
 ) -> Result<(u64, Target), Memory>
     ensures { Does (both delay_first (delay_of (option_map value_of delay.now)) (target_of (option_map value_of to.now)) (frame place.entry)) run.old run.new result }
 {
-    if delay_first {
-        let delay = delay_in(place, run, delay)?;
-        let to = target_in(place, run, to)?;
-        Ok((delay, to))
-    } else {
-        let to = target_in(place, run, to)?;
-        let delay = delay_in(place, run, delay)?;
-        Ok((delay, to))
-    }
-}
-
-/// A delay in ticks: 0 where none is written.
-#[cycle(run)]
-fn delay_in(place: Place, run: &mut Run, delay: &Option<Expr>) -> Result<u64, Memory>
-    ensures { Does (delay_of (option_map value_of delay.now) (frame place.entry)) run.old run.new result }
-{
-    match delay {
-        None => Ok(0),
-        Some(e) => Ok(value(place, run, e)?.value),
-    }
-}
-
-/// A target: here where none is written.
-#[cycle(run)]
-fn target_in(place: Place, run: &mut Run, to: &Option<Expr>) -> Result<Target, Memory>
-    ensures { Does (target_of (option_map value_of to.now) (frame place.entry)) run.old run.new result }
-{
-    match to {
-        None => Ok(Target::Here),
-        Some(e) => Ok(Target::At(value(place, run, e)?.value)),
+    match (delay, to) {
+        (None, None) => Ok((0, Target::Here)),
+        (Some(delay), None) => Ok((value(place, run, delay)?.value, Target::Here)),
+        (None, Some(to)) => Ok((0, Target::At(value(place, run, to)?.value))),
+        (Some(delay), Some(to)) => {
+            if delay_first {
+                let delay = value(place, run, delay)?.value;
+                let to = value(place, run, to)?.value;
+                Ok((delay, Target::At(to)))
+            } else {
+                let to = value(place, run, to)?.value;
+                let delay = value(place, run, delay)?.value;
+                Ok((delay, Target::At(to)))
+            }
+        }
     }
 }
 
@@ -352,15 +321,16 @@ fn send_each(
     alloc: Global,
     run: &mut Run,
     event: u32,
-    values: &[Bits],
+    values: Items<Bits>,
     delay: u64,
     members: &[u32],
 ) -> Result<(), Memory>
-    ensures sent { OnOk result (run.new ≡ with_state run.old (record run.old.state { outs = run.old.state.outs ++ map (generated event values.now delay) (map At members.now) })) }
+    ensures sent { OnOk result (run.new ≡ with_state run.old (record run.old.state { outs = run.old.state.outs ++ map (generated event values delay) (map At members.now) })) }
     ensures start { OnErr result (run.new.start ≡ run.old.start) }
 {
     for member in members {
-        run.send(generate(alloc, event, values, delay, Target::At(*member as u64))?)?;
+        let to = Target::At(*member as u64);
+        run.send(generate(alloc, event, values.as_slice(), delay, to)?)?;
     }
     Ok(())
 }

@@ -22,6 +22,13 @@ pub struct Write {
     old: u64,
 }
 
+/// What a body that calls another one goes on with.
+#[derive(Drop)]
+pub struct Caller {
+    locals: Items<Bits>,
+    answer: Bits,
+}
+
 /// Contracts see the state so far and the cells that the run began with.
 #[derive(Drop)]
 pub struct Run {
@@ -114,12 +121,6 @@ impl Run {
         }
     }
 
-    pub fn answer(&self) -> Bits
-        ensures { result ≡ self.now.state.answer }
-    {
-        self.answer
-    }
-
     pub fn set_answer(&mut self, value: Bits)
         ensures { self.new ≡ with_state self.old (record self.old.state { answer = value }) }
     {
@@ -134,12 +135,25 @@ impl Run {
         Ok(())
     }
 
-    /// Puts these locals in the place of those that it gives back.
-    pub fn enter(&mut self, locals: Items<Bits>) -> Items<Bits>
-        ensures given { result ≡ self.old.state.locals }
-        ensures entered { self.new ≡ with_state self.old (record self.old.state { locals = locals }) }
+    /// Begins a body on these locals, with no answer yet. What the caller had is given back, for `leave`.
+    pub fn enter(&mut self, locals: Items<Bits>) -> Caller
+        ensures kept { result ≡ record { locals = self.old.state.locals; answer = self.old.state.answer } }
+        ensures entered { self.new ≡ with_state self.old (record self.old.state { locals = locals; answer = no_value }) }
     {
-        mem::replace(&mut self.locals, locals)
+        Caller {
+            locals: mem::replace(&mut self.locals, locals),
+            answer: mem::replace(&mut self.answer, nothing()),
+        }
+    }
+
+    /// Ends a body: what it answers. The caller goes on with what it had.
+    pub fn leave(&mut self, caller: Caller) -> Bits
+        ensures answered { result ≡ self.old.state.answer }
+        ensures restored { self.new ≡ with_state self.old (record self.old.state { locals = caller.locals; answer = caller.answer }) }
+    {
+        let Caller { locals, answer } = caller;
+        self.locals = locals;
+        mem::replace(&mut self.answer, answer)
     }
 
     pub fn copy_locals(&self, alloc: Global) -> Result<Items<Bits>, Memory>

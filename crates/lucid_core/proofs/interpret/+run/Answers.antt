@@ -6,8 +6,8 @@ use Rattle.lucid_core.proofs.Funs.{call_none, call_some, weight-at}
 use Rattle.lucid_core.proofs.MeaningLemmas.{value_of-inlined}
 use Rattle.lucid_core.proofs.interpret.+run.Goals as goal
 
-pub call-called-requires : goal.call-called-requires
-call-called-requires t c =
+pub call-effects-requires : goal.call-effects-requires
+call-effects-requires t c =
     let is : slice_get c.args.place.funs.now c.args.k ≡ Some c.in-Some.f.now = search rules in
     let at : c.in-Some.funs.now ≡ take c.args.k c.args.place.funs.now = search rules in
     let below = weight-at c.args.place.funs.now c.args.k c.in-Some.f.now is in
@@ -18,18 +18,12 @@ pub call-returns-in-None : goal.call-returns-in-None
 call-returns-in-None t c =
     rw (call_none (frame c.args.place) c.args.place.funs.now c.args.k c.args.arrays.now c.args.args c.args.run.now.state refl c.in-None.ensures.fun) (c.nothing.ensures, refl)
 
-pub call-returns-in_ok-locals-in-Some : goal.call-returns-in_ok-locals-in-Some
-call-returns-in_ok-locals-in-Some t c =
+pub call-returns-in_ok-effects-in-Some : goal.call-returns-in_ok-effects-in-Some
+call-returns-in_ok-effects-in-Some t c =
     let is : Some c.in-Some.f.now ≡ slice_get c.args.place.funs.now c.args.k = search rules in
     let at : c.in-Some.funs.now ≡ take c.args.k c.args.place.funs.now = search rules in
-    call_some (frame c.args.place) c.args.place.funs.now c.in-Some.funs.now c.args.k c.args.arrays.now c.args.args c.in_ok-locals-in-Some.locals c.as_slice.result.now c.as_slice-in-Some.result.now _ _ _ c.in-Some.f.now
-    refl is at c.as_slice.ensures c.as_slice-in-Some.ensures c.in_ok-locals-in-Some.ensures c.called.ensures
+    rw (call_some (frame c.args.place) c.args.place.funs.now c.in-Some.funs.now c.args.k c.args.arrays.now c.args.args c.in_ok-locals-in-Some.locals c.as_slice.result.now c.as_slice-in-Some.result.now c.in-Some.f.now c.args.run.now.state
+    refl is at c.as_slice.ensures c.as_slice-in-Some.ensures c.in_ok-locals-in-Some.ensures) (search rules)
 
 pub value-returns-in-Inlined : goal.value-returns-in-Inlined
 value-returns-in-Inlined t c = rw (c.in-Inlined.is, value_of-inlined) (rw (c.as_slice-in-Inlined.ensures, c.as_slice-in-Inlined-2.ensures) at c.inlined.ensures)
-
-pub delay_and_target-target_in-requires : goal.delay_and_target-target_in-requires
-delay_and_target-target_in-requires t c = (omega arith, tt)
-
-pub delay_and_target-target_in-requires-else-delay_first : goal.delay_and_target-target_in-requires-else-delay_first
-delay_and_target-target_in-requires-else-delay_first t c = (omega arith, tt)

@@ -1,5 +1,5 @@
 -- Measures: five times the depth of what is left to run, and a rank among the functions. Invariants: what a loop has done and what is left make the whole.
-use Rattle.std.proofs.Common.{◌≡◌, ◌+◌, ◌*◌, ◌++◌, [], max, drop, map}
+use Rattle.std.proofs.Common.{◌≡◌, ◌+◌, ◌*◌, ◌++◌, max, drop, map}
 use Rattle.lucid_core.specs.declared.body.Expr.TheViews.{size-Stmt}
 use denote.Param.Weighed.{most}
 use Rattle.lucid_core.specs.Acts.{all, block}
@@ -15,28 +15,19 @@ abbrev pub decreases-touch : goal.decreases-touch
 decreases-touch l = 5 * (weight l.place.funs.now + goal.size-touch l)
 
 abbrev pub decreases-effect : goal.decreases-effect
-decreases-effect l = 5 * (weight l.place.funs.now + goal.size-effect l)
+decreases-effect l = 5 * (weight l.place.funs.now + goal.size-effect l) + 1
 
 abbrev pub decreases-values : goal.decreases-values
 decreases-values l = 5 * (weight l.place.funs.now + goal.size-values l) + 1
 
-abbrev pub decreases-givens : goal.decreases-givens
-decreases-givens l = 5 * (weight l.place.funs.now + goal.size-givens l) + 1
-
-abbrev pub decreases-delay_in : goal.decreases-delay_in
-decreases-delay_in l = 5 * (weight l.place.funs.now + goal.size-delay_in l) + 1
-
-abbrev pub decreases-target_in : goal.decreases-target_in
-decreases-target_in l = 5 * (weight l.place.funs.now + goal.size-target_in l) + 1
+abbrev pub decreases-sends : goal.decreases-sends
+decreases-sends l = 5 * (weight l.place.funs.now + goal.size-sends l)
 
 abbrev pub decreases-delay_and_target : goal.decreases-delay_and_target
-decreases-delay_and_target l = 5 * (weight l.place.funs.now + max (goal.size-delay_and_target l) (goal.size-target_in (record { the-lifetimes = ([], ([], ([], tt))); place = l.place; run = l.run; to = l.to }))) + 2
+decreases-delay_and_target l = 5 * (weight l.place.funs.now + max (goal.size-delay_and_target l) (goal.size-delay_and_target (record { the-lifetimes = l.the-lifetimes; place = l.place; run = l.run; delay = l.to; to = l.delay; delay_first = l.delay_first }))) + 1
 
 abbrev pub decreases-effects : goal.decreases-effects
-decreases-effects l = 5 * (weight l.place.funs.now + goal.size-effects l) + 1
-
-abbrev pub decreases-called : goal.decreases-called
-decreases-called l = 5 * (weight l.place.funs.now + most (λ x. size-Stmt x) l.stmts.now) + 2
+decreases-effects l = 5 * (weight l.place.funs.now + goal.size-effects l) + 2
 
 abbrev pub decreases-inlined : goal.decreases-inlined
 decreases-inlined l = 5 * (weight l.place.funs.now + max (goal.size-inlined l) (most (λ x. size-Stmt x) l.stmts.now)) + 3
@@ -57,8 +48,8 @@ invariant-values-loop-e l = record {
   start : l.run.start ≡ l.fn.run.start;
 }
 
-abbrev pub invariant-givens-loop-i : goal.invariant-givens-loop-i
-invariant-givens-loop-i l = record {
+abbrev pub invariant-inlined-loop-i : goal.invariant-inlined-loop-i
+invariant-inlined-loop-i l = record {
   gives : l.held ++ (all_given (map (λ g. (g.0, value_of g.1)) (drop l.i-index l.given)) (frame l.place) l.run.state).gives ≡ (all_given (map (λ g. (g.0, value_of g.1)) l.given) (frame l.place) l.fn.run.state).gives;
   after : (all_given (map (λ g. (g.0, value_of g.1)) (drop l.i-index l.given)) (frame l.place) l.run.state).after ≡ (all_given (map (λ g. (g.0, value_of g.1)) l.given) (frame l.place) l.fn.run.state).after;
   start : l.run.start ≡ l.fn.run.start;
