@@ -51,6 +51,7 @@ IsStep parts Enter = Unit {0}
 IsStep parts (Go k) = k ≤ last_stage
 IsStep parts (Look array cell) = array < length parts.arrays
 
+-- The scenario keeps the ranges and the sums of its table, for a program of these parts.
 pub record IsScene (parts : Parts) (s : Scene) : Type 0 where
   pub switches : IsBetween 1 64 s.switches
   pub cells : cells parts.arrays * s.switches ≤ most_cells

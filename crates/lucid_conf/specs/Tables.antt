@@ -15,6 +15,7 @@ use Rattle.lucid_conf.specs.Items.{link, window, event, step}
 use Rattle.lucid_conf.specs.Keys.{name_of, limits_keys, scene_keys}
 use Rattle.lucid_conf.specs.Reading.{◌>>=◌, Reading, file, number, required, check, list}
 
+-- The limits of a target.
 abbrev pub limits_read : Data → Reading Limits
 limits_read d = do
   _ ← file d limits_keys
@@ -27,7 +28,7 @@ limits_read d = do
   recirc ← number d Recirc 0 65536 0
   Ok (record { stages = stages; tables = tables; rows = rows; arrays = arrays; arms = arms; bits = bits; recirc = recirc })
 
--- `switches`: the cells of all arrays of all switches are at most so many.
+-- `switches`: all switches together have at most so many cells, where each has those of all arrays.
 abbrev pub most_cells : ℕ
 most_cells = 4194304
 
@@ -41,7 +42,7 @@ switches_read parts d = do
   _ ← check Switches (nat_le (cells parts.arrays * switches) most_cells)
   Ok switches
 
--- `stop`: it has to be there, and the ticks of all switches are at most so many.
+-- `stop`: it has to be there, and all switches together have at most so many ticks.
 abbrev pub most_ticks : ℕ
 most_ticks = 131072
 
@@ -57,6 +58,7 @@ down_read version links d = do
   _ ← check key.Down (nat_eq version 2 || not (is_some (get (name_of key.Down) d)))
   list d key.Down (window links)
 
+-- The scenario of a network whose switches run the program of these parts.
 abbrev pub scene_read : Parts → Data → Reading Scene
 scene_read parts d = do
   _ ← file d scene_keys

@@ -26,7 +26,7 @@ const KEYS: [Key; 7] = [
     Key::Steps,
 ];
 
-// The cells of all arrays of all switches are at most so many, and so are the ticks that all switches act in.
+// All switches together have at most so many cells, and at most so many ticks.
 const MOST_CELLS: u64 = 4_194_304;
 
 const MOST_TICKS: u64 = 131_072;
