@@ -1,0 +1,6 @@
+pub mod Circle
+pub mod Cycle
+pub mod Laws
+pub mod Means
+pub mod Same
+pub mod Substitution

@@ -1,0 +1,131 @@
+// Pairs without repeats.
+ghost use Rattle.std.specs.Prelude.{◌≡◌, ◌≢◌, ◌+◌, [], IfOk, OnOk, AllPairs, map};
+ghost use Rattle.std.specs.List.{list_any};
+ghost use Rattle.lucid_constraints.specs.Same.{same_pair as are_same_pairs, joined, join_all};
+ghost use Rattle.lucid_constraints.specs.Substitution.{pair, pairs_at, needs_from};
+
+use crate::ends::name_at;
+use crate::pair::{Atom, Pair};
+use lucid_base::{ArrayName, Items, Memory, Steps};
+use std::alloc::Global;
+use std::marker::Model;
+use std::sync::ledger::Ledger;
+
+/// Pairs, none of which stands twice, in the order in which they came. Contracts see their list.
+#[derive(Drop)]
+pub struct Order {
+    pairs: Items<Pair>,
+}
+
+impl Model for Order {
+    ghost use Rattle.std.specs.Prelude.{List, ◌≢◌, AllPairs};
+    ghost use Rattle.lucid_constraints.specs.declared.pair.Pair.{Pair};
+
+    ghost Value = { List Pair };
+
+    ghost view = { λ o. o.pairs };
+
+    ghost invariant = { λ o. AllPairs (λ p q. p ≢ q) o.pairs };
+}
+
+fn has(pairs: &[Pair], pair: Pair) -> bool
+    ensures { result ≡ list_any (are_same_pairs pair) pairs.now }
+{
+    for other in pairs {
+        if pair == *other {
+            return true;
+        }
+    }
+    false
+}
+
+impl Order {
+    /// No pairs. It takes no memory.
+    pub fn new(alloc: Global) -> Order
+        ensures { result ≡ [] }
+    {
+        Order {
+            pairs: Items::new(alloc),
+        }
+    }
+
+    /// The pairs, from the first to the last.
+    pub fn pairs(&self) -> &[Pair]
+        ensures value { result.now ≡ self.now }
+        ensures distinct { AllPairs (λ p q. p ≢ q) result.now }
+    {
+        self.pairs.as_slice()
+    }
+
+    /// Adds the pair unless it is there.
+    fn join(&mut self, pair: Pair) -> Result<(), Memory>
+        ensures { OnOk result (self.new ≡ joined are_same_pairs self.old pair) }
+    {
+        if has(self.pairs.as_slice(), pair) {
+            return Ok(());
+        }
+        self.pairs.push(pair)?;
+        Ok(())
+    }
+
+    /// Adds the pair unless it is there, in one step. The work is in proportion to the pairs.
+    pub fn add<L: Ledger>(&mut self, pair: Pair, steps: &mut Steps<L>) -> Result<(), Memory>
+        ensures pairs { OnOk result (self.new ≡ joined are_same_pairs self.old pair) }
+        ensures steps { steps.new ≡ steps.old + 1 }
+    {
+        steps.tick();
+        self.join(pair)
+    }
+
+    /// Adds that each of the places comes before the array.
+    fn join_before(&mut self, start: &[Atom], array: ArrayName) -> Result<(), Memory>
+        ensures { OnOk result (self.new ≡ join_all are_same_pairs self.old (map (pair array) start.now)) }
+    {
+        for atom in start {
+            self.join(Pair { atom: *atom, array })?;
+        }
+        Ok(())
+    }
+
+    /// Adds what a function's pair is to the caller.
+    fn join_at(&mut self, names: &[ArrayName], start: &[Atom], pair: Pair) -> Result<(), Memory>
+        ensures { OnOk result (self.new ≡ join_all are_same_pairs self.old (pairs_at names.now start.now pair)) }
+    {
+        let array = name_at(names, pair.array);
+        match pair.atom {
+            Atom::Start => self.join_before(start, array),
+            Atom::After(x) => self.join(Pair {
+                atom: Atom::After(name_at(names, x)),
+                array,
+            }),
+        }
+    }
+
+    /// The pairs as a caller sees them who gives the function the arrays `names` and calls it at the places `start`.
+    /// The work is in proportion to the pairs that it makes times those that it gives.
+    pub fn substitute(
+        &self,
+        alloc: Global,
+        names: &[ArrayName],
+        start: &[Atom],
+    ) -> Result<Order, Memory>
+        ensures { IfOk result (λ order. order ≡ needs_from names.now start.now [] self.now) }
+    {
+        substituted(alloc, self.pairs.as_slice(), names, start)
+    }
+}
+
+fn substituted(
+    alloc: Global,
+    pairs: &[Pair],
+    names: &[ArrayName],
+    start: &[Atom],
+) -> Result<Order, Memory>
+    ensures { IfOk result (λ order. order ≡ needs_from names.now start.now [] pairs.now) }
+{
+    let mut done = Order::new(alloc);
+    for pair in pairs {
+        done.join_at(names, start, *pair)?;
+    }
+    Ok(done)
+}

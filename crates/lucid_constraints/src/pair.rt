@@ -1,0 +1,16 @@
+// What a function asks of the order of arrays.
+use lucid_base::ArrayName;
+
+/// A place in a body: its start, or that after a call of an array.
+#[derive(Clone, Copy, Debug, PartialEq, Eq)]
+pub enum Atom {
+    Start,
+    After(ArrayName),
+}
+
+/// The place comes before the array.
+#[derive(Clone, Copy, Debug, PartialEq, Eq)]
+pub struct Pair {
+    pub atom: Atom,
+    pub array: ArrayName,
+}
