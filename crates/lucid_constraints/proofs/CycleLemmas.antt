@@ -10,6 +10,7 @@ use Rattle.std.proofs.lemmas.Map.Views.{Contains-from_any}
 use Rattle.lucid_base.specs.declared.array.ArrayName.{ArrayName}
 use Rattle.lucid_base.specs.declared.array.ArrayName.TheVariants.{Global, Param}
 use Rattle.lucid_constraints.proofs.CircleWalk.{circle_has_none}
+use Rattle.lucid_constraints.proofs.MemberLemmas.{or_right, member_left, member_right, member_split, member_at, place_of_member}
 use Rattle.lucid_constraints.proofs.NamesLemmas.{order_of_all}
 use Rattle.lucid_constraints.proofs.SameLemmas.{same_pair_is, same_pair_refl}
 use Rattle.lucid_constraints.specs.Circle.{asked, comes_first, earlier, needed, Covers, Distinct, IsCircle, IsEarliest, Member, OrderOn, Turned}
@@ -35,24 +36,6 @@ module _ {A : Type 0} (before : A → A → Bool) where
 
   pub turned : (x y : A) (xs ys : List A) → circle.Leads before (x ∷ xs ++ y ∷ ys) x → circle.Leads before (y ∷ ys ++ x ∷ xs) y
   turned x y xs ys h = let both = split (x ∷ xs) (y ∷ ys) x h in join (y ∷ ys) (x ∷ xs) y both.1 both.0
-
-  member_left : (y : A) (xs ys : List A) → Member y xs → Member y (xs ++ ys)
-  member_left y [] ys m = absurd m
-  member_left y (x ∷ xs) ys (inl e) = inl e
-  member_left y (x ∷ xs) ys (inr m) = inr (member_left y xs ys m)
-
-  member_right : (y : A) (xs ys : List A) → Member y ys → Member y (xs ++ ys)
-  member_right y [] ys m = m
-  member_right y (x ∷ xs) ys m = inr (member_right y xs ys m)
-
-  member_split : (y : A) (xs ys : List A) → Member y (xs ++ ys) → Member y xs ⊎ Member y ys
-  member_split y [] ys m = inr m
-  member_split y (x ∷ xs) ys (inl e) = inl (inl e)
-  member_split y (x ∷ xs) ys (inr m) = of (member_split y xs ys m)
-    where
-      of : Member y xs ⊎ Member y ys → Member y (x ∷ xs) ⊎ Member y ys
-      of (inl k) = inl (inr k)
-      of (inr k) = inr k
 
   parts : (xs ys : List A) → Distinct (xs ++ ys) → Distinct xs × Distinct ys × ((y : A) → Member y xs → Member y ys → ⊥)
   parts [] ys d = (tt, d, λ y m k. absurd m)
@@ -90,16 +73,6 @@ module _ {A : Type 0} (before : A → A → Bool) where
       of : Member z (drop at xs) ⊎ Member z (take at xs) → Member z (take at xs ++ drop at xs)
       of (inl k) = member_right z (take at xs) (drop at xs) k
       of (inr k) = member_left z (take at xs) (drop at xs) k
-
-member_at : {A : Type 0} (xs : List A) (k : ℕ) (d : A) → k < length xs → Member (get_or xs k d) xs
-member_at [] k d h = absurd (omega arith)
-member_at (x ∷ xs) zero d h = inl refl
-member_at (x ∷ xs) (suc k) d h = inr (member_at xs k d (omega arith))
-
-place_of_member : {A : Type 0} (z d : A) (xs : List A) → Member z xs → (k : ℕ) × (k < length xs) × (get_or xs k d ≡ z)
-place_of_member z d [] m = absurd m
-place_of_member z d (x ∷ xs) (inl e) = (0, omega arith, e)
-place_of_member z d (x ∷ xs) (inr m) = let more = place_of_member z d xs m in (suc more.0, omega (arith, more.1), more.2)
 
 all_from : {A : Type 0} (P : A → Type 0) (xs : List A) → ((z : A) → Member z xs → P z) → All P xs
 all_from P xs h k d l = h (get_or xs k d) (member_at xs k d l)
@@ -146,19 +119,11 @@ module _ (ps : List Pair) (n : ℕ) where
   any_at : (q : Pair) (qs : List Pair) (k : ℕ) → k < length qs → get_or qs k q ≡ q → list_any (same_pair q) qs ≡ true
   any_at q [] k h e = absurd (omega arith)
   any_at q (p ∷ qs) zero h e = rw (subst (λ (r : Pair). same_pair q r ≡ true) (sym e) (same_pair_refl q)) refl
-  any_at q (p ∷ qs) (suc k) h e = of (same_pair q p) (any_at q qs k (omega arith) e)
-    where
-      of : (t : Bool) → list_any (same_pair q) qs ≡ true → (t || list_any (same_pair q) qs) ≡ true
-      of true f = refl
-      of false f = f
+  any_at q (p ∷ qs) (suc k) h e = or_right (same_pair q p) (list_any (same_pair q) qs) (any_at q qs k (omega arith) e)
 
   pub needed_from : (x y : ArrayName) → Needed n ps x y → needed ps n x y ≡ true
   needed_from x y (inl there) = rw (any_at (record { atom = After x; array = y }) ps there.0 there.1 there.2) refl
   needed_from (Global a) (Global b) (inr up) = or_right (asked ps (Global a) (Global b)) (earlier n (Global a) (Global b)) (grind (arith, nat_tests))
-    where
-      or_right : (t r : Bool) → r ≡ true → (t || r) ≡ true
-      or_right true r e = refl
-      or_right false r e = e
   needed_from (Global a) (Param j) (inr up) = absurd up
   needed_from (Param i) y (inr up) = absurd up
 

@@ -2,6 +2,7 @@ pub mod CircleWalk
 pub mod CycleLemmas
 pub mod LookLemmas
 pub mod MeansLemmas
+pub mod MemberLemmas
 pub mod NamesLemmas
 pub mod NumberingLemmas
 pub mod SameLemmas

@@ -2,6 +2,7 @@
 use Rattle.std.proofs.Common.{◌≡◌, ◌⊎◌, inl, inr, ℕ, suc, ◌+◌, ◌<◌, ◌≤◌, Bool, true, false, if◌then◌else◌, cond, ◌||◌, ◌&&◌, not, List, [], ◌∷◌, length, get_or, Some, None, refl, sym, ◌∙◌, subst, arith}
 use Rattle.std.specs.List.{filter, list_any}
 use Rattle.lucid_base.specs.declared.array.ArrayName.{ArrayName}
+use Rattle.lucid_constraints.proofs.MemberLemmas.{or_left, or_right}
 use Rattle.lucid_constraints.proofs.SameLemmas.{same_name_is, same_name_refl, same_pair_is}
 use Rattle.lucid_constraints.specs.Circle.{asked, earlier, first_place, follows, needed, source, source_by, Finds, Member}
 use Rattle.lucid_constraints.specs.Same.{same_name, same_atom, same_pair}
@@ -13,14 +14,6 @@ use Rattle.lucid_constraints.specs.declared.pair.Pair.{Pair}
 and_off : (t r : Bool) → ((t && false) || r) ≡ r
 and_off true r = refl
 and_off false r = refl
-
-or_left : (t r : Bool) → t ≡ true → (t || r) ≡ true
-or_left true r e = refl
-or_left false r e = cc
-
-or_right : (t r : Bool) → r ≡ true → (t || r) ≡ true
-or_right true r e = refl
-or_right false r e = e
 
 source_none : (x y : ArrayName) (ps : List Pair) → source x ps ≡ None → asked ps y x ≡ false
 source_none x y [] e = refl

@@ -8,16 +8,8 @@ use Rattle.lucid_constraints.specs.declared.pair.Atom.TheVariants.{After}
 use Rattle.lucid_constraints.specs.declared.pair.Pair.{Pair}
 use Rattle.lucid_constraints.specs.Same.{same_name, same_pair, joined, join_all}
 use Rattle.lucid_constraints.specs.Circle.{asked, needed, earlier, Member, OrderOn, HasDeclared, Covers, named, named_from}
+use Rattle.lucid_constraints.proofs.MemberLemmas.{member_left, member_right}
 use Rattle.lucid_constraints.proofs.SameLemmas.{same_name_is, same_pair_is}
-
-member_left : (x : ArrayName) (xs ys : List ArrayName) → Member x xs → Member x (xs ++ ys)
-member_left x [] ys h = absurd h
-member_left x (z ∷ xs) ys (inl e) = inl e
-member_left x (z ∷ xs) ys (inr h) = inr (member_left x xs ys h)
-
-member_right : (x : ArrayName) (xs ys : List ArrayName) → Member x ys → Member x (xs ++ ys)
-member_right x [] ys h = h
-member_right x (z ∷ xs) ys h = inr (member_right x xs ys h)
 
 pub one_more : (a : ℕ) (names more : List ArrayName) → HasDeclared a names → more ≡ names ++ Global a ∷ [] → HasDeclared (a + 1) more
 one_more a names more h is b l = subst (λ (xs : List ArrayName). Member (Global b) xs) (sym is) (of (cases_lt b a))

@@ -9,6 +9,7 @@ use Rattle.lucid_constraints.specs.declared.pair.Atom.TheVariants.{Start, After}
 use Rattle.lucid_constraints.specs.declared.pair.Pair.{Pair}
 use Rattle.lucid_constraints.specs.Same.{same_pair}
 use Rattle.lucid_constraints.specs.Means.{place_of, allows, allow_all}
+use Rattle.lucid_constraints.proofs.MemberLemmas.{or_left, or_right}
 use Rattle.lucid_constraints.proofs.SameLemmas.{same_pair_is, same_name_refl}
 use Rattle.lucid_constraints.specs.Circle.{needed, earlier}
 use Rattle.lucid_constraints.specs.Cycle.{Rises}
@@ -42,14 +43,6 @@ rises_from N c n ps up h x y e =
         in_order false t e f k = cc
     of (Global a) (Param j) f = cc
     of (Param i) y f = cc
-
-or_right : (a b : Bool) → b ≡ true → (a || b) ≡ true
-or_right true b h = refl
-or_right false b h = h
-
-or_left : (a b : Bool) → a ≡ true → (a || b) ≡ true
-or_left true b h = refl
-or_left false b h = cc
 
 pub allow_from_rises : (N : ArrayName → ℕ) (ps : List Pair) → ((x y : ArrayName) → list_any (same_pair (record { atom = After x; array = y })) ps ≡ true → N x < N y) → allow_all N 0 ps ≡ true
 allow_from_rises N [] h = refl
