@@ -4,6 +4,8 @@ use Rattle.lucid_core.specs.Uses.{body_uses, all_keep_to_themselves}
 use Rattle.lucid_core.specs.ExamplePrograms.{small, flat, bump_put_in, drop_value}
 use Rattle.lucid_examples.specs.Refused.{named_outside, reads_another, nested, inner_reads_outer, argument_names_own, holds_in_parameter, group_put_in, flat_with, RulesRefuse}
 use Rattle.lucid_examples.specs.StepExamples.{look, say_bump, say_unless_small, say_hash, counting, group, worked}
+use Rattle.lucid_examples.specs.FormExamples.{say_now, say_me, say_negated, say_less_one, say_is_some, say_low_byte, values, set_cell, say_cell, say_counted, count_cell, calls_of_array, say_nested, sent_at_once, sent_later, sent_away, sent_to_each, sends, next, twice_next, formed}
+use Rattle.lucid_core.specs.Parts.{made_of}
 use Rattle.lucid_core.specs.Valid.{IsValid, IsValidFlat}
 use Rattle.lucid_core.proofs.Folds.{folds}
 
@@ -42,6 +44,45 @@ worked_is_valid = record {
     numbered = refl;
   };
   syntax = simp folds refl;
+}
+
+pub formed_is_valid : IsValid formed
+unfolding say_now say_me say_negated say_less_one say_is_some say_low_byte values set_cell say_cell say_counted count_cell calls_of_array say_nested sent_at_once sent_later sent_away sent_to_each sends next twice_next
+formed_is_valid = record {
+  sound = record {
+    names = simp folds refl;
+    events = refl;
+    widths = simp folds refl;
+    returns = simp folds refl;
+    outs = simp folds refl;
+    assigned = refl;
+    reads = simp folds refl;
+    declarations = refl;
+    bodies = simp folds refl;
+    texts = simp folds refl;
+    numbered = refl;
+  };
+  syntax = simp folds refl;
+}
+
+pub empty_is_valid : IsValidFlat (made_of [] [] [] [] [] [])
+empty_is_valid = record {
+  sound = record {
+    names = refl;
+    events = refl;
+    widths = refl;
+    returns = refl;
+    outs = refl;
+    assigned = refl;
+    reads = refl;
+    declarations = refl;
+    bodies = refl;
+    texts = refl;
+    numbered = refl;
+  };
+  syntax = refl;
+  no_functions = refl;
+  inlined = refl;
 }
 
 put_in_uses : body_uses (drop_value bump_put_in ∷ []) ≡ record { reads = 0 ∷ 2 ∷ []; assigns = 2 ∷ []; inlined = record { assigns = 2 ∷ []; reads = 2 ∷ []; names = 2 ∷ 2 ∷ [] } ∷ [] }
@@ -233,4 +274,14 @@ rules_refuse = record {
   function_gives_other = simp folds refl;
   wide_number_in_get = simp folds refl;
   wide_number_in_set = simp folds refl;
+  never_assigned_in_handler = simp folds refl;
+  return_in_the_middle_of_a_function = simp folds refl;
+  hash_in_function = simp folds refl;
+  text_in_function = simp folds refl;
+  inlined_in_function = simp folds refl;
+  nine_sent_to_group = simp folds refl;
+  return_after_another = simp folds refl;
+  bad_returned = simp folds refl;
+  text_of_a_letter = simp folds refl;
+  text_of_a_percent_sign = simp folds refl;
 }

@@ -15,7 +15,7 @@ use Rattle.lucid_core.specs.ExamplePrograms.{local, say, return, plus, update, b
 use Rattle.lucid_core.proofs.Folds.{folds}
 use Rattle.lucid_base.specs.Cells.{zero_cells}
 use Rattle.lucid_core.specs.Meaning.{effect_of, value_of, touch_of, expr_step, stmt_step, touch_step}
-use Rattle.lucid_examples.specs.StepExamples.{StepExamples, look, say_bump, say_unless_small, say_hash, counting, group, start, two_events, worked}
+use Rattle.lucid_examples.specs.StepExamples.{StepExamples, look, say_bump, say_unless_small, say_hash, counting, group, say_indexed, start, two_events, worked}
 use Rattle.lucid_core.specs.Step.{Entry, Stepped, Steps, started, taken_at}
 
 -- What a part of a body does, by what its parts do.
@@ -30,9 +30,12 @@ touch_run y p s = ap (λ (f : Act Bits). f p s) (fold-roll-Touch (Act Bits) Effe
 
 ruleset runs = (value_run, effect_run, touch_run)
 
--- Array.update(a, i, plus, 1, plus, 1), where i is this local.
+-- Array.update(a, i, plus, 1, plus, 1), where the index does this, and where it is this local.
+abbrev counts_at : ArrayName → Act Bits → Act Bits
+counts_at a i = expr_step (Expr-F.Array (touch_step (record { array = a; index = i; get = plus; get_arg = expr_step (Expr-F.Fixed (bits_of 32 1)); set = plus; set_arg = expr_step (Expr-F.Fixed (bits_of 32 1)); answers = true })))
+
 abbrev counts : ArrayName → ℕ → Act Bits
-counts a i = expr_step (Expr-F.Array (touch_step (record { array = a; index = expr_step (Expr-F.Local i); get = plus; get_arg = expr_step (Expr-F.Fixed (bits_of 32 1)); set = plus; set_arg = expr_step (Expr-F.Fixed (bits_of 32 1)); answers = true })))
+counts a i = counts_at a (expr_step (Expr-F.Local i))
 
 -- What the body of `bump` does.
 abbrev bump_acts : List Effect
@@ -49,6 +52,9 @@ counting_does delay_first = simp folds refl
 group_does : effect_of group ≡ stmt_step (Stmt-F.Multi 6 (expr_step (Expr-F.Local 0) ∷ []) (Some (counts (Global 0) 0)) (4 ∷ 2 ∷ []))
 unfolding group
 group_does = simp folds refl
+
+indexed_does : effect_of say_indexed ≡ stmt_step (Stmt-F.Say 0 (counts_at (Global 0) (counts (Global 1) 0) ∷ []))
+indexed_does = simp folds refl
 
 -- A print of a call with its body put in, where its argument, held by local 2, and its body do this.
 abbrev put_in : Act Bits → Effect → Effect
@@ -113,6 +119,7 @@ step_examples = record {
   no_handler = refl;
   hashes = simp runs refl;
   body_put_in = ap (λ (act : Effect). given_by start 7 3 [] (32 ∷ 32 ∷ 32 ∷ []) (1 ∷ 9 ∷ []) (act ∷ act ∷ [])) put_in_does ∙ refl;
+  index_is_called_first = ap (λ (act : Effect). given_by start 7 3 [] (32 ∷ 32 ∷ 32 ∷ []) (1 ∷ 9 ∷ []) (act ∷ [])) indexed_does ∙ refl;
   one_after_another = both_do (steps_by two_events) ∙ refl;
   cells_after_the_first = both_do (λ bump body. (steps_by (take 1 two_events) bump body).cells) ∙ refl;
   outs_of_the_second = both_do (λ bump body. slice_index_or (steps_by two_events bump body).outs 1 []) ∙ refl;

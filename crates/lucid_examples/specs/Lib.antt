@@ -1,2 +1,3 @@
+pub mod FormExamples
 pub mod Refused
 pub mod StepExamples

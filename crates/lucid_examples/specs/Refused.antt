@@ -215,3 +215,13 @@ pub record RulesRefuse : Type 0 where
   pub function_gives_other : widths_agree (with_bump (return (Some yes) ∷ [])) ≡ false
   pub wide_number_in_get : bodies_keep_limits (with_handler (drop_value (roll-Expr (Expr-F.Array (roll-Touch (record { array = Global 0; index = one; get = record plus { yes = One (Fixed (2 ^ 32)) }; get_arg = one; set = plus; set_arg = one; answers = true })))) ∷ [])) ≡ false
   pub wide_number_in_set : bodies_keep_limits (with_handler (drop_value (roll-Expr (Expr-F.Array (roll-Touch (record { array = Global 0; index = one; get = plus; get_arg = one; set = record plus { yes = One (Fixed (2 ^ 32)) }; set_arg = one; answers = true })))) ∷ [])) ≡ false
+  pub never_assigned_in_handler : locals_are_assigned (flat (drop_value one ∷ [])) ≡ false
+  pub return_in_the_middle_of_a_function : returns_stand_last (with_bump (return (Some one) ∷ bumps)) ≡ false
+  pub hash_in_function : bodies_keep_limits (with_bump (drop_value hash_of_nothing ∷ bumps)) ≡ false
+  pub text_in_function : texts_are_filled (with_bump (say 0 [] ∷ bumps)) ≡ false
+  pub inlined_in_function : has_core_syntax (with_bump (drop_value (inlined [] []) ∷ bumps)) ≡ false
+  pub nine_sent_to_group : bodies_keep_limits (with_handler (to_each 0 (replicate 9 one) (5 ∷ []) ∷ [])) ≡ false
+  pub return_after_another : returns_stand_last (with_handler (drop_value one ∷ return None ∷ [])) ≡ false
+  pub bad_returned : returns_stand_last (with_bump (return (Some two_returns) ∷ [])) ≡ false
+  pub text_of_a_letter : texts_are_filled (record small { forms = (110 ∷ 100 ∷ []) ∷ [] }) ≡ false
+  pub text_of_a_percent_sign : texts_are_filled (record small { forms = (37 ∷ 110 ∷ []) ∷ [] }) ≡ false

@@ -71,6 +71,10 @@ worked = made_of (array 4 ∷ array 8 ∷ []) (record { name = []; alu = plus } 
 abbrev pub twice_put_in : List Stmt
 twice_put_in = say 0 (bump_put_in ∷ []) ∷ say 0 (bump_put_in ∷ []) ∷ []
 
+-- printf("n %d", Array.update(first, Array.update(second, i, plus, 1, plus, 1), plus, 1, plus, 1));
+abbrev pub say_indexed : Stmt
+say_indexed = say 0 (update (Global 0) (update (Global 1) (local 0) plus) plus ∷ [])
+
 -- The cells of `first`, and what `second` holds in its cell 1, the other cells 0.
 abbrev pub cells_of : List ℕ → ℕ → List (List ℕ)
 cells_of first n = first ∷ (0 ∷ n ∷ 0 ∷ 0 ∷ 0 ∷ 0 ∷ 0 ∷ 0 ∷ []) ∷ []
@@ -107,6 +111,7 @@ pub record StepExamples : Type 0 where
   pub no_handler : Gives 6 1 (10 ∷ 20 ∷ 30 ∷ 40 ∷ []) 60 [] []
   pub hashes : Gives 7 5 (10 ∷ 20 ∷ 30 ∷ 40 ∷ []) 60 (Say 0 (1584172615 ∷ []) ∷ []) []
   pub body_put_in : does (flat twice_put_in) (record { id = 0; args = 1 ∷ 9 ∷ [] }) ≡ (record { cells = cells_of (10 ∷ 22 ∷ 30 ∷ 40 ∷ []) 60; outs = Say 0 (21 ∷ []) ∷ Say 0 (22 ∷ []) ∷ [] }, 0 ∷ 0 ∷ [])
+  pub index_is_called_first : does (flat (say_indexed ∷ [])) (record { id = 0; args = 1 ∷ 9 ∷ [] }) ≡ (record { cells = cells_of (10 ∷ 21 ∷ 30 ∷ 40 ∷ []) 61; outs = Say 0 (21 ∷ []) ∷ [] }, 1 ∷ 0 ∷ [])
   pub one_after_another : steps worked two_events ≡ record { cells = cells_of (0 ∷ 2 ∷ 0 ∷ 0 ∷ []) 2; outs = (Say 0 (1 ∷ []) ∷ Say 0 (1 ∷ []) ∷ []) ∷ (Say 0 (2 ∷ []) ∷ Say 0 (2 ∷ []) ∷ []) ∷ [] }
   pub cells_after_the_first : after worked two_events 1 ≡ cells_of (0 ∷ 1 ∷ 0 ∷ 0 ∷ []) 1
   pub outs_of_the_second : outs worked two_events 1 ≡ Say 0 (2 ∷ []) ∷ Say 0 (2 ∷ []) ∷ []
