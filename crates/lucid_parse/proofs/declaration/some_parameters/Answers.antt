@@ -11,3 +11,9 @@ unfolding repeat
 loop-turn-preserved c =
     let turn = one_more (λ n. repeat (after_comma parameter) n c.loop-turn.all (said c.loop-turn.rest)) _ c.loop-turn._turn c.loop-turn-test.true c.loop-turn.invariant in
     first_of (search rules, grind (arith, common_steps))
+
+pub returns-in_err-next-in-Some : goal.returns-in_err-next-in-Some
+unfolding repeat
+returns-in_err-next-in-Some c =
+    let turn = one_more (λ n. repeat (after_comma parameter) n c.loop-turn.all (said c.loop-turn.rest)) _ c.loop-turn._turn c.loop-turn-test.true c.loop-turn.invariant in
+    first_of (search rules, grind (arith, common_steps))
