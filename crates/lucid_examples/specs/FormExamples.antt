@@ -105,17 +105,17 @@ sent_to_each = to_each 0 (local 0 ∷ []) (5 ∷ 7 ∷ [])
 unfoldable pub sends : List Stmt
 sends = sent_at_once ∷ sent_later ∷ sent_away ∷ sent_to_each ∷ []
 
--- fun int f(int i) { return x; }, declaration `decl`.
-abbrev pub giving : ℕ → Expr → FunDef
-giving decl x = record { name = []; arrays = []; params = 1; locals = 32 ∷ []; answer = Some 32; body = return (Some x) ∷ []; decl = decl; line = decl }
+-- fun int f(int i) { .. }, declaration `decl`.
+abbrev pub function : ℕ → List Stmt → FunDef
+function decl body = record { name = []; arrays = []; params = 1; locals = 32 ∷ []; answer = Some 32; body = body; decl = decl; line = decl }
 
 -- fun int next(int i) { return i + 1; }
 unfoldable pub next : FunDef
-next = giving 1 (roll-Expr (Expr-F.Bin Add (local 0) one))
+next = function 1 (return (Some (roll-Expr (Expr-F.Bin Add (local 0) one))) ∷ [])
 
 -- fun int twice_next(int i) { return next(next(i)); }
 unfoldable pub twice_next : FunDef
-twice_next = giving 2 (call 0 [] (call 0 [] (local 0 ∷ []) ∷ []))
+twice_next = function 2 (return (Some (call 0 [] (call 0 [] (local 0 ∷ []) ∷ []))) ∷ [])
 
 abbrev pub bytes : ArrayDef
 bytes = record { name = []; width = 8; size = 4 }

@@ -1,9 +1,11 @@
-// The worked examples of the step, run by `run_whole`.
+// The worked examples of the step, run by `run_whole`, and each form of expression and statement that a core has.
+mod forms;
 mod worked;
 
+use self::forms::{empty, formed};
 use self::worked::worked;
 use lucid_base::{Args, Event, Memory, Out, Target};
-use lucid_core::{Cells, run_whole};
+use lucid_core::{Cells, flat_outs_fit, run_whole};
 use std::alloc::Global;
 use std::test::Fail;
 
@@ -31,16 +33,13 @@ fn said(n: u64) -> Out {
     }
 }
 
+fn generated(id: u32, i: u64, delay: u64, to: Target) -> Out {
+    let event = Event { id, args: args(i) };
+    Out::Gen { event, delay, to }
+}
+
 fn sent(i: u64, delay: u64, to: u64) -> Out {
-    let event = Event {
-        id: 6,
-        args: args(i),
-    };
-    Out::Gen {
-        event,
-        delay,
-        to: Target::At(to),
-    }
+    generated(6, i, delay, Target::At(to))
 }
 
 /// Whether event `id` of argument `i` leaves these cells and sends these outs, at tick 7 on switch 3, where all cells are 0.
@@ -103,4 +102,79 @@ fn delays_and_targets_are_evaluated_in_order_and_once(rt: HostRuntime) -> Result
         )?
     );
     Ok(())
+}
+
+/// The same of the program of the forms and of its first two cells, at tick 2 ^ 32 + 7.
+fn forms_give(
+    alloc: Global,
+    id: u32,
+    i: u64,
+    after: [u64; 2],
+    outs: &[Out],
+) -> Result<bool, Memory> {
+    let core = formed(alloc)?;
+    let mut cells = Cells::new(alloc, &core)?;
+    let event = Event { id, args: args(i) };
+    let made = run_whole(alloc, &core, &mut cells, 4294967303, 3, &event)?;
+    Ok(made.as_slice() == outs && [cells.get(0, 0), cells.get(0, 1)] == after)
+}
+
+#[test]
+fn each_form_of_a_value(rt: HostRuntime) -> Result<(), Fail> {
+    let alloc = rt.alloc();
+    let outs = [
+        said(7),
+        said(3),
+        said(4294966996),
+        said(299),
+        said(1),
+        said(44),
+    ];
+    assert!(rt; forms_give(alloc, 0, 300, [0, 0], &outs)?);
+    let outs = [
+        said(7),
+        said(3),
+        said(0),
+        said(4294967295),
+        said(0),
+        said(0),
+    ];
+    assert!(rt; forms_give(alloc, 0, 0, [0, 0], &outs)?);
+    Ok(())
+}
+
+#[test]
+fn cells_of_bytes_are_read_and_written_by_memops_with_a_test(rt: HostRuntime) -> Result<(), Fail> {
+    let alloc = rt.alloc();
+    assert!(rt; forms_give(alloc, 1, 5, [0, 6], &[said(5), said(6), said(6)])?);
+    assert!(rt; forms_give(alloc, 1, 300, [0, 0], &[said(44), said(0), said(0)])?);
+    Ok(())
+}
+
+#[test]
+fn a_call_of_calls(rt: HostRuntime) -> Result<(), Fail> {
+    let alloc = rt.alloc();
+    assert!(rt; forms_give(alloc, 2, 5, [0, 0], &[said(7)])?);
+    Ok(())
+}
+
+#[test]
+fn delays_and_targets_may_be_left_out(rt: HostRuntime) -> Result<(), Fail> {
+    let alloc = rt.alloc();
+    let outs = [
+        generated(0, 5, 0, Target::Here),
+        generated(0, 5, 1, Target::Here),
+        generated(0, 5, 0, Target::At(2)),
+        generated(0, 5, 0, Target::At(5)),
+        generated(0, 5, 0, Target::At(7)),
+    ];
+    assert!(rt; forms_give(alloc, 3, 5, [0, 0], &outs)?);
+    Ok(())
+}
+
+#[test]
+fn the_law_of_a_flat_program_is_called(rt: HostRuntime) {
+    let flat = empty(rt.alloc());
+    flat_outs_fit(&flat);
+    assert_eq!(rt; flat.events().len(), 0);
 }

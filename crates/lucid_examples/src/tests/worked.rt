@@ -11,7 +11,7 @@ use lucid_base::{
 use lucid_core::{Core, EventDef, Expr, FunDef, HandlerDef, MemopDef, Stmt, Touch};
 use std::alloc::Global;
 
-fn single<T: Drop>(alloc: Global, x: T) -> Result<Items<T>, Memory>
+pub fn single<T: Drop>(alloc: Global, x: T) -> Result<Items<T>, Memory>
     ensures { IfOk result (λ xs. xs ≡ x ∷ []) }
 {
     let mut xs = Items::new(alloc);
@@ -19,7 +19,7 @@ fn single<T: Drop>(alloc: Global, x: T) -> Result<Items<T>, Memory>
     Ok(xs)
 }
 
-fn pair<T: Drop>(alloc: Global, x: T, y: T) -> Result<Items<T>, Memory>
+pub fn pair<T: Drop>(alloc: Global, x: T, y: T) -> Result<Items<T>, Memory>
     ensures { IfOk result (λ xs. xs ≡ x ∷ y ∷ []) }
 {
     let mut xs = single(alloc, x)?;
@@ -27,13 +27,13 @@ fn pair<T: Drop>(alloc: Global, x: T, y: T) -> Result<Items<T>, Memory>
     Ok(xs)
 }
 
-fn number(n: u64) -> Expr
+pub fn number(n: u64) -> Expr
     ensures { result ≡ number_of n }
 {
     Expr::Fixed(Bits::low(Width::int(), n))
 }
 
-fn local(i: u32) -> Expr
+pub fn local(i: u32) -> Expr
     ensures { result ≡ local_of i }
 {
     Expr::Local(i)
@@ -68,7 +68,7 @@ fn update(alloc: Global, array: ArrayName, x: u64) -> Result<Expr, Memory>
     Ok(Expr::Array(Boxed::new(alloc, touch)?))
 }
 
-fn say(alloc: Global, value: Expr) -> Result<Stmt, Memory>
+pub fn say(alloc: Global, value: Expr) -> Result<Stmt, Memory>
     ensures { IfOk result (λ s. s ≡ say_of 0 (value ∷ [])) }
 {
     let args = single(alloc, value)?;
@@ -214,7 +214,7 @@ fn memop(alloc: Global) -> Result<MemopDef, Memory>
     Ok(MemopDef { name, alu: plus() })
 }
 
-fn declared(alloc: Global, handler: Option<u32>) -> Result<EventDef, Memory>
+pub fn declared(alloc: Global, handler: Option<u32>) -> Result<EventDef, Memory>
     ensures { IfOk result (λ e. e ≡ declared_of handler) }
 {
     let name = Id::new(alloc, b"")?;
@@ -226,7 +226,7 @@ fn declared(alloc: Global, handler: Option<u32>) -> Result<EventDef, Memory>
     })
 }
 
-fn handler(alloc: Global, event: u32, body: Items<Stmt>) -> Result<HandlerDef, Memory>
+pub fn handler(alloc: Global, event: u32, body: Items<Stmt>) -> Result<HandlerDef, Memory>
     requires { event ≤ 7 }
     ensures { IfOk result (λ h. h ≡ handling event body) }
 {
@@ -281,7 +281,7 @@ fn bump_handler(alloc: Global) -> Result<HandlerDef, Memory>
 }
 
 /// A handler whose body is one statement.
-fn alone(alloc: Global, event: u32, stmt: Stmt) -> Result<HandlerDef, Memory>
+pub fn alone(alloc: Global, event: u32, stmt: Stmt) -> Result<HandlerDef, Memory>
     requires { event ≤ 7 }
     ensures { IfOk result (λ h. h ≡ handling event (stmt ∷ [])) }
 {
@@ -357,7 +357,7 @@ fn funs(alloc: Global) -> Result<Vec<FunDef>, Memory>
     Ok(funs)
 }
 
-fn forms(alloc: Global) -> Result<Vec<Id>, Memory>
+pub fn forms(alloc: Global) -> Result<Vec<Id>, Memory>
     ensures { IfOk result (λ forms. forms.items ≡ worked_of.forms) }
 {
     let mut forms = Vec::new(alloc);
