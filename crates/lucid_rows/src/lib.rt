@@ -6,6 +6,8 @@
 #[cfg(test)]
 mod base;
 #[cfg(test)]
+mod constraints;
+#[cfg(test)]
 mod copies;
 #[cfg(test)]
 mod print;
