@@ -284,4 +284,10 @@ rules_refuse = record {
   bad_returned = simp folds refl;
   text_of_a_letter = simp folds refl;
   text_of_a_percent_sign = simp folds refl;
+  returns_in_second_branch = simp folds refl;
+  outs_of_a_call = simp folds refl;
+  nine_sent_one_by_one = simp folds refl;
+  nine_sent_with_a_group = simp folds refl;
+  silent_call_as_value = simp folds refl;
+  handler_of_no_event = refl;
 }

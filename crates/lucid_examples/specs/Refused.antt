@@ -225,3 +225,9 @@ pub record RulesRefuse : Type 0 where
   pub bad_returned : returns_stand_last (with_bump (return (Some two_returns) ∷ [])) ≡ false
   pub text_of_a_letter : texts_are_filled (record small { forms = (110 ∷ 100 ∷ []) ∷ [] }) ≡ false
   pub text_of_a_percent_sign : texts_are_filled (record small { forms = (37 ∷ 110 ∷ []) ∷ [] }) ≡ false
+  pub returns_in_second_branch : returns_stand_last (with_bump (assign 1 one ∷ choose yes [] (return (Some one) ∷ []) ∷ [])) ≡ false
+  pub outs_of_a_call : outs_are_few (with_bump (replicate 8 (say 0 (one ∷ [])) ++ bumps)) ≡ false
+  pub nine_sent_one_by_one : outs_are_few (with_handler (replicate 8 (generate 0 (one ∷ one ∷ [])))) ≡ false
+  pub nine_sent_with_a_group : outs_are_few (with_handler (to_each 0 (one ∷ one ∷ []) (0 ∷ 1 ∷ 2 ∷ 3 ∷ 4 ∷ 5 ∷ 6 ∷ 7 ∷ []) ∷ [])) ≡ false
+  pub silent_call_as_value : widths_agree (with_handler (assign 2 (roll-Expr (Expr-F.Array (roll-Touch (record { array = Global 0; index = one; get = plus; get_arg = one; set = plus; set_arg = one; answers = false })))) ∷ [])) ≡ false
+  pub handler_of_no_event : events_and_handlers_agree (record small { events = record note { handler = None } ∷ []; handlers = record (handler handles) { event = 1 } ∷ [] }) ≡ false
