@@ -1,15 +1,1 @@
-pub mod Calls
-pub mod Declarations
-pub mod Equations
-pub mod ExpressionComplete
-pub mod ExpressionSound
-pub mod Growth
-pub mod Levels
-pub mod Programs
-pub mod Repeats
-pub mod StatementComplete
-pub mod StatementEquations
-pub mod StatementGrowth
-pub mod StatementSound
-pub mod Steps
-pub mod Turns
+mod Programs

@@ -13,12 +13,12 @@ use Rattle.lucid_parse.specs.declared.error.ParseError.TheVariants as errors
 use Rattle.lucid_tree.specs.declared.tree.Decl.{Decl}
 use Rattle.lucid_tree.specs.declared.tree.DeclKind.{DeclKind}
 use Rattle.lucid_tree.specs.declared.tree.Tree.{Tree}
-use Rattle.lucid_parse.specs.Lexemes.{lexemes_of}
-use Rattle.lucid_parse.specs.Spelling.{Text, declaration, declaration_built, declarations, all_written}
-use Rattle.lucid_parse.specs.ReadDeclaration as read_d
+use Rattle.lucid_grammar.specs.Lexemes.{lexemes_of}
+use Rattle.lucid_grammar.specs.Spelling.{Text, declaration, declaration_built, declarations, all_written}
+use Rattle.lucid_grammar.specs.ReadDeclaration as read_d
 use Rattle.lucid_parse.specs.Program.{line_at, line_of, last_of, HasLines, IsTreeOf, IsFault, Progress, Rising, IsWhy}
-use Rattle.lucid_parse.proofs.Steps.{both, of_both}
-use Rattle.lucid_parse.proofs.Declarations.{declaration_ok, declaration_again, declaration_long}
+use Rattle.lucid_grammar.specs.Law.{ReadAsSpelled}
+use Rattle.lucid_grammar.proofs.Steps.{both, of_both}
 
 pub begin : (text : List ℕ) (ts : List Token) (ls : Text) → Progress text ts ls [] ls
 begin text ts ls = record { written = refl; spelled = refl; lines = tt }
@@ -33,31 +33,9 @@ lines_behind text ts (y ∷ ys) x rest after lines is line =
     let same : declarations (y ∷ ys) rest ≡ declarations (y ∷ (ys ++ x ∷ [])) after = ap (declaration y.kind) (ap (declarations ys) is ∙ sym (one_behind ys x after)) in
     (lines.0 ∙ ap (λ z. line_of text (last_of (length z) ts)) same, lines_behind text ts ys x rest after lines.1 is line)
 
--- one more declaration is read
-pub goes_on : (text : List ℕ) (ts : List Token) (ls : Text) (all : List Decl) (rest after : Text) (x : Decl) → Progress text ts ls all rest → read_d.declaration rest ≡ Some (x.kind, after) → x.line ≡ line_of text (last_of (length rest) ts) → Progress text ts ls (all ++ x ∷ []) after
-goes_on text ts ls all rest after x so_far given line =
-    let h = (declaration_ok rest).each (x.kind, after) given in
-    record {
-      written = list_all-append (λ y. declaration_built y.kind) all (x ∷ []) ∙ of_both _ _ so_far.written (of_both _ _ h.1 refl);
-      spelled = so_far.spelled ∙ ap (declarations all) h.0 ∙ sym (one_behind all x after);
-      lines = lines_behind text ts all x rest after so_far.lines h.0 line;
-    }
-
-pub shorter : (rest after : Text) (x : DeclKind) → read_d.declaration rest ≡ Some (x, after) → length after < length rest
-shorter rest after x given =
-    let h = (declaration_ok rest).each (x, after) given in
-    let more = declaration_long x after in
-    rw h.0 more
-
--- ---- where no declaration follows
-
 empty : (ts : Text) → length ts ≤ 0 → ts ≡ []
 empty [] h = refl
 empty (t ∷ ts) h = absurd (omega arith)
-
-all_long : (xs : List Decl) (r : Text) → length r ≤ length (declarations xs r)
-all_long [] r = omega arith
-all_long (x ∷ xs) r = let rest = all_long xs r in let more = declaration_long x.kind (declarations xs r) in omega arith
 
 same_some : {A : Type 0} {x y : A} → Some x ≡ Some y → x ≡ y
 same_some h = cc
@@ -74,54 +52,7 @@ same_decl x y h k = let make : ℕ → DeclKind → Decl = λ l m. record { line
 same_tree : (t u : Tree) → t.decls ≡ u.decls → t ≡ u
 same_tree t u h = let make : List Decl → Tree = λ xs. record { decls = xs } in ap make h
 
--- two declarations that begin one text are the same, and so is what is left
-one_first : (x y : DeclKind) (r q : Text) → declaration_built x ≡ true → declaration_built y ≡ true → declaration x r ≡ declaration y q → (x ≡ y) × (r ≡ q)
-one_first x y r q bx bz same =
-    let pair : ◌≡◌ {A = DeclKind × Text} (x, r) (y, q) = same_some (sym (declaration_again x r bx) ∙ ap read_d.declaration same ∙ declaration_again y q bz) in
-    (ap (λ (z : DeclKind × Text). z.0) pair, ap (λ (z : DeclKind × Text). z.1) pair)
-
--- no program goes further than to a place where no declaration is read
-no_further : (xs ys : List Decl) (rest q : Text) → all_written xs ≡ true → all_written ys ≡ true → read_d.declaration rest ≡ None → declarations xs rest ≡ declarations ys q → length rest ≤ length q
-no_further [] [] rest q bx bz none same = omega (arith, ap length same)
-no_further [] (y ∷ ys) rest q bx bz none same =
-    let again = declaration_again y.kind (declarations ys q) (both _ _ bz).0 in
-    let clash : read_d.declaration rest ≡ Some (y.kind, declarations ys q) = ap read_d.declaration same ∙ again in
-    absurd (clashes (sym none ∙ clash))
-no_further (x ∷ xs) [] rest q bx bz none same = let long = all_long (x ∷ xs) rest in omega (arith, ap length same)
-no_further (x ∷ xs) (y ∷ ys) rest q bx bz none same =
-    let hx = both _ _ bx in
-    let hy = both _ _ bz in
-    no_further xs ys rest q hx.1 hy.1 none (one_first x.kind y.kind (declarations xs rest) (declarations ys q) hx.0 hy.0 same).1
-
--- where no declaration is read the lexemes are no program, and this is the place
-pub stops_here : (text : List ℕ) (ts : List Token) (ls : Text) (all : List Decl) (rest : Text) → Progress text ts ls all rest → read_d.declaration rest ≡ None → 0 < length rest → IsFault ls (length ls - length rest + 1)
-stops_here text ts ls all rest so_far none some =
-    let long = all_long all rest in
-    let whole = ap length so_far.spelled in
-    record {
-      at = length ls - length rest;
-      number = refl;
-      within = omega arith;
-      before = record { decls = all; rest = rest; written = so_far.written; spelled = so_far.spelled; place = omega arith };
-      longest = λ m p. let further = no_further all p.decls rest p.rest so_far.written p.written none (sym so_far.spelled ∙ p.spelled) in omega (arith, p.place);
-    }
-
--- ---- one tree, and one fault
-
-one_list : (text : List ℕ) (ts : List Token) (xs ys : List Decl) → all_written xs ≡ true → all_written ys ≡ true → HasLines text ts xs [] → HasLines text ts ys [] → declarations xs [] ≡ declarations ys [] → xs ≡ ys
-one_list text ts [] [] bx bz lx ly same = refl
-one_list text ts [] (y ∷ ys) bx bz lx ly same = let long = declaration_long y.kind (declarations ys []) in absurd (omega (arith, ap length same))
-one_list text ts (x ∷ xs) [] bx bz lx ly same = let long = declaration_long x.kind (declarations xs []) in absurd (omega (arith, ap length same))
-one_list text ts (x ∷ xs) (y ∷ ys) bx bz lx ly same =
-    let hx = both _ _ bx in
-    let hy = both _ _ bz in
-    let first = one_first x.kind y.kind (declarations xs []) (declarations ys []) hx.0 hy.0 same in
-    let line : x.line ≡ y.line = lx.0 ∙ ap (λ z. line_of text (last_of (length z) ts)) same ∙ sym ly.0 in
-    let rest = one_list text ts xs ys hx.1 hy.1 lx.1 ly.1 first.1 in
-    same_cons x y xs ys (same_decl x y line first.0) rest
-
-pub one_tree : (text : List ℕ) (ts : List Token) (t u : Tree) → IsTreeOf text ts t → IsTreeOf text ts u → t ≡ u
-one_tree text ts t u ht hu = same_tree t u (one_list text ts t.decls u.decls ht.written hu.written ht.lines hu.lines (sym ht.spelled ∙ hu.spelled))
+-- ---- one fault
 
 pub one_fault : (ls : Text) (n m : ℕ) → IsFault ls n → IsFault ls m → n ≡ m
 one_fault ls n m hn hm =
@@ -197,12 +128,86 @@ why_refuses ls us n (errors.NoTree m) said fault why other = ap errors.NoTree (o
 why_refuses ls us n (errors.TooDeep m) said fault why other = absurd why
 why_refuses ls us n errors.Memory said fault why other = absurd (other refl)
 
--- a tree is found where there is one
-pub finds : (text : List ℕ) (ts : List Token) (ls : Text) (r : Result Tree ParseError) → ls ≡ lexemes_of text ts → IfOk r (λ t. Progress text ts ls t.decls []) → IfErr r (λ e. IsWhy ls e) → (t : Tree) → IsTreeOf text ts t → MatchResult r (λ u. u ≡ t) (λ e. e ≡ errors.Memory)
-finds text ts ls (Ok u) said read why t is = one_tree text ts u t (whole_tree text ts ls u said read) is
-finds text ts ls (Err e) said read why t is = why_parses text ts ls t e said is why
-
 -- a fault is found where there is one
 pub faults : (text : List ℕ) (ts : List Token) (ls : Text) (r : Result Tree ParseError) → ls ≡ lexemes_of text ts → IfOk r (λ t. Progress text ts ls t.decls []) → IfErr r (λ e. IsWhy ls e) → (n : ℕ) → IsFault (lexemes_of text ts) n → MatchResult r (λ _. ⊥) (λ e. e ≢ errors.Memory → e ≡ errors.NoTree n)
 faults text ts ls (Ok u) said read why n fault = no_fault text ts u n (whole_tree text ts ls u said read) fault
 faults text ts ls (Err e) said read why n fault = why_refuses ls (lexemes_of text ts) n e said fault why
+
+-- ---- what follows from the law of the grammar
+
+module _ (law : ReadAsSpelled) where
+  -- one more declaration is read
+  pub goes_on : (text : List ℕ) (ts : List Token) (ls : Text) (all : List Decl) (rest after : Text) (x : Decl) → Progress text ts ls all rest → read_d.declaration rest ≡ Some (x.kind, after) → x.line ≡ line_of text (last_of (length rest) ts) → Progress text ts ls (all ++ x ∷ []) after
+  goes_on text ts ls all rest after x so_far given line =
+      let h = law.sound rest x.kind after given in
+      record {
+        written = list_all-append (λ y. declaration_built y.kind) all (x ∷ []) ∙ of_both _ _ so_far.written (of_both _ _ h.1 refl);
+        spelled = so_far.spelled ∙ ap (declarations all) h.0 ∙ sym (one_behind all x after);
+        lines = lines_behind text ts all x rest after so_far.lines h.0 line;
+      }
+
+  pub shorter : (rest after : Text) (x : DeclKind) → read_d.declaration rest ≡ Some (x, after) → length after < length rest
+  shorter rest after x given =
+      let h = law.sound rest x after given in
+      let more = law.long x after in
+      rw h.0 more
+
+  -- ---- where no declaration follows
+
+  all_long : (xs : List Decl) (r : Text) → length r ≤ length (declarations xs r)
+  all_long [] r = omega arith
+  all_long (x ∷ xs) r = let rest = all_long xs r in let more = law.long x.kind (declarations xs r) in omega arith
+
+  -- two declarations that begin one text are the same, and so is what is left
+  one_first : (x y : DeclKind) (r q : Text) → declaration_built x ≡ true → declaration_built y ≡ true → declaration x r ≡ declaration y q → (x ≡ y) × (r ≡ q)
+  one_first x y r q bx bz same =
+      let pair : ◌≡◌ {A = DeclKind × Text} (x, r) (y, q) = same_some (sym (law.complete x r bx) ∙ ap read_d.declaration same ∙ law.complete y q bz) in
+      (ap (λ (z : DeclKind × Text). z.0) pair, ap (λ (z : DeclKind × Text). z.1) pair)
+
+  -- no program goes further than to a place where no declaration is read
+  no_further : (xs ys : List Decl) (rest q : Text) → all_written xs ≡ true → all_written ys ≡ true → read_d.declaration rest ≡ None → declarations xs rest ≡ declarations ys q → length rest ≤ length q
+  no_further [] [] rest q bx bz none same = omega (arith, ap length same)
+  no_further [] (y ∷ ys) rest q bx bz none same =
+      let again = law.complete y.kind (declarations ys q) (both _ _ bz).0 in
+      let clash : read_d.declaration rest ≡ Some (y.kind, declarations ys q) = ap read_d.declaration same ∙ again in
+      absurd (clashes (sym none ∙ clash))
+  no_further (x ∷ xs) [] rest q bx bz none same = let long = all_long (x ∷ xs) rest in omega (arith, ap length same)
+  no_further (x ∷ xs) (y ∷ ys) rest q bx bz none same =
+      let hx = both _ _ bx in
+      let hy = both _ _ bz in
+      no_further xs ys rest q hx.1 hy.1 none (one_first x.kind y.kind (declarations xs rest) (declarations ys q) hx.0 hy.0 same).1
+
+  -- where no declaration is read the lexemes are no program, and this is the place
+  pub stops_here : (text : List ℕ) (ts : List Token) (ls : Text) (all : List Decl) (rest : Text) → Progress text ts ls all rest → read_d.declaration rest ≡ None → 0 < length rest → IsFault ls (length ls - length rest + 1)
+  stops_here text ts ls all rest so_far none some =
+      let long = all_long all rest in
+      let whole = ap length so_far.spelled in
+      record {
+        at = length ls - length rest;
+        number = refl;
+        within = omega arith;
+        before = record { decls = all; rest = rest; written = so_far.written; spelled = so_far.spelled; place = omega arith };
+        longest = λ m p. let further = no_further all p.decls rest p.rest so_far.written p.written none (sym so_far.spelled ∙ p.spelled) in omega (arith, p.place);
+      }
+
+  -- ---- one tree
+
+  one_list : (text : List ℕ) (ts : List Token) (xs ys : List Decl) → all_written xs ≡ true → all_written ys ≡ true → HasLines text ts xs [] → HasLines text ts ys [] → declarations xs [] ≡ declarations ys [] → xs ≡ ys
+  one_list text ts [] [] bx bz lx ly same = refl
+  one_list text ts [] (y ∷ ys) bx bz lx ly same = let long = law.long y.kind (declarations ys []) in absurd (omega (arith, ap length same))
+  one_list text ts (x ∷ xs) [] bx bz lx ly same = let long = law.long x.kind (declarations xs []) in absurd (omega (arith, ap length same))
+  one_list text ts (x ∷ xs) (y ∷ ys) bx bz lx ly same =
+      let hx = both _ _ bx in
+      let hy = both _ _ bz in
+      let first = one_first x.kind y.kind (declarations xs []) (declarations ys []) hx.0 hy.0 same in
+      let line : x.line ≡ y.line = lx.0 ∙ ap (λ z. line_of text (last_of (length z) ts)) same ∙ sym ly.0 in
+      let rest = one_list text ts xs ys hx.1 hy.1 lx.1 ly.1 first.1 in
+      same_cons x y xs ys (same_decl x y line first.0) rest
+
+  pub one_tree : (text : List ℕ) (ts : List Token) (t u : Tree) → IsTreeOf text ts t → IsTreeOf text ts u → t ≡ u
+  one_tree text ts t u ht hu = same_tree t u (one_list text ts t.decls u.decls ht.written hu.written ht.lines hu.lines (sym ht.spelled ∙ hu.spelled))
+
+  -- a tree is found where there is one
+  pub finds : (text : List ℕ) (ts : List Token) (ls : Text) (r : Result Tree ParseError) → ls ≡ lexemes_of text ts → IfOk r (λ t. Progress text ts ls t.decls []) → IfErr r (λ e. IsWhy ls e) → (t : Tree) → IsTreeOf text ts t → MatchResult r (λ u. u ≡ t) (λ e. e ≡ errors.Memory)
+  finds text ts ls (Ok u) said read why t is = one_tree text ts u t (whole_tree text ts ls u said read) is
+  finds text ts ls (Err e) said read why t is = why_parses text ts ls t e said is why

@@ -1,11 +1,2 @@
-pub mod Lexemes
 pub mod Nesting
-pub mod Operators
 pub mod Program
-pub mod ReadDeclaration
-pub mod ReadExpression
-pub mod Reader
-pub mod ReadStatement
-pub mod Spelling
-pub mod Tokens
-pub mod Within

@@ -1,22 +1,20 @@
 // Declarations and their parameters.
-ghost use Rattle.lucid_parse.specs.Reader as reader;
-ghost use Rattle.lucid_parse.specs.Reader.{Reads, separated};
-ghost use Rattle.lucid_parse.specs.Tokens.{said};
-ghost use Rattle.lucid_parse.specs.ReadDeclaration as spec;
+ghost use Rattle.lucid_grammar.specs.Reader as reader;
+ghost use Rattle.lucid_expression.specs.Reads.{Reads};
+ghost use Rattle.lucid_expression.specs.Tokens.{said};
+ghost use Rattle.lucid_grammar.specs.ReadDeclaration as spec;
 
-use crate::error::Stop;
-use crate::parts::{
-    after, array_type, expect, expect_name, expect_word, name, number, ty, typed_name,
-};
-use crate::rest::Tokens;
 use crate::statement::body;
-use crate::tokens::Lexeme;
 use lucid_base::{Id, Items};
+use lucid_expression::{
+    Lexeme, Stop, Tokens, after, array_type, expect, expect_name, expect_word, name, number,
+    separated, ty, typed_name,
+};
 use lucid_lex::{Sign, Word};
 use lucid_tree::{DeclKind, P, Size, Ty};
 use std::alloc::Global;
 
-#[tactic(auto, unfolding(crate::specs::ReadDeclaration::declaration))]
+#[tactic(auto, unfolding(lucid_grammar::specs::ReadDeclaration::declaration))]
 pub(crate) fn declaration(alloc: Global, tokens: Tokens) -> Result<(DeclKind, Tokens), Stop>
     ensures { Reads result (spec.declaration (said tokens.entry)) }
 {
@@ -32,7 +30,7 @@ pub(crate) fn declaration(alloc: Global, tokens: Tokens) -> Result<(DeclKind, To
     }
 }
 
-#[tactic(auto, unfolding(crate::specs::ReadDeclaration::parameter))]
+#[tactic(auto, unfolding(lucid_grammar::specs::ReadDeclaration::parameter))]
 fn parameter(alloc: Global, tokens: Tokens) -> Result<(P, Tokens), Stop>
     ensures { Reads result (spec.parameter (said tokens.entry)) }
 {
@@ -50,28 +48,14 @@ fn parameter(alloc: Global, tokens: Tokens) -> Result<(P, Tokens), Stop>
 }
 
 /// Parameters with commas between them.
-#[tactic(auto, unfolding(crate::specs::Reader::separated, crate::specs::Reader::repeat))]
-fn some_parameters(alloc: Global, tokens: Tokens) -> Result<(Items<P>, Tokens), Stop>
-    ensures { Reads result (separated spec.parameter (said tokens.entry)) }
+fn some_parameters<'a>(alloc: Global, tokens: Tokens<'a>) -> Result<(Items<P>, Tokens<'a>), Stop>
+    ensures { Reads result (reader.separated spec.parameter (said tokens.entry)) }
 {
-    let (first, mut rest) = parameter(alloc, tokens)?;
-    let mut all = Items::new(alloc);
-    all.push(first)?;
-    for _turn in 0..rest.len() {
-        match after(Sign::Comma, rest) {
-            None => return Ok((all, rest)),
-            Some(more) => {
-                let (next, after) = parameter(alloc, more)?;
-                all.push(next)?;
-                rest = after;
-            }
-        }
-    }
-    Ok((all, rest))
+    separated(alloc, |part| parameter(alloc, part), tokens)
 }
 
 /// Parameters in parentheses.
-#[tactic(auto, unfolding(crate::specs::ReadDeclaration::parameters))]
+#[tactic(auto, unfolding(lucid_grammar::specs::ReadDeclaration::parameters))]
 fn parameters(alloc: Global, tokens: Tokens) -> Result<(Items<P>, Tokens), Stop>
     ensures { Reads result (spec.parameters (said tokens.entry)) }
 {
@@ -86,7 +70,7 @@ fn parameters(alloc: Global, tokens: Tokens) -> Result<(Items<P>, Tokens), Stop>
     }
 }
 
-#[tactic(auto, unfolding(crate::specs::ReadDeclaration::constant))]
+#[tactic(auto, unfolding(lucid_grammar::specs::ReadDeclaration::constant))]
 fn constant(alloc: Global, tokens: Tokens) -> Result<(DeclKind, Tokens), Stop>
     ensures { Reads result (spec.constant (said tokens.entry)) }
 {
@@ -97,7 +81,7 @@ fn constant(alloc: Global, tokens: Tokens) -> Result<(DeclKind, Tokens), Stop>
     Ok((DeclKind::Const(ty, name, value), rest))
 }
 
-#[tactic(auto, unfolding(crate::specs::ReadDeclaration::size))]
+#[tactic(auto, unfolding(lucid_grammar::specs::ReadDeclaration::size))]
 fn array_size(alloc: Global, tokens: Tokens) -> Result<(Size, Tokens), Stop>
     ensures { Reads result (spec.size (said tokens.entry)) }
 {
@@ -109,7 +93,7 @@ fn array_size(alloc: Global, tokens: Tokens) -> Result<(Size, Tokens), Stop>
 }
 
 /// `Array.create(SIZE);`
-#[tactic(auto, unfolding(crate::specs::ReadDeclaration::created))]
+#[tactic(auto, unfolding(lucid_grammar::specs::ReadDeclaration::created))]
 fn created(alloc: Global, tokens: Tokens) -> Result<(Size, Tokens), Stop>
     ensures { Reads result (spec.created (said tokens.entry)) }
 {
@@ -123,7 +107,7 @@ fn created(alloc: Global, tokens: Tokens) -> Result<(Size, Tokens), Stop>
     Ok((size, rest))
 }
 
-#[tactic(auto, unfolding(crate::specs::ReadDeclaration::global_array))]
+#[tactic(auto, unfolding(lucid_grammar::specs::ReadDeclaration::global_array))]
 fn global_array(alloc: Global, tokens: Tokens) -> Result<(DeclKind, Tokens), Stop>
     ensures { Reads result (spec.global_array (said tokens.entry)) }
 {
@@ -143,16 +127,25 @@ fn global_array(alloc: Global, tokens: Tokens) -> Result<(DeclKind, Tokens), Sto
     ))
 }
 
-#[tactic(auto, unfolding(crate::specs::ReadDeclaration::memop))]
-fn memop(alloc: Global, tokens: Tokens) -> Result<(DeclKind, Tokens), Stop>
-    ensures { Reads result (spec.memop (said tokens.entry)) }
+/// The two parameters of a memop, in parentheses.
+#[tactic(auto, unfolding(lucid_grammar::specs::ReadDeclaration::two_parameters))]
+fn two_parameters(alloc: Global, tokens: Tokens) -> Result<(((Ty, Id), (Ty, Id)), Tokens), Stop>
+    ensures { Reads result (spec.two_parameters (said tokens.entry)) }
 {
-    let (name, rest) = name(alloc, tokens)?;
-    let rest = expect(Sign::OpenParen, rest)?;
+    let rest = expect(Sign::OpenParen, tokens)?;
     let (first, rest) = typed_name(alloc, rest)?;
     let rest = expect(Sign::Comma, rest)?;
     let (second, rest) = typed_name(alloc, rest)?;
     let rest = expect(Sign::CloseParen, rest)?;
+    Ok(((first, second), rest))
+}
+
+#[tactic(auto, unfolding(lucid_grammar::specs::ReadDeclaration::memop))]
+fn memop(alloc: Global, tokens: Tokens) -> Result<(DeclKind, Tokens), Stop>
+    ensures { Reads result (spec.memop (said tokens.entry)) }
+{
+    let (name, rest) = name(alloc, tokens)?;
+    let ((first, second), rest) = two_parameters(alloc, rest)?;
     let (body, rest) = body(alloc, rest)?;
     Ok((
         DeclKind::Memop {
@@ -165,7 +158,7 @@ fn memop(alloc: Global, tokens: Tokens) -> Result<(DeclKind, Tokens), Stop>
     ))
 }
 
-#[tactic(auto, unfolding(crate::specs::ReadDeclaration::event_declared))]
+#[tactic(auto, unfolding(lucid_grammar::specs::ReadDeclaration::event_declared))]
 fn event_declared(alloc: Global, tokens: Tokens) -> Result<(DeclKind, Tokens), Stop>
     ensures { Reads result (spec.event_declared (said tokens.entry)) }
 {
@@ -175,7 +168,7 @@ fn event_declared(alloc: Global, tokens: Tokens) -> Result<(DeclKind, Tokens), S
     Ok((DeclKind::Event { name, params }, rest))
 }
 
-#[tactic(auto, unfolding(crate::specs::ReadDeclaration::handler))]
+#[tactic(auto, unfolding(lucid_grammar::specs::ReadDeclaration::handler))]
 fn handler(alloc: Global, tokens: Tokens) -> Result<(DeclKind, Tokens), Stop>
     ensures { Reads result (spec.handler (said tokens.entry)) }
 {
@@ -186,7 +179,7 @@ fn handler(alloc: Global, tokens: Tokens) -> Result<(DeclKind, Tokens), Stop>
 }
 
 /// The type of a function's answer, or `void`.
-#[tactic(auto, unfolding(crate::specs::ReadDeclaration::answer))]
+#[tactic(auto, unfolding(lucid_grammar::specs::ReadDeclaration::answer))]
 fn answer(tokens: Tokens) -> Result<(Option<Ty>, Tokens), Stop>
     ensures { Reads result (spec.answer (said tokens.entry)) }
 {
@@ -199,7 +192,7 @@ fn answer(tokens: Tokens) -> Result<(Option<Ty>, Tokens), Stop>
     }
 }
 
-#[tactic(auto, unfolding(crate::specs::ReadDeclaration::function))]
+#[tactic(auto, unfolding(lucid_grammar::specs::ReadDeclaration::function))]
 fn function(alloc: Global, tokens: Tokens) -> Result<(DeclKind, Tokens), Stop>
     ensures { Reads result (spec.function (said tokens.entry)) }
 {
@@ -219,27 +212,13 @@ fn function(alloc: Global, tokens: Tokens) -> Result<(DeclKind, Tokens), Stop>
 }
 
 /// Numbers with commas between them.
-#[tactic(auto, unfolding(crate::specs::Reader::separated, crate::specs::Reader::repeat))]
-fn numbers(alloc: Global, tokens: Tokens) -> Result<(Items<u64>, Tokens), Stop>
-    ensures { Reads result (separated reader.number (said tokens.entry)) }
+fn numbers<'a>(alloc: Global, tokens: Tokens<'a>) -> Result<(Items<u64>, Tokens<'a>), Stop>
+    ensures { Reads result (reader.separated reader.number (said tokens.entry)) }
 {
-    let (first, mut rest) = number(tokens)?;
-    let mut all = Items::new(alloc);
-    all.push(first)?;
-    for _turn in 0..rest.len() {
-        match after(Sign::Comma, rest) {
-            None => return Ok((all, rest)),
-            Some(more) => {
-                let (next, after) = number(more)?;
-                all.push(next)?;
-                rest = after;
-            }
-        }
-    }
-    Ok((all, rest))
+    separated(alloc, |part| number(part), tokens)
 }
 
-#[tactic(auto, unfolding(crate::specs::ReadDeclaration::group))]
+#[tactic(auto, unfolding(lucid_grammar::specs::ReadDeclaration::group))]
 fn group(alloc: Global, tokens: Tokens) -> Result<(DeclKind, Tokens), Stop>
     ensures { Reads result (spec.group (said tokens.entry)) }
 {

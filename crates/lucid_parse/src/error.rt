@@ -1,6 +1,5 @@
 // Why tokens are no program.
-use lucid_base::Memory;
-use std::alloc::{AllocError, AllocFailed};
+use std::alloc::AllocError;
 
 /// Why tokens have no tree.
 #[derive(Clone, Copy, Debug, PartialEq, Eq)]
@@ -11,48 +10,6 @@ pub enum ParseError {
     TooDeep(usize),
     /// Memory ran out.
     Memory,
-}
-
-/// Why a part of a program is not read, without a place.
-#[derive(Clone, Copy)]
-pub(crate) enum Stop {
-    /// The tokens don't begin with such a part.
-    NoTree,
-    /// Memory ran out.
-    Memory,
-}
-
-impl From<Memory> for Stop {
-    ghost use Rattle.std.specs.Prelude.{◌≡◌};
-    ghost use Rattle.lucid_parse.specs.declared.error.Stop.TheVariants as stops;
-
-    ghost from_gives = { λ _ e. e ≡ stops.Memory };
-
-    fn from(_memory: Memory) -> Stop {
-        Stop::Memory
-    }
-}
-
-impl From<AllocError> for Stop {
-    ghost use Rattle.std.specs.Prelude.{◌≡◌};
-    ghost use Rattle.lucid_parse.specs.declared.error.Stop.TheVariants as stops;
-
-    ghost from_gives = { λ _ e. e ≡ stops.Memory };
-
-    fn from(_error: AllocError) -> Stop {
-        Stop::Memory
-    }
-}
-
-impl<T: Drop> From<AllocFailed<T>> for Stop {
-    ghost use Rattle.std.specs.Prelude.{◌≡◌};
-    ghost use Rattle.lucid_parse.specs.declared.error.Stop.TheVariants as stops;
-
-    ghost from_gives = { λ _ e. e ≡ stops.Memory };
-
-    fn from(_error: AllocFailed<T>) -> Stop {
-        Stop::Memory
-    }
 }
 
 impl From<AllocError> for ParseError {

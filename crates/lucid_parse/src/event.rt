@@ -1,29 +1,18 @@
 // What a `generate` generates.
-ghost use Rattle.lucid_parse.specs.Reader.{Reads};
-ghost use Rattle.lucid_parse.specs.Tokens.{said};
-ghost use Rattle.lucid_parse.specs.ReadStatement as spec;
+ghost use Rattle.std.specs.Prelude.{Some};
+ghost use Rattle.lucid_expression.specs.Reads.{Reads, Gives};
+ghost use Rattle.lucid_tree.specs.declared.tree.V.TheVariants as v;
+ghost use Rattle.lucid_expression.specs.Tokens.{said};
+ghost use Rattle.lucid_grammar.specs.ReadStatement as spec;
 
-use crate::ascii::Ascii;
-use crate::error::Stop;
-use crate::expression::{arguments, expression};
-use crate::parts::expect;
-use crate::rest::Tokens;
-use crate::tokens::Lexeme;
 use lucid_base::{Boxed, Id, Items};
+use lucid_expression::{Ascii, Lexeme, Stop, Tokens, call_arguments, expect, expression};
 use lucid_lex::{Sign, Word};
 use lucid_tree::{E, V};
 use std::alloc::Global;
 
-/// What a call is given, behind its open parenthesis.
-#[tactic(auto, unfolding(crate::specs::ReadStatement::call_arguments))]
-pub(crate) fn call_arguments(alloc: Global, tokens: Tokens) -> Result<(Items<E>, Tokens), Stop>
-    ensures { Reads result (spec.call_arguments (said tokens.entry)) }
-{
-    arguments(alloc, tokens.len(), tokens)
-}
-
-#[tactic(auto, unfolding(crate::specs::ReadStatement::event))]
-pub(crate) fn event(alloc: Global, tokens: Tokens) -> Result<(V, Tokens), Stop>
+#[tactic(auto, unfolding(lucid_grammar::specs::ReadStatement::event))]
+pub(crate) fn event(alloc: Global, tokens: Tokens) -> Result<(Boxed<V>, Tokens), Stop>
     ensures { Reads result (spec.event (said tokens.entry)) }
 {
     event_at(alloc, tokens.len(), tokens)
@@ -31,8 +20,8 @@ pub(crate) fn event(alloc: Global, tokens: Tokens) -> Result<(V, Tokens), Stop>
 
 /// With at most `depth` events round one another.
 #[cycle(event)]
-#[tactic(auto, unfolding(crate::specs::ReadStatement::event_at))]
-fn event_at(alloc: Global, depth: usize, tokens: Tokens) -> Result<(V, Tokens), Stop>
+#[tactic(auto, unfolding(lucid_grammar::specs::ReadStatement::event_at))]
+fn event_at(alloc: Global, depth: usize, tokens: Tokens) -> Result<(Boxed<V>, Tokens), Stop>
     ensures { Reads result (spec.event_at depth (said tokens.entry)) }
 {
     if depth == 0 {
@@ -42,20 +31,20 @@ fn event_at(alloc: Global, depth: usize, tokens: Tokens) -> Result<(V, Tokens), 
 }
 
 #[cycle(event)]
-#[tactic(auto, unfolding(crate::specs::ReadStatement::event_within))]
-fn event_within(alloc: Global, depth: usize, tokens: Tokens) -> Result<(V, Tokens), Stop>
+#[tactic(auto, unfolding(lucid_grammar::specs::ReadStatement::event_within))]
+fn event_within(alloc: Global, depth: usize, tokens: Tokens) -> Result<(Boxed<V>, Tokens), Stop>
     ensures { Reads result (spec.event_within (spec.event_at depth) (said tokens.entry)) }
 {
     match tokens.split() {
         Some((Lexeme::Sign(Sign::OpenParen), rest)) => {
             let (inner, rest) = event_at(alloc, depth, rest)?;
             let rest = expect(Sign::CloseParen, rest)?;
-            Ok((V::Paren(Boxed::new(alloc, inner)?), rest))
+            Ok((in_parentheses(alloc, inner)?, rest))
         }
         Some((Lexeme::Name(name), rest)) => {
             let rest = expect(Sign::OpenParen, rest)?;
             let (arguments, rest) = call_arguments(alloc, rest)?;
-            Ok((V::Call(Id::new(alloc, name.bytes)?, arguments), rest))
+            Ok((called(alloc, name, arguments)?, rest))
         }
         Some((Lexeme::Word(Word::EventCalls), rest)) => {
             let rest = expect(Sign::Dot, rest)?;
@@ -70,21 +59,21 @@ fn event_within(alloc: Global, depth: usize, tokens: Tokens) -> Result<(V, Token
 
 /// Behind `Event.` and this name.
 #[cycle(event)]
-#[tactic(auto, unfolding(crate::specs::ReadStatement::event_by))]
+#[tactic(auto, unfolding(lucid_grammar::specs::ReadStatement::event_by))]
 fn event_by<'a>(
     alloc: Global,
     depth: usize,
     name: Ascii<'a>,
     tokens: Tokens<'a>,
-) -> Result<(V, Tokens<'a>), Stop>
+) -> Result<(Boxed<V>, Tokens<'a>), Stop>
     ensures { Reads result (spec.event_by (spec.event_at depth) name.entry.bytes.now (said tokens.entry)) }
 {
     if name.bytes == b"delay".as_slice() {
         let ((event, by), rest) = event_pair(alloc, depth, tokens)?;
-        Ok((V::Delay(Boxed::new(alloc, event)?, by), rest))
+        Ok((delayed(alloc, event, by)?, rest))
     } else if name.bytes == b"locate".as_slice() {
         let ((event, at), rest) = event_pair(alloc, depth, tokens)?;
-        Ok((V::Locate(Boxed::new(alloc, event)?, at), rest))
+        Ok((located(alloc, event, at)?, rest))
     } else {
         Err(Stop::NoTree)
     }
@@ -92,8 +81,8 @@ fn event_by<'a>(
 
 /// An event and an expression, in parentheses.
 #[cycle(event)]
-#[tactic(auto, unfolding(crate::specs::ReadStatement::event_pair))]
-fn event_pair(alloc: Global, depth: usize, tokens: Tokens) -> Result<((V, E), Tokens), Stop>
+#[tactic(auto, unfolding(lucid_grammar::specs::ReadStatement::event_pair))]
+fn event_pair(alloc: Global, depth: usize, tokens: Tokens) -> Result<((Boxed<V>, E), Tokens), Stop>
     ensures { Reads result (spec.event_pair (spec.event_at depth) (said tokens.entry)) }
 {
     let rest = expect(Sign::OpenParen, tokens)?;
@@ -102,4 +91,31 @@ fn event_pair(alloc: Global, depth: usize, tokens: Tokens) -> Result<((V, E), To
     let (second, rest) = expression(alloc, rest)?;
     let rest = expect(Sign::CloseParen, rest)?;
     Ok(((event, second), rest))
+}
+
+// Events made of parts that are read, each boxed at once: an event by value is dear to let go of.
+
+fn in_parentheses(alloc: Global, inner: Boxed<V>) -> Result<Boxed<V>, Stop>
+    ensures { Gives result (Some (v.Paren inner)) }
+{
+    Ok(Boxed::new(alloc, V::Paren(inner))?)
+}
+
+fn called<'a>(alloc: Global, name: Ascii<'a>, arguments: Items<E>) -> Result<Boxed<V>, Stop>
+    ensures { Gives result (Some (v.Call name.entry.bytes.now arguments)) }
+{
+    let name = Id::new(alloc, name.bytes)?;
+    Ok(Boxed::new(alloc, V::Call(name, arguments))?)
+}
+
+fn delayed(alloc: Global, event: Boxed<V>, by: E) -> Result<Boxed<V>, Stop>
+    ensures { Gives result (Some (v.Delay event by)) }
+{
+    Ok(Boxed::new(alloc, V::Delay(event, by))?)
+}
+
+fn located(alloc: Global, event: Boxed<V>, at: E) -> Result<Boxed<V>, Stop>
+    ensures { Gives result (Some (v.Locate event at)) }
+{
+    Ok(Boxed::new(alloc, V::Locate(event, at))?)
 }

@@ -1,25 +1,19 @@
 // The tree of a program's tokens. `parse` answers exactly where no count of nesting passes its limit and some tree spells the
 // tokens, with that tree, of which there is one; else it says at which token nesting is too deep, or the first declaration begins
-// that has no tree. How a tree is spelled, specs/Spelling.antt says by the cases of the grammar; specs/Nesting.antt has the counts,
-// and specs/Program.antt what a program and a fault is. The other definitions say how tokens are read in; that this and spelling
-// agree, both ways, is proved. Stands on lucid_lex for tokens, on lucid_tree for the tree's types, which it gives again, and on
-// lucid_base for names and lists.
+// that has no tree. How a tree is spelled, lucid_grammar says (specs/Spelling.antt) by the cases of the grammar; specs/Nesting.antt
+// has the counts, and specs/Program.antt what a program and a fault is. Events, statements, declarations and programs are read here,
+// as lucid_grammar's definitions read them; that these and spelling agree, both ways, is lucid_grammar's law. Stands on it, on
+// lucid_expression for what statements are made of, on lucid_lex for tokens, on lucid_tree for the tree's types, which it gives
+// again, and on lucid_base for names and lists.
 #![tactic(auto)]
 
-mod array;
-mod ascii;
 mod declaration;
 mod error;
 mod event;
-mod expression;
 mod nesting;
-mod operator;
-mod parts;
 mod program;
-mod rest;
 mod simple;
 mod statement;
-mod tokens;
 
 pub use error::ParseError;
 pub use lucid_tree::{A, C, Decl, DeclKind, E, Infix, No, P, Pre, S, Size, Tree, Ty, V};

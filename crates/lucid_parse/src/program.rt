@@ -2,16 +2,17 @@
 ghost use Rattle.std.specs.Prelude.{◌≡◌, ◌≢◌, ℕ, ◌+◌, ◌-◌, ◌<◌, ◌≤◌, [], length, drop, count_by, ◌==◌, All, Some, None, IfOk, IfErr, OnOk, IsErrOf, MatchResult};
 ghost use Rattle.lucid_lex.specs.Reading.{Reads, IsTokenOf};
 ghost use Rattle.lucid_tree.specs.declared.tree.Tree.{Tree};
-ghost use Rattle.lucid_parse.specs.Lexemes.{lexemes_of};
+ghost use Rattle.lucid_grammar.specs.Lexemes.{lexemes_of};
 ghost use Rattle.lucid_parse.specs.Nesting as nesting;
 ghost use Rattle.lucid_parse.specs.Program as spec;
 ghost use Rattle.lucid_parse.specs.Program.{kinds_of, IsTreeOf, IsFault, Progress, IsWhy, Rising};
 
 use crate::declaration::declaration;
-use crate::error::{ParseError, Stop};
+use crate::error::ParseError;
 use crate::nesting::too_deep;
-use crate::rest::Tokens;
 use lucid_base::Items;
+use lucid_expression::{Stop, Tokens};
+use lucid_grammar::declarations_are_read_as_spelled;
 use lucid_lex::{Token, tokens_stand};
 use lucid_tree::{Decl, Tree};
 use std::alloc::Global;
@@ -45,6 +46,7 @@ pub fn parse(alloc: Global, text: &[u8], tokens: &[Token]) -> Result<Tree, Parse
     ensures one { (tree other : Tree) → IsTreeOf text.now tokens.now tree → IsTreeOf text.now tokens.now other → tree ≡ other }
 {
     tokens_stand(text, tokens);
+    declarations_are_read_as_spelled();
     if let Some(n) = too_deep(tokens) {
         return Err(ParseError::TooDeep(n));
     }
@@ -58,6 +60,7 @@ fn tree_of(alloc: Global, text: &[u8], tokens: &[Token]) -> Result<Tree, ParseEr
     ensures read { IfOk result (λ tree. Progress text.now tokens.now (lexemes_of text.now tokens.now) tree.decls []) }
     ensures why { IfErr result (λ e. IsWhy (lexemes_of text.now tokens.now) e) }
 {
+    declarations_are_read_as_spelled();
     let mut decls = Items::new(alloc);
     let mut rest = Tokens::new(text, tokens);
     let mut line = 1;

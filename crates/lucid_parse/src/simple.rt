@@ -1,22 +1,19 @@
 // Statements without statements in them.
-ghost use Rattle.lucid_parse.specs.Reader.{Reads};
-ghost use Rattle.lucid_parse.specs.Tokens.{said};
-ghost use Rattle.lucid_parse.specs.ReadStatement as spec;
+ghost use Rattle.lucid_expression.specs.Reads.{Reads};
+ghost use Rattle.lucid_expression.specs.Tokens.{said};
+ghost use Rattle.lucid_grammar.specs.ReadStatement as spec;
 
-use crate::array::{array_method, array_of};
-use crate::ascii::Ascii;
-use crate::error::Stop;
-use crate::event::{call_arguments, event};
-use crate::expression::{arguments, expression, expressions};
-use crate::parts::{after, expect, typed_name};
-use crate::rest::Tokens;
-use crate::tokens::Lexeme;
-use lucid_base::{Boxed, Id, Items};
+use crate::event::event;
+use lucid_base::{Id, Items};
+use lucid_expression::{
+    Ascii, Lexeme, Stop, Tokens, after, array_call, call_arguments, expect, expression, operands,
+    typed_name,
+};
 use lucid_lex::{Sign, Word};
 use lucid_tree::{E, S};
 use std::alloc::Global;
 
-#[tactic(auto, unfolding(crate::specs::ReadStatement::simple))]
+#[tactic(auto, unfolding(lucid_grammar::specs::ReadStatement::simple))]
 pub(crate) fn simple(alloc: Global, tokens: Tokens) -> Result<(S, Tokens), Stop>
     ensures { Reads result (spec.simple (said tokens.entry)) }
 {
@@ -30,8 +27,28 @@ pub(crate) fn simple(alloc: Global, tokens: Tokens) -> Result<(S, Tokens), Stop>
     }
 }
 
+/// An expression, up to the `;` behind it.
+#[tactic(auto, unfolding(lucid_grammar::specs::ReadStatement::ended_value))]
+fn ended_value(alloc: Global, tokens: Tokens) -> Result<(E, Tokens), Stop>
+    ensures { Reads result (spec.ended_value (said tokens.entry)) }
+{
+    let (value, rest) = expression(alloc, tokens)?;
+    let rest = expect(Sign::Semicolon, rest)?;
+    Ok((value, rest))
+}
+
+/// What a call is given, behind its open parenthesis, up to the `;`.
+#[tactic(auto, unfolding(lucid_grammar::specs::ReadStatement::ended_arguments))]
+fn ended_arguments(alloc: Global, tokens: Tokens) -> Result<(Items<E>, Tokens), Stop>
+    ensures { Reads result (spec.ended_arguments (said tokens.entry)) }
+{
+    let (arguments, rest) = call_arguments(alloc, tokens)?;
+    let rest = expect(Sign::Semicolon, rest)?;
+    Ok((arguments, rest))
+}
+
 /// Behind the name that a statement begins with.
-#[tactic(auto, unfolding(crate::specs::ReadStatement::after_its_name))]
+#[tactic(auto, unfolding(lucid_grammar::specs::ReadStatement::after_its_name))]
 fn after_its_name<'a>(
     alloc: Global,
     name: Ascii<'a>,
@@ -41,65 +58,59 @@ fn after_its_name<'a>(
 {
     match tokens.split() {
         Some((Lexeme::Sign(Sign::Equal), rest)) => {
-            let (value, rest) = expression(alloc, rest)?;
-            let rest = expect(Sign::Semicolon, rest)?;
+            let (value, rest) = ended_value(alloc, rest)?;
             Ok((S::Assign(Id::new(alloc, name.bytes)?, value), rest))
         }
         Some((Lexeme::Sign(Sign::OpenParen), rest)) => {
-            let (arguments, rest) = call_arguments(alloc, rest)?;
-            let rest = expect(Sign::Semicolon, rest)?;
+            let (arguments, rest) = ended_arguments(alloc, rest)?;
             Ok((S::Call(Id::new(alloc, name.bytes)?, arguments), rest))
         }
         _ => Err(Stop::NoTree),
     }
 }
 
-#[tactic(auto, unfolding(crate::specs::ReadStatement::declared))]
+#[tactic(auto, unfolding(lucid_grammar::specs::ReadStatement::declared))]
 fn declared_local(alloc: Global, tokens: Tokens) -> Result<(S, Tokens), Stop>
     ensures { Reads result (spec.declared (said tokens.entry)) }
 {
     let ((ty, name), rest) = typed_name(alloc, tokens)?;
     let rest = expect(Sign::Equal, rest)?;
-    let (value, rest) = expression(alloc, rest)?;
-    let rest = expect(Sign::Semicolon, rest)?;
+    let (value, rest) = ended_value(alloc, rest)?;
     Ok((S::Declare(ty, name, value), rest))
 }
 
 /// A call on an array, behind `Array`.
-#[tactic(auto, unfolding(crate::specs::ReadStatement::array_statement, crate::specs::ReadExpression::array_call))]
+#[tactic(auto, unfolding(lucid_grammar::specs::ReadStatement::array_statement))]
 fn array_statement(alloc: Global, tokens: Tokens) -> Result<(S, Tokens), Stop>
     ensures { Reads result (spec.array_statement (said tokens.entry)) }
 {
-    let (method, rest) = array_method(tokens)?;
-    let (given, rest) = arguments(alloc, tokens.len(), rest)?;
-    let call = array_of(method, given)?;
+    let (call, rest) = array_call(alloc, tokens)?;
     let rest = expect(Sign::Semicolon, rest)?;
-    Ok((S::Array(Boxed::new(alloc, call)?), rest))
+    Ok((S::Array(call), rest))
 }
 
 /// Behind `return`.
-#[tactic(auto, unfolding(crate::specs::ReadStatement::returned))]
+#[tactic(auto, unfolding(lucid_grammar::specs::ReadStatement::returned))]
 fn returned(alloc: Global, tokens: Tokens) -> Result<(S, Tokens), Stop>
     ensures { Reads result (spec.returned (said tokens.entry)) }
 {
     match after(Sign::Semicolon, tokens) {
         Some(rest) => Ok((S::Return(None), rest)),
         None => {
-            let (value, rest) = expression(alloc, tokens)?;
-            let rest = expect(Sign::Semicolon, rest)?;
+            let (value, rest) = ended_value(alloc, tokens)?;
             Ok((S::Return(Some(value)), rest))
         }
     }
 }
 
 /// Behind `generate`.
-#[tactic(auto, unfolding(crate::specs::ReadStatement::generated))]
+#[tactic(auto, unfolding(lucid_grammar::specs::ReadStatement::generated))]
 fn generated(alloc: Global, tokens: Tokens) -> Result<(S, Tokens), Stop>
     ensures { Reads result (spec.generated (said tokens.entry)) }
 {
     let (event, rest) = event(alloc, tokens)?;
     let rest = expect(Sign::Semicolon, rest)?;
-    Ok((S::Generate(event), rest))
+    Ok((S::Generate(event.into_inner()), rest))
 }
 
 fn quoted(alloc: Global, tokens: Tokens) -> Result<(Id, Tokens), Stop>
@@ -111,19 +122,8 @@ fn quoted(alloc: Global, tokens: Tokens) -> Result<(Id, Tokens), Stop>
     }
 }
 
-/// Expressions, each behind a comma.
-#[tactic(auto, unfolding(crate::specs::ReadStatement::operands))]
-fn operands(alloc: Global, tokens: Tokens) -> Result<(Items<E>, Tokens), Stop>
-    ensures { Reads result (spec.operands (said tokens.entry)) }
-{
-    match after(Sign::Comma, tokens) {
-        None => Ok((Items::new(alloc), tokens)),
-        Some(rest) => expressions(alloc, rest.len(), rest),
-    }
-}
-
 /// Behind `printf`.
-#[tactic(auto, unfolding(crate::specs::ReadStatement::printed))]
+#[tactic(auto, unfolding(lucid_grammar::specs::ReadStatement::printed))]
 fn printed(alloc: Global, tokens: Tokens) -> Result<(S, Tokens), Stop>
     ensures { Reads result (spec.printed (said tokens.entry)) }
 {
