@@ -1,5 +1,6 @@
 pub mod CircleWalk
 pub mod CycleLemmas
+pub mod LawProofs
 pub mod LookLemmas
 pub mod MeansLemmas
 pub mod MemberLemmas

@@ -6,15 +6,16 @@ use Rattle.lucid_base.specs.declared.array.ArrayName.{ArrayName}
 use Rattle.lucid_base.specs.declared.array.ArrayName.TheVariants.{Global, Param}
 use Rattle.lucid_core.specs.declared.body.Stmt.{Stmt}
 use Rattle.lucid_core.specs.declared.defs.FunDef.{FunDef}
-use Rattle.lucid_order.specs.Cycle.{CallsThen, Earlier, Leads, NeededBefore}
+use Rattle.lucid_order.specs.Cycle.{CallsThen, NeededBefore}
 use Rattle.lucid_order.specs.Ends.{Derives, Numbering}
 use Rattle.lucid_order.specs.Laws.{CyclesRefuse, EndsAreGreatest, PathsDecide, RisesAlong, path_end}
-use Rattle.lucid_order.specs.Order.{Rises}
+use Rattle.lucid_constraints.specs.Cycle.{Earlier, Leads, Rises}
 use Rattle.lucid_order.specs.Paths.{Path, paths}
 use Rattle.lucid_order.proofs.Matching.{body_matches, climbs_rise, rises_next}
-use Rattle.lucid_order.proofs.Members.{In, contains, in_at}
+use Rattle.lucid_constraints.specs.Circle.{Member}
+use Rattle.lucid_order.proofs.Members.{contains, in_at}
 
-derived_rises : (funs : List FunDef) (body : List Stmt) (N : Numbering) (c end : ℕ) → Derives funs N c body end → (p : Path) → In p (paths funs body) → RisesAlong N c p × (path_end N c p ≤ end)
+derived_rises : (funs : List FunDef) (body : List Stmt) (N : Numbering) (c end : ℕ) → Derives funs N c body end → (p : Path) → Member p (paths funs body) → RisesAlong N c p × (path_end N c p ≤ end)
 derived_rises funs body N c end is p h = climbs_rise N c p end ((body_matches funs body N).climbs c end is p h)
 
 pub paths_decide : PathsDecide

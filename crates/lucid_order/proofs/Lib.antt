@@ -9,3 +9,4 @@ pub mod Rising
 pub mod Touched
 pub mod Transfer
 pub mod Walks
+pub mod Within

@@ -12,7 +12,9 @@ use Rattle.lucid_order.specs.Ends.{End, FunEnd, Numbering, body_end}
 use Rattle.lucid_order.specs.Laws.{RisesAlong, path_end}
 use Rattle.lucid_order.specs.Paths as u
 use Rattle.lucid_order.specs.Paths.{Path, Paths, each_then, body_paths}
-use Rattle.lucid_order.proofs.Members.{In, in_either, in_left, in_map, in_right, in_then, of_map, of_then}
+use Rattle.lucid_constraints.specs.Circle.{Member}
+use Rattle.lucid_constraints.proofs.MemberLemmas.{member_split, member_left, member_right}
+use Rattle.lucid_order.proofs.Members.{in_map, in_then, of_map, of_then}
 use Rattle.lucid_order.proofs.Transfer.{some_then}
 use Rattle.lucid_order.proofs.Walks.{bodies_relate}
 
@@ -55,9 +57,9 @@ ends_next N c (a ∷ p) q = ends_next N (N a + 1) p q
 
 -- Under this numbering: where a part ends, each path climbs to there; where the numbering rises along each path, the part ends, and one path ends at the same place.
 pub record Matches (N : Numbering) (f : ℕ → Option ℕ) (ps : List Path) : Type 0 where
-  pub some : (p : Path) × In p ps
-  pub climbs : (c d : ℕ) → f c ≡ Some d → (p : Path) → In p ps → Climbs N c p d
-  pub ends : (c : ℕ) → ((p : Path) → In p ps → RisesAlong N c p) → (d : ℕ) × (f c ≡ Some d) × (p : Path) × In p ps × (path_end N c p ≡ d)
+  pub some : (p : Path) × Member p ps
+  pub climbs : (c d : ℕ) → f c ≡ Some d → (p : Path) → Member p ps → Climbs N c p d
+  pub ends : (c : ℕ) → ((p : Path) → Member p ps → RisesAlong N c p) → (d : ℕ) × (f c ≡ Some d) × (p : Path) × Member p ps × (path_end N c p ≡ d)
 
 silent : (N : Numbering) → Matches N (λ c. Some c) ([] ∷ [])
 silent N = record {
@@ -90,12 +92,12 @@ module _ (N : Numbering) where
     ends = ending;
   }
     where
-      climbing : (c d : ℕ) → option_and_then g (f c) ≡ Some d → (r : Path) → (p : Path) × (q : Path) × In p ps × In q qs × (p ++ q ≡ r) → Climbs N c r d
+      climbing : (c d : ℕ) → option_and_then g (f c) ≡ Some d → (r : Path) → (p : Path) × (q : Path) × Member p ps × Member q qs × (p ++ q ≡ r) → Climbs N c r d
       climbing c d e r m =
           let split = some_then g (f c) d e in
           subst (λ (x : Path). Climbs N c x d) m.4 (climbs_on N c m.0 m.1 split.0 d (h.climbs c split.0 split.1 m.0 m.2) (k.climbs split.0 d split.2 m.1 m.3))
 
-      ending : (c : ℕ) → ((r : Path) → In r (each_then ps qs) → RisesAlong N c r) → (d : ℕ) × (option_and_then g (f c) ≡ Some d) × (r : Path) × In r (each_then ps qs) × (path_end N c r ≡ d)
+      ending : (c : ℕ) → ((r : Path) → Member r (each_then ps qs) → RisesAlong N c r) → (d : ℕ) × (option_and_then g (f c) ≡ Some d) × (r : Path) × Member r (each_then ps qs) × (path_end N c r ≡ d)
       ending c all =
           let a = h.ends c (λ p m. rises_first N c p k.some.0 (all (p ++ k.some.0) (in_then p k.some.0 ps qs m k.some.1))) in
           let b = k.ends a.0 (λ q m. subst (λ x. RisesAlong N x q) a.4 (rises_next N c a.2 q (all (a.2 ++ q) (in_then a.2 q ps qs a.3 m)))) in
@@ -103,33 +105,33 @@ module _ (N : Numbering) where
 
   of_either : (f g : ℕ → Option ℕ) (ps qs : List Path) → Matches N f ps → Matches N g qs → Matches N (λ c. option_and_then (λ d. option_and_then (λ e. Some (max d e)) (g c)) (f c)) (ps ++ qs)
   of_either f g ps qs h k = record {
-    some = (h.some.0, in_left h.some.0 ps qs h.some.1);
-    climbs = λ c d e r m. climbing c d e r (in_either r ps qs m);
+    some = (h.some.0, member_left h.some.0 ps qs h.some.1);
+    climbs = λ c d e r m. climbing c d e r (member_split r ps qs m);
     ends = ending;
   }
     where
-      climbing : (c d : ℕ) → option_and_then (λ x. option_and_then (λ y. Some (max x y)) (g c)) (f c) ≡ Some d → (r : Path) → In r ps ⊎ In r qs → Climbs N c r d
+      climbing : (c d : ℕ) → option_and_then (λ x. option_and_then (λ y. Some (max x y)) (g c)) (f c) ≡ Some d → (r : Path) → Member r ps ⊎ Member r qs → Climbs N c r d
       climbing c d e r m =
           let left = some_then (λ x. option_and_then (λ y. Some (max x y)) (g c)) (f c) d e in
           let right = some_then (λ y. Some (max left.0 y)) (g c) d left.2 in
           let most : max left.0 right.0 ≡ d = let z = right.2 in cc in
           of left.0 right.0 left.1 right.1 most m
         where
-          of : (x y : ℕ) → f c ≡ Some x → g c ≡ Some y → max x y ≡ d → In r ps ⊎ In r qs → Climbs N c r d
+          of : (x y : ℕ) → f c ≡ Some x → g c ≡ Some y → max x y ≡ d → Member r ps ⊎ Member r qs → Climbs N c r d
           of x y fx gy most (inl i) = climbs_later N c r x d (omega arith) (h.climbs c x fx r i)
           of x y fx gy most (inr i) = climbs_later N c r y d (omega arith) (k.climbs c y gy r i)
 
-      ending : (c : ℕ) → ((r : Path) → In r (ps ++ qs) → RisesAlong N c r) →
-          (d : ℕ) × (option_and_then (λ x. option_and_then (λ y. Some (max x y)) (g c)) (f c) ≡ Some d) × (r : Path) × In r (ps ++ qs) × (path_end N c r ≡ d)
+      ending : (c : ℕ) → ((r : Path) → Member r (ps ++ qs) → RisesAlong N c r) →
+          (d : ℕ) × (option_and_then (λ x. option_and_then (λ y. Some (max x y)) (g c)) (f c) ≡ Some d) × (r : Path) × Member r (ps ++ qs) × (path_end N c r ≡ d)
       ending c all =
-          let a = h.ends c (λ p m. all p (in_left p ps qs m)) in
-          let b = k.ends c (λ q m. all q (in_right q ps qs m)) in
+          let a = h.ends c (λ p m. all p (member_left p ps qs m)) in
+          let b = k.ends c (λ q m. all q (member_right q ps qs m)) in
           let best = greatest a.0 b.0 a.2 b.2 a.3 b.3 a.4 b.4 (cases_lt a.0 b.0) in
           (max a.0 b.0, ap (option_and_then (λ x. option_and_then (λ y. Some (max x y)) (g c))) a.1 ∙ ap (option_and_then (λ y. Some (max a.0 y))) b.1, best.0, best.1, best.2)
         where
-          greatest : (x y : ℕ) (p q : Path) → In p ps → In q qs → path_end N c p ≡ x → path_end N c q ≡ y → (x < y) ⊎ (y ≤ x) → (r : Path) × In r (ps ++ qs) × (path_end N c r ≡ max x y)
-          greatest x y p q i j e f (inl l) = (q, in_right q ps qs j, omega arith)
-          greatest x y p q i j e f (inr l) = (p, in_left p ps qs i, omega arith)
+          greatest : (x y : ℕ) (p q : Path) → Member p ps → Member q qs → path_end N c p ≡ x → path_end N c q ≡ y → (x < y) ⊎ (y ≤ x) → (r : Path) × Member r (ps ++ qs) × (path_end N c r ≡ max x y)
+          greatest x y p q i j e f (inl l) = (q, member_right q ps qs j, omega arith)
+          greatest x y p q i j e f (inr l) = (p, member_left p ps qs i, omega arith)
 
 -- The paths of a function in its caller's names, where the caller's numbering is seen through these names.
 module _ (N : Numbering) (name : ArrayName → ArrayName) where
@@ -175,6 +177,7 @@ module _ (fs : List FunEnd) (gs : List (List Path)) (ok : Pairwise FunMatches fs
       (λ f g p q h k. of_either N (f fs N) (g fs N) (p gs) (q gs) h k)
       (passing N)
       (λ k names. found (name_at names) fs gs ok k)
+      (λ f p h. h)
 
 -- Functions, each behind those before it.
 funs_agree : (ends : List FunEnd) (known : List (List Path)) (funs : List FunDef) → Pairwise FunMatches ends known →

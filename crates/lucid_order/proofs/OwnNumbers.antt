@@ -12,7 +12,8 @@ use Rattle.lucid_core.proofs.WidthLists.{passes_at}
 use Rattle.lucid_order.specs.Ends as o
 use Rattle.lucid_order.specs.Ends.{Numbering, Derives}
 use Rattle.lucid_order.specs.Laws.{OwnNumbersDecide, own_numbers}
-use Rattle.lucid_order.specs.Order.{InOrder, Rises}
+use Rattle.lucid_constraints.specs.Cycle.{Rises}
+use Rattle.lucid_order.specs.Order.{InOrder}
 use Rattle.lucid_order.proofs.Transfer.{CallTransfers, all_transfer, body_keeps}
 
 -- Every array that is not passed by the first place is not passed by the second.

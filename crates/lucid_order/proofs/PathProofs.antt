@@ -8,7 +8,8 @@ use Rattle.lucid_base.specs.declared.array.ArrayName.TheVariants.{Param}
 use Rattle.lucid_core.specs.declared.defs.FunDef.{FunDef}
 use Rattle.lucid_core.specs.ExamplePrograms.{bumps, program, small}
 use Rattle.lucid_core.proofs.Folds.{folds}
-use Rattle.lucid_order.specs.Cycle.{CallsThen, ComesFirst, IsCycle}
+use Rattle.lucid_constraints.specs.Cycle.{ComesFirst}
+use Rattle.lucid_order.specs.Cycle.{CallsThen, IsCycle}
 use Rattle.lucid_order.specs.Examples.{PathExamples, ProgramExamples, first, funs, in_turn, second}
 use Rattle.lucid_order.specs.Order.{Body, InOrder, bodies}
 use Rattle.lucid_order.specs.Paths.{Path, paths}

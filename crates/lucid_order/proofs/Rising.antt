@@ -1,4 +1,4 @@
--- In an accepted program every event calls the arrays in their order, each at most once.
+-- Member an accepted program every event calls the arrays in their order, each at most once.
 use Rattle.std.proofs.Common.{◌≡◌, ℕ, zero, suc, ◌+◌, ◌<◌, ◌≤◌, List, [], ◌∷◌, Option, None, Some, length, map, refl, sym, ap, subst, arith, option_and_then, slice_get, slice_index_or}
 use Rattle.std.specs.Prelude.{AllPairs, Contains}
 use Rattle.std.proofs.lemmas.List.Elements.{All-contains, Contains-append_right}
@@ -12,7 +12,8 @@ use Rattle.lucid_order.specs.Laws.{RisesAlong, TouchesFollowPaths, TouchesRise, 
 use Rattle.lucid_order.specs.Order.{Body, InOrder, IsAccepted, bodies, fun_bodies}
 use Rattle.lucid_order.specs.Paths.{Path, paths}
 use Rattle.lucid_order.proofs.Cycles.{paths_decide}
-use Rattle.lucid_order.proofs.Members.{In, contains, of_map}
+use Rattle.lucid_constraints.specs.Circle.{Member}
+use Rattle.lucid_order.proofs.Members.{contains, of_map}
 use Rattle.lucid_order.proofs.OwnNumbers.{by_own_numbers}
 use Rattle.lucid_order.proofs.Touched.{runs_along}
 
@@ -42,14 +43,14 @@ handler_in_order parts accepted k h is =
     (Contains-append_right (fun_bodies [] parts.funs) (map body parts.handlers) (body h) (among body parts.handlers k h is))
 
 -- A handler that is run calls one of its paths.
-handler_along : (parts : Parts) (h : HandlerDef) (cells : List (List ℕ)) (now me : ℕ) (args : List ℕ) → In (handled (Some h) parts cells now me args).calls (map (map (array_of [])) (paths parts.funs h.body))
+handler_along : (parts : Parts) (h : HandlerDef) (cells : List (List ℕ)) (now me : ℕ) (args : List ℕ) → Member (handled (Some h) parts cells now me args).calls (map (map (array_of [])) (paths parts.funs h.body))
 handler_along parts h cells now me args = runs_along now me [] parts.funs h.body (started cells (begun_with (taken_at h.locals args) h.locals))
 
 pub touches_follow_paths : TouchesFollowPaths
 touches_follow_paths parts cells now me event h is =
     let calls = λ (o : Option HandlerDef). (handled o parts cells now me event.args).calls in
     let along = map (map (array_of [])) (paths parts.funs h.body) in
-    contains (touches parts cells now me event) along (subst (λ (o : Option HandlerDef). In (calls o) along) (sym is) (handler_along parts h cells now me event.args))
+    contains (touches parts cells now me event) along (subst (λ (o : Option HandlerDef). Member (calls o) along) (sym is) (handler_along parts h cells now me event.args))
 
 handler_rises : (parts : Parts) → IsSound parts → (k : ℕ) (h : HandlerDef) → slice_get parts.handlers k ≡ Some h → InOrder (length parts.arrays) parts.funs h.body →
     (cells : List (List ℕ)) (now me : ℕ) (args : List ℕ) → AllPairs (λ a b. a < b) (handled (Some h) parts cells now me args).calls

@@ -22,7 +22,9 @@ use Rattle.lucid_core.specs.Meaning.{all_given, call, delay_of, effect_of, fun_o
 use Rattle.lucid_order.specs.Evaluation as walk
 use Rattle.lucid_order.specs.Paths as o
 use Rattle.lucid_order.specs.Paths.{Path, Paths, body_paths, each_then, expr_paths, stmt_paths, touch_paths}
-use Rattle.lucid_order.proofs.Members.{In, in_left, in_map, in_right, in_then, of_map}
+use Rattle.lucid_constraints.specs.Circle.{Member}
+use Rattle.lucid_constraints.proofs.MemberLemmas.{member_left, member_right}
+use Rattle.lucid_order.proofs.Members.{in_map, in_then, of_map}
 use Rattle.lucid_core.proofs.Pairwise.{Pairwise, one_more}
 use Rattle.lucid_core.specs.Values.{nothing, numbers, unary, binary, comparison, hashed, memop}
 
@@ -31,11 +33,11 @@ abbrev pub as_called : List ℕ → List Path → List (List ℕ)
 as_called arrays ps = map (map (array_of arrays)) ps
 
 abbrev FunFollows : Fun → List Path → Type 0
-FunFollows f qs = (arrays : List ℕ) (vs : List Bits) (s : State) → In (f arrays vs s).calls (as_called arrays qs)
+FunFollows f qs = (arrays : List ℕ) (vs : List Bits) (s : State) → Member (f arrays vs s).calls (as_called arrays qs)
 
 -- What an act calls is one of its part's paths.
 abbrev Follows : {A : Type 0} → Act A → Paths → Type 0
-Follows act f = (p : Frame) (fs : List (List Path)) → Pairwise FunFollows p.funs fs → (s : State) → In (act p s).calls (as_called p.arrays (f fs))
+Follows act f = (p : Frame) (fs : List (List Path)) → Pairwise FunFollows p.funs fs → (s : State) → Member (act p s).calls (as_called p.arrays (f fs))
 
 infixr 20 ◌⨾◌
 abbrev ◌⨾◌ : Paths → Paths → Paths
@@ -47,11 +49,11 @@ larger f g = o.all_paths.branches f g
 -- ---- acts one after another
 
 -- One path after another, as they are called.
-one_then : (arrays : List ℕ) (xs ys : List ℕ) (ps qs : List Path) → In xs (as_called arrays ps) → In ys (as_called arrays qs) → In (xs ++ ys) (as_called arrays (each_then ps qs))
+one_then : (arrays : List ℕ) (xs ys : List ℕ) (ps qs : List Path) → Member xs (as_called arrays ps) → Member ys (as_called arrays qs) → Member (xs ++ ys) (as_called arrays (each_then ps qs))
 one_then arrays xs ys ps qs h k =
     let p = of_map (map (array_of arrays)) xs ps h in
     let q = of_map (map (array_of arrays)) ys qs k in
-    subst (λ (zs : List ℕ). In zs (as_called arrays (each_then ps qs))) (map-append (array_of arrays) p.0 q.0 ∙ ap₂ (λ (x y : List ℕ). x ++ y) p.2 q.2)
+    subst (λ (zs : List ℕ). Member zs (as_called arrays (each_then ps qs))) (map-append (array_of arrays) p.0 q.0 ∙ ap₂ (λ (x y : List ℕ). x ++ y) p.2 q.2)
     (in_map (map (array_of arrays)) (p.0 ++ q.0) (each_then ps qs) (in_then p.0 q.0 ps qs p.1 q.1))
 
 then_both : {A B : Type 0} (a : Act A) (k : A → Act B) (f g : Paths) → Follows a f → ((x : A) → Follows (k x) g) → Follows (a >>= k) (f ⨾ g)
@@ -62,7 +64,7 @@ then_both a k f g h i p fs ok s =
 then_still : {A B : Type 0} (a : Act A) (k : A → Act B) (f : Paths) → Follows a f → ((x : A) (p : Frame) (s : State) → (k x p s).calls ≡ []) → Follows (a >>= k) f
 then_still a k f h quiet p fs ok s =
     let first = a p s in
-    subst (λ (ys : List ℕ). In ys (as_called p.arrays (f fs))) (sym (append-nil first.calls) ∙ ap (λ (zs : List ℕ). first.calls ++ zs) (sym (quiet first.gives p first.after))) (h p fs ok s)
+    subst (λ (ys : List ℕ). Member ys (as_called p.arrays (f fs))) (sym (append-nil first.calls) ∙ ap (λ (zs : List ℕ). first.calls ++ zs) (sym (quiet first.gives p first.after))) (h p fs ok s)
 
 still : {A : Type 0} (a : Act A) → ((p : Frame) (s : State) → (a p s).calls ≡ []) → Follows a o.all_paths.nothing
 still a quiet p fs ok s = inl (sym (quiet p s))
@@ -73,9 +75,9 @@ called_follows locals body f h p fs ok s = h p fs ok (record s { locals = locals
 either_follows : (b : Bool) (ss ts : List Effect) (f g : Paths) → Follows (block ss) f → Follows (block ts) g → Follows (block (if b then ts else ss)) (larger f g)
 either_follows b ss ts f g h k p fs ok s = pick b
   where
-    pick : (t : Bool) → In (block (if t then ts else ss) p s).calls (as_called p.arrays (f fs ++ g fs))
-    pick true = subst (λ (zs : List (List ℕ)). In (block ts p s).calls zs) (sym (map-append (map (array_of p.arrays)) (f fs) (g fs))) (in_right (block ts p s).calls (as_called p.arrays (f fs)) (as_called p.arrays (g fs)) (k p fs ok s))
-    pick false = subst (λ (zs : List (List ℕ)). In (block ss p s).calls zs) (sym (map-append (map (array_of p.arrays)) (f fs) (g fs))) (in_left (block ss p s).calls (as_called p.arrays (f fs)) (as_called p.arrays (g fs)) (h p fs ok s))
+    pick : (t : Bool) → Member (block (if t then ts else ss) p s).calls (as_called p.arrays (f fs ++ g fs))
+    pick true = subst (λ (zs : List (List ℕ)). Member (block ts p s).calls zs) (sym (map-append (map (array_of p.arrays)) (f fs) (g fs))) (member_right (block ts p s).calls (as_called p.arrays (f fs)) (as_called p.arrays (g fs)) (k p fs ok s))
+    pick false = subst (λ (zs : List (List ℕ)). Member (block ss p s).calls zs) (sym (map-append (map (array_of p.arrays)) (f fs) (g fs))) (member_left (block ss p s).calls (as_called p.arrays (f fs)) (as_called p.arrays (g fs)) (h p fs ok s))
 
 -- ---- calls
 
@@ -98,7 +100,7 @@ paths_there arrays names [] = refl
 paths_there arrays names (q ∷ qs) = ap₂ (λ (p : List ℕ) (ps : List (List ℕ)). p ∷ ps) (path_there arrays names q) (paths_there arrays names qs)
 
 found_follows : (arrays : List ℕ) (vs : List Bits) (p : Frame) (fs : List Fun) (gs : List (List Path)) → Pairwise FunFollows fs gs → (k : ℕ) (s : State) →
-    In (option_map_or (λ f. f arrays vs) (slice_get fs k) (give nothing p) s).calls (as_called arrays (slice_index_or gs k ([] ∷ [])))
+    Member (option_map_or (λ f. f arrays vs) (slice_get fs k) (give nothing p) s).calls (as_called arrays (slice_index_or gs k ([] ∷ [])))
 found_follows arrays vs p [] [] h k s = inl refl
 found_follows arrays vs p [] (g ∷ gs) h k s = absurd h
 found_follows arrays vs p (f ∷ fs) [] h k s = absurd h
@@ -106,7 +108,7 @@ found_follows arrays vs p (f ∷ fs) (g ∷ gs) h zero s = h.0 arrays vs s
 found_follows arrays vs p (f ∷ fs) (g ∷ gs) h (suc k) s = found_follows arrays vs p fs gs h.1 k s
 
 call_follows : (k : ℕ) (names : List ArrayName) (vs : List Bits) → Follows (λ p. call k (map (array_of p.arrays) names) vs p) (o.goes_through k names)
-call_follows k names vs p fs ok s = subst (λ (zs : List (List ℕ)). In (call k (map (array_of p.arrays) names) vs p s).calls zs) (sym (paths_there p.arrays names (slice_index_or fs k ([] ∷ []))))
+call_follows k names vs p fs ok s = subst (λ (zs : List (List ℕ)). Member (call k (map (array_of p.arrays) names) vs p s).calls zs) (sym (paths_there p.arrays names (slice_index_or fs k ([] ∷ []))))
     (found_follows (map (array_of p.arrays) names) vs p p.funs fs ok k s)
 
 touched_follows : (a : ArrayName) (i : ℕ) (answer store : ℕ → Bits) → Follows (touched a i answer store) (o.all_paths.array a)
@@ -272,5 +274,5 @@ module _ (now me : ℕ) where
 
   -- A body behind these functions.
   pub runs_along : (arrays : List ℕ) (funs : List FunDef) (body : List Stmt) (s : State) →
-      In (block (map effect_of body) (record { now = now; me = me; arrays = arrays; funs = m.funs_of now me funs }) s).calls (as_called arrays (o.paths funs body))
+      Member (block (map effect_of body) (record { now = now; me = me; arrays = arrays; funs = m.funs_of now me funs }) s).calls (as_called arrays (o.paths funs body))
   runs_along arrays funs body s = body_follows body (record { now = now; me = me; arrays = arrays; funs = m.funs_of now me funs }) (o.paths_of funs) (funs_follow [] [] funs tt) s

@@ -42,7 +42,7 @@ abbrev pub goes_through : ℕ → List ArrayName → End
 goes_through k names = λ fs N c. option_map_or (λ f. f (λ y. N (name_at names y)) c) (slice_get fs k) (Some c)
 
 abbrev pub ends : Walk End
-ends = record { nothing = stay; in_turn = ◌⨾◌; branches = larger; array = passes; function = goes_through }
+ends = record { nothing = stay; in_turn = ◌⨾◌; branches = larger; array = passes; function = goes_through; node = λ f. f }
 
 abbrev pub expr_end : Expr → End
 expr_end = expr_walk ends

@@ -8,13 +8,14 @@ use Rattle.lucid_core.specs.declared.body.Expr.TheOpen.{Expr-F, Stmt-F, Touch-F}
 use Rattle.lucid_core.specs.declared.body.Expr.TheFolds.{fold-Expr, fold-Stmt, fold-Touch}
 
 -- What a walk makes of what calls no array, of one part after another, of the two branches of an if, of a call of an array,
--- and of a call of function k that is given these arrays.
+-- of a call of function k that is given these arrays, and of a node, once its parts are known.
 pub record Walk (A : Type 0) : Type 0 where
   pub nothing : A
   pub in_turn : A → A → A
   pub branches : A → A → A
   pub array : ArrayName → A
   pub function : ℕ → List ArrayName → A
+  pub node : A → A
 
 abbrev pub sequence : {A : Type 0} → Walk A → List A → A
 sequence w [] = w.nothing
@@ -29,32 +30,38 @@ abbrev pub both : {A : Type 0} → Walk A → Bool → A → A → A
 both w true x y = w.in_turn x y
 both w false x y = w.in_turn y x
 
+abbrev pub expr_parts : {A : Type 0} → Walk A → Expr-F A A A → A
+expr_parts w (Expr-F.Fixed n) = w.nothing
+expr_parts w (Expr-F.Local i) = w.nothing
+expr_parts w Expr-F.Now = w.nothing
+expr_parts w Expr-F.Me = w.nothing
+expr_parts w (Expr-F.Un op x) = x
+expr_parts w (Expr-F.Bin op x y) = w.in_turn x y
+expr_parts w (Expr-F.Cmp op x y) = w.in_turn x y
+expr_parts w (Expr-F.Cast width x) = x
+expr_parts w (Expr-F.Hash width xs) = sequence w xs
+expr_parts w (Expr-F.Array t) = t
+expr_parts w (Expr-F.Fun k names xs) = w.in_turn (sequence w xs) (w.function k names)
+expr_parts w (Expr-F.Inlined given ss) = w.in_turn (sequence w (map (λ g. g.1) given)) (sequence w ss)
+
 abbrev pub expr_step : {A : Type 0} → Walk A → Expr-F A A A → A
-expr_step w (Expr-F.Fixed n) = w.nothing
-expr_step w (Expr-F.Local i) = w.nothing
-expr_step w Expr-F.Now = w.nothing
-expr_step w Expr-F.Me = w.nothing
-expr_step w (Expr-F.Un op x) = x
-expr_step w (Expr-F.Bin op x y) = w.in_turn x y
-expr_step w (Expr-F.Cmp op x y) = w.in_turn x y
-expr_step w (Expr-F.Cast width x) = x
-expr_step w (Expr-F.Hash width xs) = sequence w xs
-expr_step w (Expr-F.Array t) = t
-expr_step w (Expr-F.Fun k names xs) = w.in_turn (sequence w xs) (w.function k names)
-expr_step w (Expr-F.Inlined given ss) = w.in_turn (sequence w (map (λ g. g.1) given)) (sequence w ss)
+expr_step w e = w.node (expr_parts w e)
 
 -- An array is called after its arguments.
 abbrev pub touch_step : {A : Type 0} → Walk A → Touch-F A A A → A
-touch_step w t = w.in_turn t.index (w.in_turn t.get_arg (w.in_turn t.set_arg (w.array t.array)))
+touch_step w t = w.node (w.in_turn t.index (w.in_turn t.get_arg (w.in_turn t.set_arg (w.array t.array))))
+
+abbrev pub stmt_parts : {A : Type 0} → Walk A → Stmt-F A A A → A
+stmt_parts w (Stmt-F.Assign i x) = x
+stmt_parts w (Stmt-F.Drop x) = x
+stmt_parts w (Stmt-F.If x ss ts) = w.in_turn x (w.branches (sequence w ss) (sequence w ts))
+stmt_parts w (Stmt-F.Gen event xs delay to delay_first) = w.in_turn (sequence w xs) (both w delay_first (optional w delay) (optional w to))
+stmt_parts w (Stmt-F.Multi event xs delay members) = w.in_turn (sequence w xs) (optional w delay)
+stmt_parts w (Stmt-F.Say form xs) = sequence w xs
+stmt_parts w (Stmt-F.Return x) = optional w x
 
 abbrev pub stmt_step : {A : Type 0} → Walk A → Stmt-F A A A → A
-stmt_step w (Stmt-F.Assign i x) = x
-stmt_step w (Stmt-F.Drop x) = x
-stmt_step w (Stmt-F.If x ss ts) = w.in_turn x (w.branches (sequence w ss) (sequence w ts))
-stmt_step w (Stmt-F.Gen event xs delay to delay_first) = w.in_turn (sequence w xs) (both w delay_first (optional w delay) (optional w to))
-stmt_step w (Stmt-F.Multi event xs delay members) = w.in_turn (sequence w xs) (optional w delay)
-stmt_step w (Stmt-F.Say form xs) = sequence w xs
-stmt_step w (Stmt-F.Return x) = optional w x
+stmt_step w s = w.node (stmt_parts w s)
 
 abbrev pub expr_walk : {A : Type 0} → Walk A → Expr → A
 expr_walk {A} w = fold-Expr A A A (expr_step w) (stmt_step w) (touch_step w)

@@ -1,14 +1,11 @@
 -- When a body is in order, and which programs are accepted.
-use Rattle.std.specs.Prelude.{ℕ, ◌<◌, List, [], ◌∷◌, ◌++◌, All, length, map}
-use Rattle.lucid_base.specs.declared.array.ArrayName.TheVariants.{Global}
+use Rattle.std.specs.Prelude.{ℕ, List, [], ◌∷◌, ◌++◌, All, length, map}
+use Rattle.lucid_constraints.specs.Cycle.{Rises}
 use Rattle.lucid_core.specs.declared.body.Stmt.{Stmt}
 use Rattle.lucid_core.specs.declared.defs.FunDef.{FunDef}
+use Rattle.lucid_core.specs.declared.defs.HandlerDef.{HandlerDef}
 use Rattle.lucid_core.specs.Parts.{Parts}
 use Rattle.lucid_order.specs.Ends.{Numbering, Derives}
-
--- The numbering rises strictly along the declared arrays.
-abbrev pub Rises : ℕ → Numbering → Type 0
-Rises arrays N = (a b : ℕ) → a < b → b < arrays → N (Global a) < N (Global b)
 
 -- Behind these functions, some numbering that rises along so many declared arrays derives the body from place 0.
 pub record InOrder (arrays : ℕ) (funs : List FunDef) (body : List Stmt) : Type 0 where
@@ -28,9 +25,13 @@ abbrev pub fun_bodies : List FunDef → List FunDef → List Body
 fun_bodies before [] = []
 fun_bodies before (f ∷ fs) = record { decl = f.decl; funs = before; body = f.body } ∷ fun_bodies (before ++ f ∷ []) fs
 
+-- Of handlers, behind these functions.
+abbrev pub handler_bodies : List FunDef → List HandlerDef → List Body
+handler_bodies funs handlers = map (λ h. record { decl = h.decl; funs = funs; body = h.body }) handlers
+
 -- Of all functions and handlers.
 abbrev pub bodies : Parts → List Body
-bodies parts = fun_bodies [] parts.funs ++ map (λ h. record { decl = h.decl; funs = parts.funs; body = h.body }) parts.handlers
+bodies parts = fun_bodies [] parts.funs ++ handler_bodies parts.funs parts.handlers
 
 -- All functions and handlers are in order. A function is judged by itself, whether it is called or not.
 abbrev pub IsAccepted : Parts → Type 0

@@ -32,6 +32,7 @@ all_paths = record {
   branches = λ f g fs. f fs ++ g fs;
   array = λ a fs. (a ∷ []) ∷ [];
   function = goes_through;
+  node = λ f. f;
 }
 
 abbrev pub expr_paths : Expr → Paths

@@ -1,41 +1,23 @@
 -- How large a program is.
 use Rattle.std.specs.Prelude.{ℕ, ◌+◌, List, [], ◌∷◌, map}
-use Rattle.lucid_core.specs.declared.body.Expr.{Expr}
 use Rattle.lucid_core.specs.declared.body.Stmt.{Stmt}
-use Rattle.lucid_core.specs.declared.body.Touch.{Touch}
 use Rattle.lucid_core.specs.declared.body.Expr.TheOpen.{Expr-F, Stmt-F, Touch-F}
-use Rattle.lucid_core.specs.declared.body.Expr.TheFolds.{fold-Expr, fold-Stmt, fold-Touch}
+use Rattle.lucid_core.specs.declared.body.Expr.TheFolds.{fold-Stmt}
 use Rattle.lucid_core.specs.Children.{expr_children, stmt_children, touch_children}
 use Rattle.lucid_core.specs.Parts.{Parts}
+use Rattle.lucid_order.specs.Evaluation.{Walk, body_walk}
 
 abbrev pub total : List ℕ → ℕ
 total [] = 0
 total (n ∷ ns) = n + total ns
 
-abbrev pub expr_step : Expr-F ℕ ℕ ℕ → ℕ
-expr_step e = 1 + total (expr_children e)
-
-abbrev pub touch_step : Touch-F ℕ ℕ ℕ → ℕ
-touch_step t = 1 + total (touch_children t)
-
-abbrev pub stmt_step : Stmt-F ℕ ℕ ℕ → ℕ
-stmt_step s = 1 + total (stmt_children s)
-
-abbrev pub expr_nodes : Expr → ℕ
-expr_nodes = fold-Expr ℕ ℕ ℕ expr_step stmt_step touch_step
-
-abbrev pub stmt_nodes : Stmt → ℕ
-stmt_nodes = fold-Stmt ℕ ℕ ℕ expr_step stmt_step touch_step
-
-abbrev pub touch_nodes : Touch → ℕ
-touch_nodes = fold-Touch ℕ ℕ ℕ expr_step stmt_step touch_step
-
-abbrev pub body_nodes : List Stmt → ℕ
-body_nodes body = total (map stmt_nodes body)
+-- Each statement, expression and touch counts one.
+abbrev pub size : Walk ℕ
+size = record { nothing = 0; in_turn = ◌+◌; branches = ◌+◌; array = λ a. 0; function = λ k names. 0; node = λ n. 1 + n }
 
 -- The statements, expressions and touches in the bodies of functions and handlers, and these themselves.
 abbrev pub nodes : Parts → ℕ
-nodes parts = total (map (λ f. 1 + body_nodes f.body) parts.funs) + total (map (λ h. 1 + body_nodes h.body) parts.handlers)
+nodes parts = total (map (λ f. 1 + body_walk size f.body) parts.funs) + total (map (λ h. 1 + body_walk size h.body) parts.handlers)
 
 -- In a flat program only statements and calls with their bodies put in count.
 abbrev pub flat_expr : Expr-F ℕ ℕ ℕ → ℕ
@@ -44,6 +26,9 @@ flat_expr e = total (expr_children e)
 
 abbrev pub flat_touch : Touch-F ℕ ℕ ℕ → ℕ
 flat_touch t = total (touch_children t)
+
+abbrev pub stmt_step : Stmt-F ℕ ℕ ℕ → ℕ
+stmt_step s = 1 + total (stmt_children s)
 
 abbrev pub flat_stmt_size : Stmt → ℕ
 flat_stmt_size = fold-Stmt ℕ ℕ ℕ flat_expr stmt_step flat_touch

@@ -1,0 +1,19 @@
+use Rattle.std.proofs.Common.{rules, ◌≡◌, ◌++◌, ℕ, [], List, length, subst}
+use Rattle.std.proofs.lemmas.Result.{IfOk-weaker}
+use Rattle.lucid_core.specs.declared.defs.HandlerDef.{HandlerDef}
+use Rattle.lucid_order.specs.Order.{bodies, fun_bodies, handler_bodies}
+use Rattle.lucid_effects.specs.First.{IsFirst}
+use Rattle.lucid_schemes.specs.Schemes.{schemes_of}
+use Rattle.lucid_effects.proofs.check.check_all.Goals as goal
+
+pub returns-clause-first : goal.returns-clause-first
+returns-clause-first g c =
+    let core = c.args.core.now in
+    let arrays : c.array_count-arrays.result ≡ length core.arrays = search rules in
+    let known : c.in_ok-funs.funs.schemes.items ≡ schemes_of core.funs = search rules in
+    let funs : IsFirst c.array_count-arrays.result (fun_bodies [] core.funs) c.in_ok-funs.funs.first = search rules in
+    let handlers : c.handlers.result.now ≡ core.handlers = search rules in
+    IfOk-weaker c.check_handlers.result _ (λ j. IsFirst (length core.arrays) (bodies core) j.first)
+    (λ j h. subst (λ (n : ℕ). IsFirst n (bodies core) j.first) arrays
+    (subst (λ (hs : List HandlerDef). IsFirst c.array_count-arrays.result (fun_bodies [] core.funs ++ handler_bodies core.funs hs) j.first) handlers (h core.funs known (fun_bodies [] core.funs) funs)))
+    c.check_handlers.ensures.first

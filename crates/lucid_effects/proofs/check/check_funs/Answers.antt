@@ -1,0 +1,15 @@
+use Rattle.std.proofs.Common.{rules, ◌≡◌, ◌++◌, ◌∷◌, [], Some, sym, ap, ◌∙◌}
+use Rattle.std.specs.Prelude.{slice_get}
+use Rattle.std.proofs.lemmas.Option.{slice_get-get_or}
+use Rattle.lucid_effects.proofs.Turns.{fun_turn, judges_same}
+use Rattle.lucid_effects.proofs.check.check_funs.Goals as goal
+
+pub loop-f-preserved : goal.loop-f-preserved
+loop-f-preserved g c =
+    let f = c.f-item.result in
+    let is : slice_get c.args.funs.now c.loop-f.f-index ≡ Some f = slice_get-get_or c.args.funs.now c.loop-f.f-index f (search rules) ∙ ap (λ x. Some x) (sym c.f-item.is) in
+    let pushed : c.push.new.self.items ≡ c.loop-f.schemes.items ++ c.in_ok-found.found ∷ [] = search rules in
+    let judges = judges_same c.args.arrays c.loop-f.schemes.items c.deref.result.now f.decl f.body c.as_slice.result.now c.loop-f.first c.judge.new.first (search rules) (search rules) c.in_ok-found.ensures.first in
+    let both = fun_turn c.args.arrays c.loop-f.f-index c.loop-f.schemes.items c.push.new.self.items c.in_ok-found.found c.loop-f.first c.judge.new.first pushed
+    c.args.funs.now f is (search rules) judges c.loop-f.invariant.schemes c.loop-f.invariant.first in
+    record { schemes = both.0; first = both.1 }

@@ -1,0 +1,12 @@
+use Rattle.std.proofs.Common.{◌≡◌, ◌++◌, List, take}
+use Rattle.lucid_core.specs.declared.defs.FunDef.{FunDef}
+use Rattle.lucid_order.specs.Order.{Body, handler_bodies}
+use Rattle.lucid_effects.specs.First.{IsFirst}
+use Rattle.lucid_schemes.specs.Schemes.{handler_schemes, schemes_of}
+use Rattle.lucid_effects.proofs.check.check_handlers.Given as goal
+
+abbrev pub invariant-loop-h : goal.invariant-loop-h
+invariant-loop-h g l = record {
+  schemes : l.schemes.items ≡ l.initial.schemes.items ++ handler_schemes l.initial.schemes.items (take l.h-index l.handlers);
+  first : (funs : List FunDef) → l.initial.schemes.items ≡ schemes_of funs → (bs : List Body) → IsFirst l.arrays bs l.initial.first → IsFirst l.arrays (bs ++ handler_bodies funs (take l.h-index l.handlers)) l.first;
+}

@@ -1,0 +1,12 @@
+use Rattle.std.proofs.Common.{rules, ◌≡◌, List, sym, subst}
+use Rattle.lucid_order.specs.Order.{bodies}
+use Rattle.lucid_schemes.specs.declared.scheme.Scheme.{Scheme}
+use Rattle.lucid_schemes.specs.Principal.{ArePrincipal}
+use Rattle.lucid_schemes.specs.Schemes.{all_schemes}
+use Rattle.lucid_schemes.proofs.AllPrincipal.{all_principal}
+use Rattle.lucid_effects.proofs.check.check_order.Goals as goal
+
+pub returns-clause-principal : goal.returns-clause-principal
+returns-clause-principal g c =
+    let is : c.in_ok-schemes.field-0.schemes.items ≡ all_schemes c.args.core.now = search rules in
+    subst (λ (ss : List Scheme). ArePrincipal (bodies c.args.core.now) ss) (sym is) (all_principal c.args.core.now)

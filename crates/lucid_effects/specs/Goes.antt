@@ -1,0 +1,13 @@
+-- A function of the check does a walk. Only contracts inside this crate cite this page.
+use Rattle.std.specs.Prelude.{◌≡◌, ℕ, Result, Ok, Err}
+use Rattle.lucid_base.specs.declared.memory.Memory.{Memory}
+use Rattle.lucid_schemes.specs.declared.scheme.Scheme.{Scheme}
+use Rattle.lucid_schemes.specs.Schemes.{Walked}
+
+abbrev pub walked : Scheme → ℕ → Walked
+walked s steps = record { needs = s.needs; ends = s.ends; steps = steps }
+
+-- It finds what the walk finds, in its steps, unless memory ran out.
+abbrev pub Goes : {A : Type 0} → (Walked → Walked) → Scheme → ℕ → Scheme → ℕ → Result A Memory → Type 0
+Goes walk old before new after (Ok x) = walked new after ≡ walk (walked old before)
+Goes walk old before new after (Err e) = Unit {0}

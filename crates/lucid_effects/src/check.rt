@@ -1,0 +1,135 @@
+// The check of a program.
+ghost use Rattle.std.specs.Prelude.{◌≡◌, ◌++◌, ◌≤◌, ◌+◌, ◌*◌, [], List, length, map, take, Err, IfErr, IfOk, IsOk, MatchOption, OnOk};
+ghost use Rattle.lucid_core.specs.declared.defs.FunDef.{FunDef};
+ghost use Rattle.lucid_order.specs.Laws.{TouchesRise};
+ghost use Rattle.lucid_order.specs.Order.{Body, IsAccepted, bodies, fun_bodies, handler_bodies};
+ghost use Rattle.lucid_effects.specs.Answers.{Tells};
+ghost use Rattle.lucid_effects.specs.First.{IsFirst};
+ghost use Rattle.lucid_schemes.specs.Principal.{ArePrincipal};
+ghost use Rattle.lucid_schemes.specs.Schemes.{all_schemes, handler_schemes, schemes_of};
+ghost use Rattle.lucid_effects.specs.declared.error.OrderError.TheVariants as errors;
+
+use crate::declaration::judge;
+use crate::error::OrderError;
+use crate::first::Refused;
+use lucid_base::{Memory, Steps};
+use lucid_core::{Core, FunDef, HandlerDef};
+use lucid_order::touches_rise;
+use lucid_schemes::Scheme;
+use std::alloc::Global;
+use std::sync::ledger::Ledger;
+
+/// What is found of the declarations so far.
+#[derive(Drop)]
+struct Judged {
+    schemes: Vec<Scheme>,
+    first: Option<Refused>,
+}
+
+fn array_count(core: &Core) -> u32
+    ensures { result ≡ length core.now.arrays }
+{
+    core.arrays().len() as u32
+}
+
+fn check_funs<L: Ledger>(
+    alloc: Global,
+    arrays: u32,
+    funs: &[FunDef],
+    steps: &mut Steps<L>,
+) -> Result<Judged, Memory>
+    ensures schemes { IfOk result (λ j. j.schemes.items ≡ schemes_of funs.now) }
+    ensures first { IfOk result (λ j. IsFirst arrays (fun_bodies [] funs.now) j.first) }
+{
+    let mut schemes: Vec<Scheme> = Vec::new(alloc);
+    let mut first: Option<Refused> = None;
+    for f in funs {
+        let found = judge(
+            alloc,
+            arrays,
+            &schemes,
+            f.decl,
+            f.body.as_slice(),
+            &mut first,
+            steps,
+        )?;
+        schemes.push(found)?;
+    }
+    Ok(Judged { schemes, first })
+}
+
+fn front(schemes: &[Scheme], count: usize) -> &[Scheme]
+    requires { count ≤ length schemes.now }
+    ensures { result.now ≡ take count schemes.now }
+{
+    &schemes[..count]
+}
+
+/// Goes on with the handlers, behind the functions.
+fn check_handlers<L: Ledger>(
+    alloc: Global,
+    arrays: u32,
+    judged: Judged,
+    handlers: &[HandlerDef],
+    steps: &mut Steps<L>,
+) -> Result<Judged, Memory>
+    ensures schemes { IfOk result (λ j. j.schemes.items ≡ judged.schemes.items ++ handler_schemes judged.schemes.items handlers.now) }
+    ensures first { IfOk result (λ j. (funs : List FunDef) → judged.schemes.items ≡ schemes_of funs → (bs : List Body) → IsFirst arrays bs judged.first → IsFirst arrays (bs ++ handler_bodies funs handlers.now) j.first) }
+{
+    let Judged {
+        mut schemes,
+        mut first,
+    } = judged;
+    let count = schemes.len();
+    for h in handlers {
+        let before = front(&schemes, count);
+        let found = judge(
+            alloc,
+            arrays,
+            before,
+            h.decl,
+            h.body.as_slice(),
+            &mut first,
+            steps,
+        )?;
+        schemes.push(found)?;
+    }
+    Ok(Judged { schemes, first })
+}
+
+fn check_all<L: Ledger>(alloc: Global, core: &Core, steps: &mut Steps<L>) -> Result<Judged, Memory>
+    ensures schemes { IfOk result (λ j. j.schemes.items ≡ all_schemes core.now) }
+    ensures first { IfOk result (λ j. IsFirst (length core.now.arrays) (bodies core.now) j.first) }
+{
+    let arrays = array_count(core);
+    let funs = check_funs(alloc, arrays, core.funs(), steps)?;
+    check_handlers(alloc, arrays, funs, core.handlers(), steps)
+}
+
+/// Refuses a program in which such a declaration was found.
+fn refuse(first: Option<Refused>) -> Result<(), OrderError>
+    ensures { MatchOption first (IsOk result) (λ r. result ≡ Err (errors.NoOrder r.decl r.cycle)) }
+{
+    match first {
+        None => Ok(()),
+        Some(Refused { decl, cycle }) => Err(OrderError::NoOrder { decl, cycle }),
+    }
+}
+
+/// One scheme for each function, and then for each handler, where all are in order.
+pub fn check_order<L: Ledger>(
+    alloc: Global,
+    core: &Core,
+    steps: &mut Steps<L>,
+) -> Result<Vec<Scheme>, OrderError>
+    ensures accepted { OnOk result (IsAccepted core.now) }
+    ensures refused { IfErr result (λ e. Tells core.now e) }
+    ensures passes { IsAccepted core.now → IfErr result (λ e. e ≡ errors.Memory) }
+    ensures principal { IfOk result (λ ss. ArePrincipal (bodies core.now) ss.items) }
+    ensures rises { OnOk result (TouchesRise core.now) }
+{
+    touches_rise(core);
+    let Judged { schemes, first } = check_all(alloc, core, steps)?;
+    refuse(first)?;
+    Ok(schemes)
+}

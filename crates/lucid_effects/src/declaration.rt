@@ -1,0 +1,55 @@
+// The check of one body.
+ghost use Rattle.std.specs.Prelude.{◌≡◌, ◌++◌, ◌∷◌, [], List, IfOk, OnOk};
+ghost use Rattle.lucid_core.specs.declared.defs.FunDef.{FunDef};
+ghost use Rattle.lucid_order.specs.Order.{Body};
+ghost use Rattle.lucid_effects.specs.First.{IsFirst};
+ghost use Rattle.lucid_schemes.specs.Schemes.{scheme_of, schemes_of};
+
+use crate::first::{Refused, keep};
+use crate::walk::body;
+use lucid_base::{Items, Memory, Steps};
+use lucid_constraints::{Atom, Order};
+use lucid_core::Stmt;
+use lucid_schemes::Scheme;
+use std::alloc::Global;
+use std::sync::ledger::Ledger;
+
+/// The scheme of a body, behind functions with these schemes.
+#[tactic(auto, using(lucid_schemes::proofs::Counting::scheme_is))]
+fn scheme<L: Ledger>(
+    alloc: Global,
+    schemes: &[Scheme],
+    stmts: &[Stmt],
+    steps: &mut Steps<L>,
+) -> Result<Scheme, Memory>
+    ensures { IfOk result (λ s. s ≡ scheme_of schemes.now stmts.now) }
+{
+    steps.tick();
+    let mut ends = Items::new(alloc);
+    ends.push(Atom::Start)?;
+    let mut at = Scheme {
+        needs: Order::new(alloc),
+        ends,
+    };
+    body(alloc, schemes, &mut at, steps, stmts)?;
+    Ok(at)
+}
+
+/// The scheme of declaration `decl`, and whether it is the first that isn't in order.
+pub fn judge<L: Ledger>(
+    alloc: Global,
+    arrays: u32,
+    schemes: &[Scheme],
+    decl: u32,
+    stmts: &[Stmt],
+    first: &mut Option<Refused>,
+    steps: &mut Steps<L>,
+) -> Result<Scheme, Memory>
+    ensures scheme { IfOk result (λ s. s ≡ scheme_of schemes.now stmts.now) }
+    ensures first { OnOk result ((funs : List FunDef) → schemes.now ≡ schemes_of funs → (bs : List Body) → IsFirst arrays bs first.old → IsFirst arrays (bs ++ record { decl = decl; funs = funs; body = stmts.now } ∷ []) first.new) }
+{
+    let found = scheme(alloc, schemes, stmts, steps)?;
+    let cycle = found.needs.cycle(alloc, arrays)?;
+    keep(first, decl, cycle);
+    Ok(found)
+}

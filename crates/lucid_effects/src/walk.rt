@@ -1,0 +1,263 @@
+// The walk along a body that finds its scheme.
+ghost use Rattle.std.specs.Prelude.{◌≡◌, ◌+◌, ◌≤◌, length, map, OnOk, Some};
+ghost use Rattle.std.specs.Option.{option_map};
+ghost use Rattle.lucid_constraints.specs.Same.{same_pair, join_all};
+ghost use Rattle.lucid_constraints.specs.Substitution.{pair};
+ghost use Rattle.lucid_order.specs.Evaluation.{optional, sequence};
+ghost use Rattle.lucid_effects.specs.Goes.{Goes};
+ghost use Rattle.lucid_schemes.specs.Schemes.{passes as passes_by, through as through_by, goes_through as goes_through_by, finds, expr_found, given_found, stmt_found, touch_found, body_found};
+
+use lucid_base::{ArrayName, Items, Memory, Steps};
+use lucid_constraints::{Atom, Order, Pair, ends_at, join_ends};
+use lucid_core::{Expr, Stmt, Touch};
+use lucid_schemes::Scheme;
+use std::alloc::Global;
+use std::mem;
+use std::sync::ledger::Ledger;
+
+fn add_before<L: Ledger>(
+    needs: &mut Order,
+    steps: &mut Steps<L>,
+    ends: &[Atom],
+    array: ArrayName,
+) -> Result<(), Memory>
+    ensures needs { OnOk result (needs.new ≡ join_all same_pair needs.old (map (pair array) ends.now)) }
+    ensures steps { OnOk result (steps.new ≡ steps.old + length ends.now) }
+    ensures most { steps.new ≤ steps.old + length ends.now }
+{
+    for atom in ends {
+        needs.add(Pair { atom: *atom, array }, steps)?;
+    }
+    Ok(())
+}
+
+fn add_all<L: Ledger>(needs: &mut Order, steps: &mut Steps<L>, more: &[Pair]) -> Result<(), Memory>
+    ensures needs { OnOk result (needs.new ≡ join_all same_pair needs.old more.now) }
+    ensures steps { OnOk result (steps.new ≡ steps.old + length more.now) }
+    ensures most { steps.new ≤ steps.old + length more.now }
+{
+    for pair in more {
+        needs.add(*pair, steps)?;
+    }
+    Ok(())
+}
+
+fn passes<L: Ledger>(
+    alloc: Global,
+    schemes: &[Scheme],
+    at: &mut Scheme,
+    steps: &mut Steps<L>,
+    array: ArrayName,
+) -> Result<(), Memory>
+    ensures { Goes (passes_by array schemes.now) at.old steps.old at.new steps.new result }
+{
+    let mut ends = Items::new(alloc);
+    ends.push(Atom::After(array))?;
+    add_before(&mut at.needs, steps, at.ends.as_slice(), array)?;
+    at.ends = ends;
+    Ok(())
+}
+
+fn through<L: Ledger>(
+    alloc: Global,
+    f: &Scheme,
+    at: &mut Scheme,
+    steps: &mut Steps<L>,
+    names: &[ArrayName],
+) -> Result<(), Memory>
+    ensures { Goes (through_by (Some f.now) names.now) at.old steps.old at.new steps.new result }
+{
+    let needs = f.needs.substitute(alloc, names, at.ends.as_slice())?;
+    let ends = ends_at(alloc, f.ends.as_slice(), names, at.ends.as_slice())?;
+    add_all(&mut at.needs, steps, needs.pairs())?;
+    at.ends = ends;
+    Ok(())
+}
+
+fn goes_through<L: Ledger>(
+    alloc: Global,
+    schemes: &[Scheme],
+    at: &mut Scheme,
+    steps: &mut Steps<L>,
+    k: u32,
+    names: &[ArrayName],
+) -> Result<(), Memory>
+    ensures { Goes (goes_through_by k names.now schemes.now) at.old steps.old at.new steps.new result }
+{
+    let k = k as usize;
+    if k < schemes.len() {
+        through(alloc, &schemes[k], at, steps, names)
+    } else {
+        Ok(())
+    }
+}
+
+#[cycle(walk)]
+#[tactic(auto, using(crate::proofs::Forms::hash_is, crate::proofs::Forms::call_is, crate::proofs::Forms::inlined_is))]
+pub fn expr<L: Ledger>(
+    alloc: Global,
+    schemes: &[Scheme],
+    at: &mut Scheme,
+    steps: &mut Steps<L>,
+    e: &Expr,
+) -> Result<(), Memory>
+    ensures { Goes (expr_found e.now schemes.now) at.old steps.old at.new steps.new result }
+{
+    steps.tick();
+    match e {
+        Expr::Fixed(_) => Ok(()),
+        Expr::Local(_) => Ok(()),
+        Expr::Now => Ok(()),
+        Expr::Me => Ok(()),
+        Expr::Un(_, a) => expr(alloc, schemes, at, steps, a.get()),
+        Expr::Bin(_, a, b) => {
+            expr(alloc, schemes, at, steps, a.get())?;
+            expr(alloc, schemes, at, steps, b.get())
+        }
+        Expr::Cmp(_, a, b) => {
+            expr(alloc, schemes, at, steps, a.get())?;
+            expr(alloc, schemes, at, steps, b.get())
+        }
+        Expr::Cast(_, a) => expr(alloc, schemes, at, steps, a.get()),
+        Expr::Hash(_, operands) => exprs(alloc, schemes, at, steps, operands.as_slice()),
+        Expr::Array(t) => touch(alloc, schemes, at, steps, t.get()),
+        Expr::Fun(k, names, args) => {
+            exprs(alloc, schemes, at, steps, args.as_slice())?;
+            goes_through(alloc, schemes, at, steps, *k, names.as_slice())
+        }
+        Expr::Inlined(given, stmts) => {
+            givens(alloc, schemes, at, steps, given.as_slice())?;
+            body(alloc, schemes, at, steps, stmts.as_slice())
+        }
+    }
+}
+
+#[cycle(walk)]
+fn exprs<L: Ledger>(
+    alloc: Global,
+    schemes: &[Scheme],
+    at: &mut Scheme,
+    steps: &mut Steps<L>,
+    es: &[Expr],
+) -> Result<(), Memory>
+    ensures { Goes (sequence finds (map expr_found es.now) schemes.now) at.old steps.old at.new steps.new result }
+{
+    for e in es {
+        expr(alloc, schemes, at, steps, e)?;
+    }
+    Ok(())
+}
+
+#[cycle(walk)]
+fn givens<L: Ledger>(
+    alloc: Global,
+    schemes: &[Scheme],
+    at: &mut Scheme,
+    steps: &mut Steps<L>,
+    given: &[(u32, Expr)],
+) -> Result<(), Memory>
+    ensures { Goes (given_found given.now schemes.now) at.old steps.old at.new steps.new result }
+{
+    for (_, e) in given {
+        expr(alloc, schemes, at, steps, e)?;
+    }
+    Ok(())
+}
+
+#[cycle(walk)]
+fn touch<L: Ledger>(
+    alloc: Global,
+    schemes: &[Scheme],
+    at: &mut Scheme,
+    steps: &mut Steps<L>,
+    t: &Touch,
+) -> Result<(), Memory>
+    ensures { Goes (touch_found t.now schemes.now) at.old steps.old at.new steps.new result }
+{
+    steps.tick();
+    expr(alloc, schemes, at, steps, &t.index)?;
+    expr(alloc, schemes, at, steps, &t.get_arg)?;
+    expr(alloc, schemes, at, steps, &t.set_arg)?;
+    passes(alloc, schemes, at, steps, t.array)
+}
+
+#[cycle(walk)]
+pub fn body<L: Ledger>(
+    alloc: Global,
+    schemes: &[Scheme],
+    at: &mut Scheme,
+    steps: &mut Steps<L>,
+    stmts: &[Stmt],
+) -> Result<(), Memory>
+    ensures { Goes (body_found stmts.now schemes.now) at.old steps.old at.new steps.new result }
+{
+    for one in stmts {
+        stmt(alloc, schemes, at, steps, one)?;
+    }
+    Ok(())
+}
+
+#[cycle(walk)]
+fn asked<L: Ledger>(
+    alloc: Global,
+    schemes: &[Scheme],
+    at: &mut Scheme,
+    steps: &mut Steps<L>,
+    e: &Option<Expr>,
+) -> Result<(), Memory>
+    ensures { Goes (optional finds (option_map expr_found e.now) schemes.now) at.old steps.old at.new steps.new result }
+{
+    match e {
+        None => Ok(()),
+        Some(e) => expr(alloc, schemes, at, steps, e),
+    }
+}
+
+#[cycle(walk)]
+#[tactic(auto, using(crate::proofs::Forms::if_is, crate::proofs::Forms::gen_is, crate::proofs::Forms::multi_is, crate::proofs::Forms::say_is))]
+fn stmt<L: Ledger>(
+    alloc: Global,
+    schemes: &[Scheme],
+    at: &mut Scheme,
+    steps: &mut Steps<L>,
+    s: &Stmt,
+) -> Result<(), Memory>
+    ensures { Goes (stmt_found s.now schemes.now) at.old steps.old at.new steps.new result }
+{
+    steps.tick();
+    match s {
+        Stmt::Assign(_, e) => expr(alloc, schemes, at, steps, e),
+        Stmt::Drop(e) => expr(alloc, schemes, at, steps, e),
+        Stmt::If(e, a, b) => {
+            expr(alloc, schemes, at, steps, e)?;
+            let began = Items::from_slice(alloc, at.ends.as_slice())?;
+            body(alloc, schemes, at, steps, a.as_slice())?;
+            let left = mem::replace(&mut at.ends, began);
+            body(alloc, schemes, at, steps, b.as_slice())?;
+            let right = mem::replace(&mut at.ends, left);
+            join_ends(&mut at.ends, right.as_slice())
+        }
+        Stmt::Gen {
+            args,
+            delay,
+            to,
+            delay_first,
+            ..
+        } => {
+            exprs(alloc, schemes, at, steps, args.as_slice())?;
+            if *delay_first {
+                asked(alloc, schemes, at, steps, delay)?;
+                asked(alloc, schemes, at, steps, to)
+            } else {
+                asked(alloc, schemes, at, steps, to)?;
+                asked(alloc, schemes, at, steps, delay)
+            }
+        }
+        Stmt::Multi { args, delay, .. } => {
+            exprs(alloc, schemes, at, steps, args.as_slice())?;
+            asked(alloc, schemes, at, steps, delay)
+        }
+        Stmt::Say { args, .. } => exprs(alloc, schemes, at, steps, args.as_slice()),
+        Stmt::Return(e) => asked(alloc, schemes, at, steps, e),
+    }
+}

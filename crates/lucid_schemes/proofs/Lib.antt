@@ -1,0 +1,5 @@
+pub mod AllPrincipal
+pub mod Counting
+pub mod CyclesTell
+pub mod Explained
+pub mod Principal
