@@ -1,6 +1,8 @@
--- What a walk finds in each form that has a list of parts, by what it finds in the parts.
+-- What a walk finds in each form that has several parts, by what it finds in the parts.
 use Rattle.std.proofs.Common.{◌≡◌, ℕ, List, map, Bool, Option, None, Some, option_map, refl, ap, sym, ◌∙◌}
 use Rattle.lucid_base.specs.declared.array.ArrayName.{ArrayName}
+use Rattle.lucid_base.specs.declared.ops.BinOp.{BinOp}
+use Rattle.lucid_base.specs.declared.ops.CmpOp.{CmpOp}
 use Rattle.lucid_core.specs.declared.body.Expr.{Expr}
 use Rattle.lucid_core.specs.declared.body.Stmt.{Stmt}
 use Rattle.lucid_core.specs.declared.body.Touch.{Touch}
@@ -19,10 +21,16 @@ expr_is x y is fs w = ap (λ (z : Expr). expr_found z fs w) (sym is) ∙ ap (λ 
 stmt_is : (x : Stmt) (y : Stmt-F Expr Stmt Touch) → roll-Stmt y ≡ x → (fs : List Scheme) (w : Walked) → stmt_found x fs w ≡ stmt_step finds (map-Stmt Expr Stmt Touch Act Act Act expr_found stmt_found touch_found y) fs w
 stmt_is x y is fs w = ap (λ (z : Stmt). stmt_found z fs w) (sym is) ∙ ap (λ (f : Act). f fs w) (fold-roll-Stmt Act Act Act (expr_step finds) (stmt_step finds) (touch_step finds) y)
 
+pub bin_is : (op : BinOp) (a b : Expr) (fs : List Scheme) (w : Walked) → expr_found (e.Bin op a b) fs w ≡ expr_found b fs (expr_found a fs (visit w))
+bin_is op a b = expr_is (e.Bin op a b) (Expr-F.Bin op a b) (e.rolls-Bin op a b)
+
+pub cmp_is : (op : CmpOp) (a b : Expr) (fs : List Scheme) (w : Walked) → expr_found (e.Cmp op a b) fs w ≡ expr_found b fs (expr_found a fs (visit w))
+cmp_is op a b = expr_is (e.Cmp op a b) (Expr-F.Cmp op a b) (e.rolls-Cmp op a b)
+
 pub hash_is : (n : ℕ) (es : List Expr) (fs : List Scheme) (w : Walked) → expr_found (e.Hash n es) fs w ≡ sequence finds (map expr_found es) fs (visit w)
 hash_is n es = expr_is (e.Hash n es) (Expr-F.Hash n es) (e.rolls-Hash n es)
 
-pub call_is : (k : ℕ) (names : List ArrayName) (es : List Expr) (fs : List Scheme) (w : Walked) → expr_found (e.Fun k names es) fs w ≡ goes_through k names fs (sequence finds (map expr_found es) fs (visit w))
+pub call_is : (k : ℕ) (names : List ArrayName) (es : List Expr) (fs : List Scheme) (w : Walked) → expr_found (e.Fun k names es) fs w ≡ goes_through k names fs (sequence finds (map expr_found es) fs w)
 call_is k names es = expr_is (e.Fun k names es) (Expr-F.Fun k names es) (e.rolls-Fun k names es)
 
 pub inlined_is : (given : List (ℕ × Expr)) (ss : List Stmt) (fs : List Scheme) (w : Walked) → expr_found (e.Inlined given ss) fs w ≡ body_found ss fs (given_found given fs (visit w))

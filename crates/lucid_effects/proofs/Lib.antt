@@ -1,3 +1,5 @@
 pub mod Forms
 pub mod Judged
+pub mod Rising
+pub mod Spent
 pub mod Turns

@@ -1,10 +1,14 @@
 // The check of a program.
 ghost use Rattle.std.specs.Prelude.{◌≡◌, ◌++◌, ◌≤◌, ◌+◌, ◌*◌, [], List, length, map, take, Err, IfErr, IfOk, IsOk, MatchOption, OnOk};
 ghost use Rattle.lucid_core.specs.declared.defs.FunDef.{FunDef};
+ghost use Rattle.lucid_core.specs.Parts.{Parts};
+ghost use Rattle.lucid_core.specs.Valid.{IsSound};
 ghost use Rattle.lucid_order.specs.Laws.{TouchesRise};
 ghost use Rattle.lucid_order.specs.Order.{Body, IsAccepted, bodies, fun_bodies, handler_bodies};
 ghost use Rattle.lucid_effects.specs.Answers.{Tells};
 ghost use Rattle.lucid_effects.specs.First.{IsFirst};
+ghost use Rattle.lucid_order.specs.Size.{fun_nodes, handler_nodes, nodes};
+ghost use Rattle.lucid_schemes.specs.Laws.{steps_a_node};
 ghost use Rattle.lucid_schemes.specs.Principal.{ArePrincipal};
 ghost use Rattle.lucid_schemes.specs.Schemes.{all_schemes, handler_schemes, schemes_of};
 ghost use Rattle.lucid_effects.specs.declared.error.OrderError.TheVariants as errors;
@@ -40,6 +44,7 @@ fn check_funs<L: Ledger>(
 ) -> Result<Judged, Memory>
     ensures schemes { IfOk result (λ j. j.schemes.items ≡ schemes_of funs.now) }
     ensures first { IfOk result (λ j. IsFirst arrays (fun_bodies [] funs.now) j.first) }
+    ensures most { (parts : Parts) → IsSound parts → parts.funs ≡ funs.now → length parts.arrays ≡ arrays → steps.new ≤ steps.old + fun_nodes funs.now * steps_a_node arrays }
 {
     let mut schemes: Vec<Scheme> = Vec::new(alloc);
     let mut first: Option<Refused> = None;
@@ -75,6 +80,7 @@ fn check_handlers<L: Ledger>(
 ) -> Result<Judged, Memory>
     ensures schemes { IfOk result (λ j. j.schemes.items ≡ judged.schemes.items ++ handler_schemes judged.schemes.items handlers.now) }
     ensures first { IfOk result (λ j. (funs : List FunDef) → judged.schemes.items ≡ schemes_of funs → (bs : List Body) → IsFirst arrays bs judged.first → IsFirst arrays (bs ++ handler_bodies funs handlers.now) j.first) }
+    ensures most { (parts : Parts) → IsSound parts → judged.schemes.items ≡ schemes_of parts.funs → parts.handlers ≡ handlers.now → length parts.arrays ≡ arrays → steps.new ≤ steps.old + handler_nodes handlers.now * steps_a_node arrays }
 {
     let Judged {
         mut schemes,
@@ -100,6 +106,7 @@ fn check_handlers<L: Ledger>(
 fn check_all<L: Ledger>(alloc: Global, core: &Core, steps: &mut Steps<L>) -> Result<Judged, Memory>
     ensures schemes { IfOk result (λ j. j.schemes.items ≡ all_schemes core.now) }
     ensures first { IfOk result (λ j. IsFirst (length core.now.arrays) (bodies core.now) j.first) }
+    ensures most { steps.new ≤ steps.old + nodes core.now * steps_a_node (length core.now.arrays) }
 {
     let arrays = array_count(core);
     let funs = check_funs(alloc, arrays, core.funs(), steps)?;
@@ -127,6 +134,7 @@ pub fn check_order<L: Ledger>(
     ensures passes { IsAccepted core.now → IfErr result (λ e. e ≡ errors.Memory) }
     ensures principal { IfOk result (λ ss. ArePrincipal (bodies core.now) ss.items) }
     ensures rises { OnOk result (TouchesRise core.now) }
+    ensures most { steps.new ≤ steps.old + 2 * nodes core.now * ((length core.now.arrays + 9) * (length core.now.arrays + 9)) }
 {
     touches_rise(core);
     let Judged { schemes, first } = check_all(alloc, core, steps)?;

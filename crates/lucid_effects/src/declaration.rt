@@ -1,9 +1,9 @@
 // The check of one body.
-ghost use Rattle.std.specs.Prelude.{◌≡◌, ◌++◌, ◌∷◌, [], List, IfOk, OnOk};
+ghost use Rattle.std.specs.Prelude.{◌≡◌, ◌≤◌, ◌++◌, ◌∷◌, [], List, IfOk, OnOk};
 ghost use Rattle.lucid_core.specs.declared.defs.FunDef.{FunDef};
 ghost use Rattle.lucid_order.specs.Order.{Body};
 ghost use Rattle.lucid_effects.specs.First.{IsFirst};
-ghost use Rattle.lucid_schemes.specs.Schemes.{scheme_of, schemes_of};
+ghost use Rattle.lucid_schemes.specs.Schemes.{begun, body_found, scheme_of, schemes_of};
 
 use crate::first::{Refused, keep};
 use crate::walk::body;
@@ -22,7 +22,8 @@ fn scheme<L: Ledger>(
     stmts: &[Stmt],
     steps: &mut Steps<L>,
 ) -> Result<Scheme, Memory>
-    ensures { IfOk result (λ s. s ≡ scheme_of schemes.now stmts.now) }
+    ensures scheme { IfOk result (λ s. s ≡ scheme_of schemes.now stmts.now) }
+    ensures most { steps.new ≤ (body_found stmts.now schemes.now (begun steps.old)).steps }
 {
     steps.tick();
     let mut ends = Items::new(alloc);
@@ -46,6 +47,7 @@ pub fn judge<L: Ledger>(
     steps: &mut Steps<L>,
 ) -> Result<Scheme, Memory>
     ensures scheme { IfOk result (λ s. s ≡ scheme_of schemes.now stmts.now) }
+    ensures most { steps.new ≤ (body_found stmts.now schemes.now (begun steps.old)).steps }
     ensures first { OnOk result ((funs : List FunDef) → schemes.now ≡ schemes_of funs → (bs : List Body) → IsFirst arrays bs first.old → IsFirst arrays (bs ++ record { decl = decl; funs = funs; body = stmts.now } ∷ []) first.new) }
 {
     let found = scheme(alloc, schemes, stmts, steps)?;

@@ -4,7 +4,7 @@ ghost use Rattle.std.specs.Option.{option_map};
 ghost use Rattle.lucid_constraints.specs.Same.{same_pair, join_all};
 ghost use Rattle.lucid_constraints.specs.Substitution.{pair};
 ghost use Rattle.lucid_order.specs.Evaluation.{optional, sequence};
-ghost use Rattle.lucid_effects.specs.Goes.{Goes};
+ghost use Rattle.lucid_effects.specs.Goes.{Goes, walked};
 ghost use Rattle.lucid_schemes.specs.Schemes.{passes as passes_by, through as through_by, goes_through as goes_through_by, finds, expr_found, given_found, stmt_found, touch_found, body_found};
 
 use lucid_base::{ArrayName, Items, Memory, Steps};
@@ -49,8 +49,10 @@ fn passes<L: Ledger>(
     steps: &mut Steps<L>,
     array: ArrayName,
 ) -> Result<(), Memory>
-    ensures { Goes (passes_by array schemes.now) at.old steps.old at.new steps.new result }
+    ensures found { Goes (passes_by array schemes.now) at.old steps.old at.new steps.new result }
+    ensures most { steps.new ≤ (passes_by array schemes.now (walked at.old steps.old)).steps }
 {
+    steps.tick();
     let mut ends = Items::new(alloc);
     ends.push(Atom::After(array))?;
     add_before(&mut at.needs, steps, at.ends.as_slice(), array)?;
@@ -65,7 +67,8 @@ fn through<L: Ledger>(
     steps: &mut Steps<L>,
     names: &[ArrayName],
 ) -> Result<(), Memory>
-    ensures { Goes (through_by (Some f.now) names.now) at.old steps.old at.new steps.new result }
+    ensures found { Goes (through_by (Some f.now) names.now) at.old steps.old at.new steps.new result }
+    ensures most { steps.new ≤ (through_by (Some f.now) names.now (walked at.old steps.old)).steps }
 {
     let needs = f.needs.substitute(alloc, names, at.ends.as_slice())?;
     let ends = ends_at(alloc, f.ends.as_slice(), names, at.ends.as_slice())?;
@@ -82,8 +85,10 @@ fn goes_through<L: Ledger>(
     k: u32,
     names: &[ArrayName],
 ) -> Result<(), Memory>
-    ensures { Goes (goes_through_by k names.now schemes.now) at.old steps.old at.new steps.new result }
+    ensures found { Goes (goes_through_by k names.now schemes.now) at.old steps.old at.new steps.new result }
+    ensures most { steps.new ≤ (goes_through_by k names.now schemes.now (walked at.old steps.old)).steps }
 {
+    steps.tick();
     let k = k as usize;
     if k < schemes.len() {
         through(alloc, &schemes[k], at, steps, names)
@@ -101,31 +106,46 @@ pub fn expr<L: Ledger>(
     steps: &mut Steps<L>,
     e: &Expr,
 ) -> Result<(), Memory>
-    ensures { Goes (expr_found e.now schemes.now) at.old steps.old at.new steps.new result }
+    ensures found { Goes (expr_found e.now schemes.now) at.old steps.old at.new steps.new result }
+    ensures most { steps.new ≤ (expr_found e.now schemes.now (walked at.old steps.old)).steps }
 {
-    steps.tick();
     match e {
-        Expr::Fixed(_) => Ok(()),
-        Expr::Local(_) => Ok(()),
-        Expr::Now => Ok(()),
-        Expr::Me => Ok(()),
-        Expr::Un(_, a) => expr(alloc, schemes, at, steps, a.get()),
+        Expr::Fixed(_) | Expr::Local(_) | Expr::Now | Expr::Me => {
+            steps.tick();
+            Ok(())
+        }
+        Expr::Un(_, a) => {
+            steps.tick();
+            expr(alloc, schemes, at, steps, a.get())
+        }
         Expr::Bin(_, a, b) => {
+            steps.tick();
             expr(alloc, schemes, at, steps, a.get())?;
             expr(alloc, schemes, at, steps, b.get())
         }
         Expr::Cmp(_, a, b) => {
+            steps.tick();
             expr(alloc, schemes, at, steps, a.get())?;
             expr(alloc, schemes, at, steps, b.get())
         }
-        Expr::Cast(_, a) => expr(alloc, schemes, at, steps, a.get()),
-        Expr::Hash(_, operands) => exprs(alloc, schemes, at, steps, operands.as_slice()),
-        Expr::Array(t) => touch(alloc, schemes, at, steps, t.get()),
+        Expr::Cast(_, a) => {
+            steps.tick();
+            expr(alloc, schemes, at, steps, a.get())
+        }
+        Expr::Hash(_, operands) => {
+            steps.tick();
+            exprs(alloc, schemes, at, steps, operands.as_slice())
+        }
+        Expr::Array(t) => {
+            steps.tick();
+            touch(alloc, schemes, at, steps, t.get())
+        }
         Expr::Fun(k, names, args) => {
             exprs(alloc, schemes, at, steps, args.as_slice())?;
             goes_through(alloc, schemes, at, steps, *k, names.as_slice())
         }
         Expr::Inlined(given, stmts) => {
+            steps.tick();
             givens(alloc, schemes, at, steps, given.as_slice())?;
             body(alloc, schemes, at, steps, stmts.as_slice())
         }
@@ -140,7 +160,8 @@ fn exprs<L: Ledger>(
     steps: &mut Steps<L>,
     es: &[Expr],
 ) -> Result<(), Memory>
-    ensures { Goes (sequence finds (map expr_found es.now) schemes.now) at.old steps.old at.new steps.new result }
+    ensures found { Goes (sequence finds (map expr_found es.now) schemes.now) at.old steps.old at.new steps.new result }
+    ensures most { steps.new ≤ (sequence finds (map expr_found es.now) schemes.now (walked at.old steps.old)).steps }
 {
     for e in es {
         expr(alloc, schemes, at, steps, e)?;
@@ -156,7 +177,8 @@ fn givens<L: Ledger>(
     steps: &mut Steps<L>,
     given: &[(u32, Expr)],
 ) -> Result<(), Memory>
-    ensures { Goes (given_found given.now schemes.now) at.old steps.old at.new steps.new result }
+    ensures found { Goes (given_found given.now schemes.now) at.old steps.old at.new steps.new result }
+    ensures most { steps.new ≤ (given_found given.now schemes.now (walked at.old steps.old)).steps }
 {
     for (_, e) in given {
         expr(alloc, schemes, at, steps, e)?;
@@ -172,9 +194,9 @@ fn touch<L: Ledger>(
     steps: &mut Steps<L>,
     t: &Touch,
 ) -> Result<(), Memory>
-    ensures { Goes (touch_found t.now schemes.now) at.old steps.old at.new steps.new result }
+    ensures found { Goes (touch_found t.now schemes.now) at.old steps.old at.new steps.new result }
+    ensures most { steps.new ≤ (touch_found t.now schemes.now (walked at.old steps.old)).steps }
 {
-    steps.tick();
     expr(alloc, schemes, at, steps, &t.index)?;
     expr(alloc, schemes, at, steps, &t.get_arg)?;
     expr(alloc, schemes, at, steps, &t.set_arg)?;
@@ -189,7 +211,8 @@ pub fn body<L: Ledger>(
     steps: &mut Steps<L>,
     stmts: &[Stmt],
 ) -> Result<(), Memory>
-    ensures { Goes (body_found stmts.now schemes.now) at.old steps.old at.new steps.new result }
+    ensures found { Goes (body_found stmts.now schemes.now) at.old steps.old at.new steps.new result }
+    ensures most { steps.new ≤ (body_found stmts.now schemes.now (walked at.old steps.old)).steps }
 {
     for one in stmts {
         stmt(alloc, schemes, at, steps, one)?;
@@ -205,7 +228,8 @@ fn asked<L: Ledger>(
     steps: &mut Steps<L>,
     e: &Option<Expr>,
 ) -> Result<(), Memory>
-    ensures { Goes (optional finds (option_map expr_found e.now) schemes.now) at.old steps.old at.new steps.new result }
+    ensures found { Goes (optional finds (option_map expr_found e.now) schemes.now) at.old steps.old at.new steps.new result }
+    ensures most { steps.new ≤ (optional finds (option_map expr_found e.now) schemes.now (walked at.old steps.old)).steps }
 {
     match e {
         None => Ok(()),
@@ -222,7 +246,8 @@ fn stmt<L: Ledger>(
     steps: &mut Steps<L>,
     s: &Stmt,
 ) -> Result<(), Memory>
-    ensures { Goes (stmt_found s.now schemes.now) at.old steps.old at.new steps.new result }
+    ensures found { Goes (stmt_found s.now schemes.now) at.old steps.old at.new steps.new result }
+    ensures most { steps.new ≤ (stmt_found s.now schemes.now (walked at.old steps.old)).steps }
 {
     steps.tick();
     match s {

@@ -7,7 +7,7 @@ use Rattle.lucid_core.specs.declared.body.Touch.{Touch}
 use Rattle.lucid_core.specs.declared.body.Expr.TheOpen.{Expr-F, Stmt-F, Touch-F}
 use Rattle.lucid_core.specs.declared.body.Expr.TheViews.{roll-Expr, roll-Stmt, roll-Touch}
 use Rattle.lucid_core.specs.declared.body.Expr.TheFolds.{fold-roll-Expr, fold-roll-Stmt, fold-roll-Touch, ind-Expr, ind-Stmt, map-Expr, map-Stmt, map-Touch}
-use Rattle.lucid_order.specs.Evaluation.{Walk, both, body_walk, expr_parts, expr_step, expr_walk, optional, sequence, stmt_parts, stmt_step, stmt_walk, touch_step, touch_walk}
+use Rattle.lucid_order.specs.Evaluation.{Walk, both, body_walk, expr_step, expr_walk, optional, sequence, stmt_parts, stmt_step, stmt_walk, touch_step, touch_walk}
 
 module _ {A B : Type 0} (w : Walk A) (v : Walk B) (R : A → B → Type 0) (nothing : R w.nothing v.nothing)
     (in_turn : (a b : A) (c d : B) → R a c → R b d → R (w.in_turn a b) (v.in_turn c d))
@@ -55,34 +55,30 @@ module _ {A B : Type 0} (w : Walk A) (v : Walk B) (R : A → B → Type 0) (noth
   abbrev pub stmt_tree : Stmt-F E S T → Stmt-F Expr Stmt Touch
   stmt_tree = map-Stmt E S T Expr Stmt Touch (λ e. e.0) (λ e. e.0) (λ e. e.0)
 
-  expr_parts_relate : (y : Expr-F E S T) → R (expr_parts w (map-Expr Expr Stmt Touch A A A (expr_walk w) (stmt_walk w) (touch_walk w) (expr_tree y)))
-      (expr_parts v (map-Expr Expr Stmt Touch B B B (expr_walk v) (stmt_walk v) (touch_walk v) (expr_tree y)))
-  expr_parts_relate (Expr-F.Fixed b) = nothing
-  expr_parts_relate (Expr-F.Local i) = nothing
-  expr_parts_relate Expr-F.Now = nothing
-  expr_parts_relate Expr-F.Me = nothing
-  expr_parts_relate (Expr-F.Un op e) = e.1
-  expr_parts_relate (Expr-F.Bin op e f) = in_turn (expr_walk w e.0) (expr_walk w f.0) (expr_walk v e.0) (expr_walk v f.0) e.1 f.1
-  expr_parts_relate (Expr-F.Cmp op e f) = in_turn (expr_walk w e.0) (expr_walk w f.0) (expr_walk v e.0) (expr_walk v f.0) e.1 f.1
-  expr_parts_relate (Expr-F.Cast width e) = e.1
-  expr_parts_relate (Expr-F.Hash width es) = exprs_relate es
-  expr_parts_relate (Expr-F.Array e) = e.1
-  expr_parts_relate (Expr-F.Fun k names es) =
-      in_turn (sequence w (map (expr_walk w) (exprs es))) (w.function k names) (sequence v (map (expr_walk v) (exprs es))) (v.function k names) (exprs_relate es) (function k names)
-  expr_parts_relate (Expr-F.Inlined given es) =
-      in_turn (sequence w (arguments (expr_walk w) given)) (sequence w (map (stmt_walk w) (stmts es))) (sequence v (arguments (expr_walk v) given)) (sequence v (map (stmt_walk v) (stmts es))) (given_relate given) (stmts_relate es)
-
   expr_level : (y : Expr-F E S T) → R (expr_step w (map-Expr Expr Stmt Touch A A A (expr_walk w) (stmt_walk w) (touch_walk w) (expr_tree y)))
       (expr_step v (map-Expr Expr Stmt Touch B B B (expr_walk v) (stmt_walk v) (touch_walk v) (expr_tree y)))
-  expr_level y = node _ _ (expr_parts_relate y)
+  expr_level (Expr-F.Fixed b) = node _ _ nothing
+  expr_level (Expr-F.Local i) = node _ _ nothing
+  expr_level Expr-F.Now = node _ _ nothing
+  expr_level Expr-F.Me = node _ _ nothing
+  expr_level (Expr-F.Un op e) = node _ _ e.1
+  expr_level (Expr-F.Bin op e f) = node _ _ (in_turn (expr_walk w e.0) (expr_walk w f.0) (expr_walk v e.0) (expr_walk v f.0) e.1 f.1)
+  expr_level (Expr-F.Cmp op e f) = node _ _ (in_turn (expr_walk w e.0) (expr_walk w f.0) (expr_walk v e.0) (expr_walk v f.0) e.1 f.1)
+  expr_level (Expr-F.Cast width e) = node _ _ e.1
+  expr_level (Expr-F.Hash width es) = node _ _ (exprs_relate es)
+  expr_level (Expr-F.Array e) = node _ _ e.1
+  expr_level (Expr-F.Fun k names es) =
+      in_turn (sequence w (map (expr_walk w) (exprs es))) (w.function k names) (sequence v (map (expr_walk v) (exprs es))) (v.function k names) (exprs_relate es) (function k names)
+  expr_level (Expr-F.Inlined given es) =
+      node _ _ (in_turn (sequence w (arguments (expr_walk w) given)) (sequence w (map (stmt_walk w) (stmts es))) (sequence v (arguments (expr_walk v) given)) (sequence v (map (stmt_walk v) (stmts es))) (given_relate given) (stmts_relate es))
 
   touch_level : (y : Touch-F E S T) → R (touch_step w (map-Touch Expr Stmt Touch A A A (expr_walk w) (stmt_walk w) (touch_walk w) (touch_tree y)))
       (touch_step v (map-Touch Expr Stmt Touch B B B (expr_walk v) (stmt_walk v) (touch_walk v) (touch_tree y)))
   touch_level y =
       let set = in_turn (expr_walk w y.set_arg.0) (w.array y.array) (expr_walk v y.set_arg.0) (v.array y.array) y.set_arg.1 (array y.array) in
       let get = in_turn (expr_walk w y.get_arg.0) (w.in_turn (expr_walk w y.set_arg.0) (w.array y.array)) (expr_walk v y.get_arg.0) (v.in_turn (expr_walk v y.set_arg.0) (v.array y.array)) y.get_arg.1 set in
-      node _ _ (in_turn (expr_walk w y.index.0) (w.in_turn (expr_walk w y.get_arg.0) (w.in_turn (expr_walk w y.set_arg.0) (w.array y.array)))
-      (expr_walk v y.index.0) (v.in_turn (expr_walk v y.get_arg.0) (v.in_turn (expr_walk v y.set_arg.0) (v.array y.array))) y.index.1 get)
+      in_turn (expr_walk w y.index.0) (w.in_turn (expr_walk w y.get_arg.0) (w.in_turn (expr_walk w y.set_arg.0) (w.array y.array)))
+      (expr_walk v y.index.0) (v.in_turn (expr_walk v y.get_arg.0) (v.in_turn (expr_walk v y.set_arg.0) (v.array y.array))) y.index.1 get
 
   optional_relates : (e : Option E) → R (optional w (option_map (λ (x : E). expr_walk w x.0) e)) (optional v (option_map (λ (x : E). expr_walk v x.0) e))
   optional_relates None = nothing

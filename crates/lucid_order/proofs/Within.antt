@@ -13,7 +13,7 @@ use Rattle.lucid_core.specs.Names as n
 use Rattle.lucid_core.specs.Names.{expr_names, is_array, stmt_names, touch_names}
 use Rattle.lucid_core.specs.Scope.{Scope, Test, each}
 use Rattle.lucid_core.proofs.Fine.{both_pass}
-use Rattle.lucid_order.specs.Evaluation.{Walk, both, body_walk, expr_parts, expr_step, expr_walk, optional, sequence, stmt_parts, stmt_step, stmt_walk, touch_step, touch_walk}
+use Rattle.lucid_order.specs.Evaluation.{Walk, both, body_walk, expr_step, expr_walk, optional, sequence, stmt_parts, stmt_step, stmt_walk, touch_step, touch_walk}
 
 -- Calls of arrays, and of functions, count only where their arrays are in scope.
 module _ {A : Type 0} (s : Scope) (w : Walk A) (P : A → Type 0) (nothing : P w.nothing)
@@ -66,29 +66,25 @@ module _ {A : Type 0} (s : Scope) (w : Walk A) (P : A → Type 0) (nothing : P w
   abbrev pub stmt_tree : Stmt-F E S T → Stmt-F Expr Stmt Touch
   stmt_tree = map-Stmt E S T Expr Stmt Touch (λ e. e.0) (λ e. e.0) (λ e. e.0)
 
-  expr_parts_keep : (y : Expr-F E S T) → Keeps (expr_parts w (map-Expr Expr Stmt Touch A A A (expr_walk w) (stmt_walk w) (touch_walk w) (expr_tree y)))
+  expr_level : (y : Expr-F E S T) → Keeps (expr_step w (map-Expr Expr Stmt Touch A A A (expr_walk w) (stmt_walk w) (touch_walk w) (expr_tree y)))
       (n.expr_step (map-Expr Expr Stmt Touch Test Test Test expr_names stmt_names touch_names (expr_tree y)))
-  expr_parts_keep (Expr-F.Fixed b) h = nothing
-  expr_parts_keep (Expr-F.Local i) h = nothing
-  expr_parts_keep Expr-F.Now h = nothing
-  expr_parts_keep Expr-F.Me h = nothing
-  expr_parts_keep (Expr-F.Un op e) h = e.1 (and_parts _ _ h).0
-  expr_parts_keep (Expr-F.Bin op e f) h = let both = and_parts _ _ h in in_turn (expr_walk w e.0) (expr_walk w f.0) (e.1 both.0) (f.1 (and_parts _ _ both.1).0)
-  expr_parts_keep (Expr-F.Cmp op e f) h = let both = and_parts _ _ h in in_turn (expr_walk w e.0) (expr_walk w f.0) (e.1 both.0) (f.1 (and_parts _ _ both.1).0)
-  expr_parts_keep (Expr-F.Cast w e) h = e.1 (and_parts _ _ h).0
-  expr_parts_keep (Expr-F.Hash w es) h = exprs_keep es h
-  expr_parts_keep (Expr-F.Array e) h = e.1 (and_parts _ _ h).0
-  expr_parts_keep (Expr-F.Fun k names es) h =
+  expr_level (Expr-F.Fixed b) h = node _ nothing
+  expr_level (Expr-F.Local i) h = node _ nothing
+  expr_level Expr-F.Now h = node _ nothing
+  expr_level Expr-F.Me h = node _ nothing
+  expr_level (Expr-F.Un op e) h = node _ (e.1 (and_parts _ _ h).0)
+  expr_level (Expr-F.Bin op e f) h = let both = and_parts _ _ h in node _ (in_turn (expr_walk w e.0) (expr_walk w f.0) (e.1 both.0) (f.1 (and_parts _ _ both.1).0))
+  expr_level (Expr-F.Cmp op e f) h = let both = and_parts _ _ h in node _ (in_turn (expr_walk w e.0) (expr_walk w f.0) (e.1 both.0) (f.1 (and_parts _ _ both.1).0))
+  expr_level (Expr-F.Cast w e) h = node _ (e.1 (and_parts _ _ h).0)
+  expr_level (Expr-F.Hash w es) h = node _ (exprs_keep es h)
+  expr_level (Expr-F.Array e) h = node _ (e.1 (and_parts _ _ h).0)
+  expr_level (Expr-F.Fun k names es) h =
       let all = and_parts _ _ h in
       let more = and_parts _ _ all.0 in
       in_turn (sequence w (map (expr_walk w) (exprs es))) (w.function k names) (exprs_keep es all.1) (function k names more.1)
-  expr_parts_keep (Expr-F.Inlined given es) h =
+  expr_level (Expr-F.Inlined given es) h =
       let both = and_parts _ _ h in
-      in_turn (sequence w (map (λ (g : ℕ × A). g.1) (map (λ (g : ℕ × Expr). (g.0, expr_walk w g.1)) (given_trees given)))) (sequence w (map (stmt_walk w) (stmts es))) (given_keep given both.0) (stmts_keep es both.1)
-
-  expr_level : (y : Expr-F E S T) → Keeps (expr_step w (map-Expr Expr Stmt Touch A A A (expr_walk w) (stmt_walk w) (touch_walk w) (expr_tree y)))
-      (n.expr_step (map-Expr Expr Stmt Touch Test Test Test expr_names stmt_names touch_names (expr_tree y)))
-  expr_level y h = node _ (expr_parts_keep y h)
+      node _ (in_turn (sequence w (map (λ (g : ℕ × A). g.1) (map (λ (g : ℕ × Expr). (g.0, expr_walk w g.1)) (given_trees given)))) (sequence w (map (stmt_walk w) (stmts es))) (given_keep given both.0) (stmts_keep es both.1))
 
   touch_level : (y : Touch-F E S T) → Keeps (touch_step w (map-Touch Expr Stmt Touch A A A (expr_walk w) (stmt_walk w) (touch_walk w) (touch_tree y)))
       (n.touch_step (map-Touch Expr Stmt Touch Test Test Test expr_names stmt_names touch_names (touch_tree y)))
@@ -98,9 +94,9 @@ module _ {A : Type 0} (s : Scope) (w : Walk A) (P : A → Type 0) (nothing : P w
       let g = and_parts _ _ i.1 in
       let v = and_parts _ _ g.1 in
       let last = w.array y.array in
-      node _ (in_turn (expr_walk w y.index.0) (w.in_turn (expr_walk w y.get_arg.0) (w.in_turn (expr_walk w y.set_arg.0) last)) (y.index.1 i.0)
+      in_turn (expr_walk w y.index.0) (w.in_turn (expr_walk w y.get_arg.0) (w.in_turn (expr_walk w y.set_arg.0) last)) (y.index.1 i.0)
       (in_turn (expr_walk w y.get_arg.0) (w.in_turn (expr_walk w y.set_arg.0) last) (y.get_arg.1 g.0)
-      (in_turn (expr_walk w y.set_arg.0) last (y.set_arg.1 v.0) (array y.array name.0))))
+      (in_turn (expr_walk w y.set_arg.0) last (y.set_arg.1 v.0) (array y.array name.0)))
 
   optional_keep : (e : Option E) → Keeps (optional w (option_map (λ (x : E). expr_walk w x.0) e)) (each (option_to_list (option_map (λ (x : E). expr_names x.0) e)))
   optional_keep None h = nothing

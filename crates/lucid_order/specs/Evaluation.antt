@@ -8,7 +8,7 @@ use Rattle.lucid_core.specs.declared.body.Expr.TheOpen.{Expr-F, Stmt-F, Touch-F}
 use Rattle.lucid_core.specs.declared.body.Expr.TheFolds.{fold-Expr, fold-Stmt, fold-Touch}
 
 -- What a walk makes of what calls no array, of one part after another, of the two branches of an if, of a call of an array,
--- of a call of function k that is given these arrays, and of a node, once its parts are known.
+-- of a call of function k that is given these arrays, and of any other node of the tree, once its parts are known.
 pub record Walk (A : Type 0) : Type 0 where
   pub nothing : A
   pub in_turn : A → A → A
@@ -30,26 +30,23 @@ abbrev pub both : {A : Type 0} → Walk A → Bool → A → A → A
 both w true x y = w.in_turn x y
 both w false x y = w.in_turn y x
 
-abbrev pub expr_parts : {A : Type 0} → Walk A → Expr-F A A A → A
-expr_parts w (Expr-F.Fixed n) = w.nothing
-expr_parts w (Expr-F.Local i) = w.nothing
-expr_parts w Expr-F.Now = w.nothing
-expr_parts w Expr-F.Me = w.nothing
-expr_parts w (Expr-F.Un op x) = x
-expr_parts w (Expr-F.Bin op x y) = w.in_turn x y
-expr_parts w (Expr-F.Cmp op x y) = w.in_turn x y
-expr_parts w (Expr-F.Cast width x) = x
-expr_parts w (Expr-F.Hash width xs) = sequence w xs
-expr_parts w (Expr-F.Array t) = t
-expr_parts w (Expr-F.Fun k names xs) = w.in_turn (sequence w xs) (w.function k names)
-expr_parts w (Expr-F.Inlined given ss) = w.in_turn (sequence w (map (λ g. g.1) given)) (sequence w ss)
-
+-- The node of a call is the call, after its arguments.
 abbrev pub expr_step : {A : Type 0} → Walk A → Expr-F A A A → A
-expr_step w e = w.node (expr_parts w e)
+expr_step w (Expr-F.Fixed n) = w.node w.nothing
+expr_step w (Expr-F.Local i) = w.node w.nothing
+expr_step w Expr-F.Now = w.node w.nothing
+expr_step w Expr-F.Me = w.node w.nothing
+expr_step w (Expr-F.Un op x) = w.node x
+expr_step w (Expr-F.Bin op x y) = w.node (w.in_turn x y)
+expr_step w (Expr-F.Cmp op x y) = w.node (w.in_turn x y)
+expr_step w (Expr-F.Cast width x) = w.node x
+expr_step w (Expr-F.Hash width xs) = w.node (sequence w xs)
+expr_step w (Expr-F.Array t) = w.node t
+expr_step w (Expr-F.Fun k names xs) = w.in_turn (sequence w xs) (w.function k names)
+expr_step w (Expr-F.Inlined given ss) = w.node (w.in_turn (sequence w (map (λ g. g.1) given)) (sequence w ss))
 
--- An array is called after its arguments.
 abbrev pub touch_step : {A : Type 0} → Walk A → Touch-F A A A → A
-touch_step w t = w.node (w.in_turn t.index (w.in_turn t.get_arg (w.in_turn t.set_arg (w.array t.array))))
+touch_step w t = w.in_turn t.index (w.in_turn t.get_arg (w.in_turn t.set_arg (w.array t.array)))
 
 abbrev pub stmt_parts : {A : Type 0} → Walk A → Stmt-F A A A → A
 stmt_parts w (Stmt-F.Assign i x) = x

@@ -3,6 +3,8 @@ use Rattle.std.specs.Prelude.{ℕ, ◌+◌, List, [], ◌∷◌, map}
 use Rattle.lucid_core.specs.declared.body.Stmt.{Stmt}
 use Rattle.lucid_core.specs.declared.body.Expr.TheOpen.{Expr-F, Stmt-F, Touch-F}
 use Rattle.lucid_core.specs.declared.body.Expr.TheFolds.{fold-Stmt}
+use Rattle.lucid_core.specs.declared.defs.FunDef.{FunDef}
+use Rattle.lucid_core.specs.declared.defs.HandlerDef.{HandlerDef}
 use Rattle.lucid_core.specs.Children.{expr_children, stmt_children, touch_children}
 use Rattle.lucid_core.specs.Parts.{Parts}
 use Rattle.lucid_order.specs.Evaluation.{Walk, body_walk}
@@ -13,11 +15,17 @@ total (n ∷ ns) = n + total ns
 
 -- Each statement, expression and touch counts one.
 abbrev pub size : Walk ℕ
-size = record { nothing = 0; in_turn = ◌+◌; branches = ◌+◌; array = λ a. 0; function = λ k names. 0; node = λ n. 1 + n }
+size = record { nothing = 0; in_turn = ◌+◌; branches = ◌+◌; array = λ a. 1; function = λ k names. 1; node = λ n. 1 + n }
 
--- The statements, expressions and touches in the bodies of functions and handlers, and these themselves.
+-- The statements, expressions and touches in the bodies of functions, or of handlers, and these themselves.
+abbrev pub fun_nodes : List FunDef → ℕ
+fun_nodes funs = total (map (λ f. 1 + body_walk size f.body) funs)
+
+abbrev pub handler_nodes : List HandlerDef → ℕ
+handler_nodes handlers = total (map (λ h. 1 + body_walk size h.body) handlers)
+
 abbrev pub nodes : Parts → ℕ
-nodes parts = total (map (λ f. 1 + body_walk size f.body) parts.funs) + total (map (λ h. 1 + body_walk size h.body) parts.handlers)
+nodes parts = fun_nodes parts.funs + handler_nodes parts.handlers
 
 -- In a flat program only statements and calls with their bodies put in count.
 abbrev pub flat_expr : Expr-F ℕ ℕ ℕ → ℕ

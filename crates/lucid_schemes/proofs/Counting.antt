@@ -32,7 +32,7 @@ called (Some f) names u v same = (ap₂ (λ ns es. join_all same_pair ns (needs_
 
 body_keeps : (body : List Stmt) → Keeps (body_found body) (body_found body)
 body_keeps = bodies_relate finds finds Keeps (λ fs u v same. same) (λ f g h k first second fs u v same. second fs (f fs u) (h fs v) (first fs u v same))
-    branches array (λ k names fs u v same. called (slice_get fs k) names u v same) (λ f g keeps fs u v same. keeps fs (visit u) (visit v) same)
+    branches array (λ k names fs u v same. called (slice_get fs k) names (visit u) (visit v) same) (λ f g keeps fs u v same. keeps fs (visit u) (visit v) same)
 
 pub scheme_is : (fs : List Scheme) (body : List Stmt) (steps : ℕ) → scheme (body_found body fs (begun steps)) ≡ scheme_of fs body
 scheme_is fs body steps = let same = body_keeps body fs (begun steps) (begun 0) (refl, refl) in ap₂ (λ ns es. the ns es) same.0 same.1

@@ -1,5 +1,5 @@
 -- Each pair that a walk finds is called for by a path of the body, and each of its ends is the end of one.
-use Rattle.std.proofs.Common.{◌≡◌, ℕ, zero, suc, Bool, true, false, if◌then◌else◌, List, [], ◌∷◌, ◌++◌, map, fold, Some, refl, sym, ◌∙◌, ap, ap₂, subst, append_assoc, append-nil, ◌⊎◌, inl, inr}
+use Rattle.std.proofs.Common.{◌≡◌, ℕ, zero, suc, Bool, true, false, if◌then◌else◌, List, [], ◌∷◌, ◌++◌, map, fold, slice_get, Some, refl, sym, ◌∙◌, ap, ap₂, subst, append_assoc, append-nil, ◌⊎◌, inl, inr}
 use Rattle.std.specs.List.{list_any}
 use Rattle.std.proofs.lemmas.List.{map-append}
 use Rattle.lucid_base.specs.Arrays.{name_at}
@@ -308,12 +308,15 @@ module _ (names : List ArrayName) where
       needs ps w some e n (inl i) = inl i
       needs ps w some e n (inr i) = inr (one ps w some e n (in_needs names w.ends n [] f.needs i))
 
+found : (fs : List Scheme) (gs : List (List Path)) → Pairwise Explained fs gs → (k : ℕ) (names : List ArrayName) → Finds (through (slice_get fs k) names) (u.goes_through k names gs)
+found [] [] h k names = silent
+found [] (g ∷ gs) h k names = absurd h
+found (f ∷ fs) [] h k names = absurd h
+found (f ∷ fs) (g ∷ gs) h (suc k) names = found fs gs h.1 k names
+found (f ∷ fs) (g ∷ gs) h zero names = through_finds names f g h.0
+
 function : (fs : List Scheme) (gs : List (List Path)) → Pairwise Explained fs gs → (k : ℕ) (names : List ArrayName) → Finds (v.goes_through k names fs) (u.goes_through k names gs)
-function [] [] h k names = silent
-function [] (g ∷ gs) h k names = absurd h
-function (f ∷ fs) [] h k names = absurd h
-function (f ∷ fs) (g ∷ gs) h (suc k) names = function fs gs h.1 k names
-function (f ∷ fs) (g ∷ gs) h zero names = through_finds names f g h.0
+function fs gs h k names = visited (through (slice_get fs k) names) (u.goes_through k names gs) (found fs gs h k names)
 
 body_finds : (fs : List Scheme) (gs : List (List Path)) → Pairwise Explained fs gs → (body : List Stmt) → Explains fs gs (body_found body) (body_paths body)
 body_finds fs gs h = bodies_relate finds all_paths (Explains fs gs) silent (λ f g F G one two. in_turn (f fs) (g fs) (F gs) (G gs) one two) (λ f g F G one two. branches fs f g (F gs) (G gs) one two)

@@ -29,9 +29,13 @@ Act = List Scheme → Walked → Walked
 abbrev pub add_all : List Pair → Walked → Walked
 add_all ps w = record w { needs = join_all same_pair w.needs ps; steps = w.steps + length ps }
 
+-- A visit of a node is a step.
+abbrev pub visit : Walked → Walked
+visit w = record w { steps = w.steps + 1 }
+
 -- All places come before the array, and the walk then stands behind it.
 abbrev pub passes : ArrayName → Act
-passes a = λ fs w. record (add_all (map (pair a) w.ends) w) { ends = After a ∷ [] }
+passes a = λ fs w. record (add_all (map (pair a) w.ends) (visit w)) { ends = After a ∷ [] }
 
 -- Both branches begin where the walk stands, and it then stands at the ends of both.
 abbrev pub either : Act → Act → Act
@@ -43,11 +47,7 @@ through None names w = w
 through (Some f) names w = record (add_all (needs_from names w.ends [] f.needs) w) { ends = ends_from names w.ends [] f.ends }
 
 abbrev pub goes_through : ℕ → List ArrayName → Act
-goes_through k names = λ fs. through (slice_get fs k) names
-
--- A visit of a node is a step.
-abbrev pub visit : Walked → Walked
-visit w = record w { steps = w.steps + 1 }
+goes_through k names = λ fs w. through (slice_get fs k) names (visit w)
 
 abbrev pub finds : Walk Act
 finds = record {

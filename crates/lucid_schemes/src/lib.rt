@@ -6,5 +6,5 @@
 mod laws;
 mod scheme;
 
-pub use laws::{cycles_tell, schemes_are_principal};
+pub use laws::{cycles_tell, schemes_are_principal, walks_are_short};
 pub use scheme::Scheme;
