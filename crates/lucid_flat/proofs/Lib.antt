@@ -1,0 +1,11 @@
+pub mod Locals
+pub mod Fit
+pub mod Grows
+pub mod Sim
+pub mod Group
+pub mod Levels
+pub mod Runs
+pub mod FitOfValid
+pub mod Steps
+pub mod SameEnds
+pub mod SameOrder

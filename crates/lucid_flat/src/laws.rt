@@ -1,0 +1,19 @@
+// Laws of the flat form, each on a function that does nothing.
+ghost use Rattle.lucid_flat.specs.Laws.{KeepsOrder, KeepsSteps};
+
+use lucid_core::Core;
+
+/// The flat form of a core does at each event that fits what the core does, and calls the same arrays in the same order: whatever the
+/// cells hold, at every tick and on every switch.
+pub fn keeps_steps(core: &Core)
+    ensures { KeepsSteps core.now }
+{
+    let _valid = core.arrays();
+}
+
+/// Each handler of the flat form is in order exactly where that of the core is.
+pub fn keeps_order(core: &Core)
+    ensures { KeepsOrder core.now }
+{
+    let _valid = core.arrays();
+}

@@ -1,0 +1,9 @@
+// The flat form of a program: each call of a function has its body put in, and each group its members (specs/Flat.antt).
+// It promises laws of this definition (specs/Laws.antt), each on a function that does nothing: the flat form of a valid core does at
+// each event what the core does, calls the same arrays in the same order, and is in order exactly where the core is.
+// Stands on lucid_base, lucid_core, lucid_order and lucid_nodes.
+#![tactic(auto)]
+
+mod laws;
+
+pub use laws::{keeps_order, keeps_steps};
