@@ -9,3 +9,7 @@ pub mod FitOfValid
 pub mod Steps
 pub mod SameEnds
 pub mod SameOrder
+pub mod Lengths
+pub mod LengthLaw
+pub mod Outs
+pub mod Sizes

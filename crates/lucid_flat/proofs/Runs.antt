@@ -121,7 +121,7 @@ funs_fit rooms (d ∷ ds) = (nat_le d.params (length d.locals) && r.each (map st
 abbrev pub program_fits : Parts → Bool
 program_fits core = funs_fit [] core.funs && list_all (λ h. r.each (map stmt_fit h.body) (length h.locals) (rooms_from [] core.funs)) core.handlers
 
-abbrev puts_from : List PutIn → List FunDef → List PutIn
+abbrev pub puts_from : List PutIn → List FunDef → List PutIn
 puts_from puts ds = fold (λ before d. before ++ f.put_of before d ∷ []) puts ds
 
 module _ (W : List ℕ) (now me : ℕ) where

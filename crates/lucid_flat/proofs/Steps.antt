@@ -74,7 +74,7 @@ valid_fits core valid =
     (valid_handlers_fit core small core.handlers names.1 widths.1 forms.1 limits.1))
 
 -- A handler has a local for each argument of an event that fits.
-starts-length : (xs ys : List ℕ) → starts_with nat_eq xs ys ≡ true → length ys ≤ length xs
+pub starts-length : (xs ys : List ℕ) → starts_with nat_eq xs ys ≡ true → length ys ≤ length xs
 starts-length xs [] h = omega arith
 starts-length [] (y ∷ ys) h = absurd (cc)
 starts-length (x ∷ xs) (y ∷ ys) h = let rest = starts-length xs ys (and_parts _ _ h).1 in omega arith

@@ -1,11 +1,12 @@
 -- What the flat form of a program promises.
-use Rattle.std.specs.Prelude.{◌≡◌, ◌↔◌, ℕ, List, [], Some, IsTrue, length, slice_get}
+use Rattle.std.specs.Prelude.{◌≡◌, ◌↔◌, ℕ, List, [], Some, IsTrue, length, map, slice_get}
 use Rattle.lucid_base.specs.declared.event.Event.{Event}
 use Rattle.lucid_core.specs.declared.defs.HandlerDef.{HandlerDef}
 use Rattle.lucid_core.specs.Fits.{event_fits}
 use Rattle.lucid_core.specs.Parts.{Parts}
 use Rattle.lucid_core.specs.Step.{step, touches}
 use Rattle.lucid_order.specs.Order.{InOrder}
+use Rattle.lucid_flat.specs.Counts.{flat_handler_size, handler_lengths, handler_sizes}
 use Rattle.lucid_flat.specs.Flat.{flat_handler, flat_of}
 
 -- It does at each event that fits what the program does, and calls the same arrays in the same order. An event with more arguments than
@@ -17,3 +18,8 @@ pub record KeepsSteps (core : Parts) : Type 0 where
 -- Each handler is in order exactly where its flat form is.
 abbrev pub KeepsOrder : Parts → Type 0
 KeepsOrder core = (k : ℕ) (h : HandlerDef) → slice_get core.handlers k ≡ Some h → InOrder (length core.arrays) core.funs h.body ↔ InOrder (length core.arrays) [] (flat_handler core.funs h).body
+
+-- Its counts are those that are found over the program.
+pub record KeepsCounts (core : Parts) : Type 0 where
+  pub lengths : handler_lengths (flat_of core) ≡ handler_lengths core
+  pub sizes : map flat_handler_size (flat_of core).handlers ≡ handler_sizes core

@@ -1,5 +1,5 @@
 // Laws of the flat form, each on a function that does nothing.
-ghost use Rattle.lucid_flat.specs.Laws.{KeepsOrder, KeepsSteps};
+ghost use Rattle.lucid_flat.specs.Laws.{KeepsCounts, KeepsOrder, KeepsSteps};
 
 use lucid_core::Core;
 
@@ -14,6 +14,13 @@ pub fn keeps_steps(core: &Core)
 /// Each handler of the flat form is in order exactly where that of the core is.
 pub fn keeps_order(core: &Core)
     ensures { KeepsOrder core.now }
+{
+    let _valid = core.arrays();
+}
+
+/// The counts of the flat form are those that are found over the core, handler by handler.
+pub fn keeps_counts(core: &Core)
+    ensures { KeepsCounts core.now }
 {
     let _valid = core.arrays();
 }
