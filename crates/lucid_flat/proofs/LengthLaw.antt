@@ -20,7 +20,7 @@ use Rattle.lucid_flat.proofs.Runs.{funs_fit, puts_from, rooms_from}
 use Rattle.lucid_flat.proofs.Sizes.{handler_size}
 use Rattle.lucid_flat.proofs.Steps.{starts-length, valid_fits}
 
-grow_more : (ps : List PutIn) (put : PutIn) → AllGrow ps → ((arrays ws : List ℕ) → Begins ws (put arrays ws).locals) → AllGrow (ps ++ put ∷ [])
+pub grow_more : (ps : List PutIn) (put : PutIn) → AllGrow ps → ((arrays ws : List ℕ) → Begins ws (put arrays ws).locals) → AllGrow (ps ++ put ∷ [])
 grow_more [] put all one = (one, tt)
 grow_more (p ∷ ps) put all one = (all.0, grow_more ps put all.1 one)
 

@@ -13,3 +13,11 @@ pub mod Lengths
 pub mod LengthLaw
 pub mod Outs
 pub mod Sizes
+pub mod Numbered
+pub mod Kept
+pub mod KeptNodes
+pub mod KeptBodies
+pub mod Times
+pub mod Owning
+pub mod OwningNodes
+pub mod Valid

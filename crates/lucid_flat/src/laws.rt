@@ -1,4 +1,6 @@
 // Laws of the flat form, each on a function that does nothing.
+ghost use Rattle.lucid_core.specs.Valid.{IsValidFlat};
+ghost use Rattle.lucid_flat.specs.Flat.{flat_of};
 ghost use Rattle.lucid_flat.specs.Laws.{KeepsCounts, KeepsOrder, KeepsSteps};
 
 use lucid_core::Core;
@@ -21,6 +23,13 @@ pub fn keeps_order(core: &Core)
 /// The counts of the flat form are those that are found over the core, handler by handler.
 pub fn keeps_counts(core: &Core)
     ensures { KeepsCounts core.now }
+{
+    let _valid = core.arrays();
+}
+
+/// The flat form of a core is a valid flat core.
+pub fn flat_is_valid(core: &Core)
+    ensures { IsValidFlat (flat_of core.now) }
 {
     let _valid = core.arrays();
 }

@@ -6,4 +6,4 @@
 
 mod laws;
 
-pub use laws::{keeps_counts, keeps_order, keeps_steps};
+pub use laws::{flat_is_valid, keeps_counts, keeps_order, keeps_steps};
