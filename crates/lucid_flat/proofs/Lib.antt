@@ -21,3 +21,4 @@ pub mod Times
 pub mod Owning
 pub mod OwningNodes
 pub mod Valid
+pub mod ExampleProofs

@@ -27,7 +27,8 @@ abbrev pub touch_step : Touch-F Count Count Count → Count
 touch_step t = total (touch_children t)
 
 abbrev pub stmt_step : Stmt-F Count Count Count → Count
-stmt_step (Stmt-F.Multi event xs delay members) = λ funs. total (xs ++ option_to_list delay) funs + length (xs ++ option_to_list delay) + length members
+stmt_step (Stmt-F.Multi event xs delay members) =
+    λ funs. total (xs ++ option_to_list delay) funs + length (xs ++ option_to_list delay) + length members
 stmt_step s = λ funs. 1 + total (stmt_children s) funs
 
 abbrev pub expr_size : Expr → Count

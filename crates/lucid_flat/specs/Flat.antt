@@ -1,5 +1,5 @@
--- The flat form of a program: each call of a function has its body put in, and each group its members. The locals that this adds get the next
--- numbers of the handler, in the order of evaluation.
+-- The flat form of a program: each call of a function has its body put in, and each group its members. The locals that this adds get the
+-- next numbers of the handler, in the order of evaluation.
 use Rattle.std.specs.Prelude.{ℕ, zero, suc, ◌+◌, if◌then◌else◌, is_some, option_to_list, unwrap_or, List, [], ◌∷◌, ◌++◌, Option, None, Some, Bool, true, false, length, map, fold, slice_get}
 use Rattle.std.specs.List.{enumerate_from}
 use Rattle.lucid_base.specs.Bits.{bits_of}
@@ -64,7 +64,8 @@ both false t u = do y ← u; x ← t; done (x, y)
 -- A call of this function, with these arrays and arguments: its locals get the next numbers, and the first of them hold the arguments.
 abbrev pub put_in : Option PutIn → List ℕ → List Expr → List ℕ → Made (Expr-F Expr Stmt Touch)
 put_in None arrays args ws = record { value = Expr-F.Inlined (enumerate_from (length ws) args) []; locals = ws }
-put_in (Some f) arrays args ws = let body = f arrays ws in record { value = Expr-F.Inlined (enumerate_from (length ws) args) body.value; locals = body.locals }
+put_in (Some f) arrays args ws =
+    let body = f arrays ws in record { value = Expr-F.Inlined (enumerate_from (length ws) args) body.value; locals = body.locals }
 
 -- A core has no call with its body put in.
 abbrev pub expr_node : Expr-F (Flatten Expr) (Flatten (List Stmt)) (Flatten Touch) → Flatten (Expr-F Expr Stmt Touch)
@@ -87,7 +88,15 @@ touch_node t = do
   i ← t.index
   g ← t.get_arg
   v ← t.set_arg
-  λ p. done (record { array = Global (array_of p.arrays t.array); index = i; get = t.get; get_arg = g; set = t.set; set_arg = v; answers = t.answers }) p
+  λ p. done (record {
+    array = Global (array_of p.arrays t.array);
+    index = i;
+    get = t.get;
+    get_arg = g;
+    set = t.set;
+    set_arg = v;
+    answers = t.answers;
+  }) p
 
 -- The width of what a part gives, read where the handler has these locals. In a valid program it has one.
 abbrev pub width_in : List ℕ → Expr → ℕ
@@ -101,7 +110,8 @@ locals_from b (suc n) = local b ∷ locals_from (b + 1) n
 -- An event to one member of a group, whose n arguments and delay are held by the locals from b on.
 abbrev pub to_member : ℕ → ℕ → ℕ → Bool → ℕ → Stmt-F Expr Stmt Touch
 to_member event b n delayed member =
-    Stmt-F.Gen event (locals_from b n) (if delayed then Some (local (b + n)) else None) (Some (roll-Expr (Expr-F.Fixed (bits_of 32 member)))) false
+    let delay = if delayed then Some (local (b + n)) else None in
+    Stmt-F.Gen event (locals_from b n) delay (Some (roll-Expr (Expr-F.Fixed (bits_of 32 member)))) false
 
 -- A group takes all its calls, and then numbers the locals that hold its arguments and its delay.
 abbrev pub stmt_node : Stmt-F (Flatten Expr) (Flatten (List Stmt)) (Flatten Touch) → Flatten (List (Stmt-F Expr Stmt Touch))
@@ -115,7 +125,8 @@ stmt_node (Stmt-F.Gen event xs delay to delay_first) = do
 stmt_node (Stmt-F.Multi event xs delay members) = do
   held ← each (xs ++ option_to_list delay)
   λ p ws. record {
-    value = map (λ g. Stmt-F.Assign g.0 g.1) (enumerate_from (length ws) held) ++ map (to_member event (length ws) (length xs) (is_some delay)) members;
+    value = map (λ g. Stmt-F.Assign g.0 g.1) (enumerate_from (length ws) held)
+        ++ map (to_member event (length ws) (length xs) (is_some delay)) members;
     locals = ws ++ map (width_in ws) held;
   }
 stmt_node (Stmt-F.Say form xs) = do args ← each xs; done (Stmt-F.Say form args ∷ [])

@@ -12,12 +12,15 @@ use Rattle.lucid_flat.specs.Flat.{flat_handler, flat_of}
 -- It does at each event that fits what the program does, and calls the same arrays in the same order. An event with more arguments than
 -- its handler has parameters would reach into the locals that are added.
 pub record KeepsSteps (core : Parts) : Type 0 where
-  pub step : (cells : List (List ℕ)) (now me : ℕ) (event : Event) → IsTrue (event_fits core event) → step (flat_of core) cells now me event ≡ step core cells now me event
-  pub touches : (cells : List (List ℕ)) (now me : ℕ) (event : Event) → IsTrue (event_fits core event) → touches (flat_of core) cells now me event ≡ touches core cells now me event
+  pub step : (cells : List (List ℕ)) (now me : ℕ) (event : Event) → IsTrue (event_fits core event) →
+      step (flat_of core) cells now me event ≡ step core cells now me event
+  pub touches : (cells : List (List ℕ)) (now me : ℕ) (event : Event) → IsTrue (event_fits core event) →
+      touches (flat_of core) cells now me event ≡ touches core cells now me event
 
 -- Each handler is in order exactly where its flat form is.
 abbrev pub KeepsOrder : Parts → Type 0
-KeepsOrder core = (k : ℕ) (h : HandlerDef) → slice_get core.handlers k ≡ Some h → InOrder (length core.arrays) core.funs h.body ↔ InOrder (length core.arrays) [] (flat_handler core.funs h).body
+KeepsOrder core = (k : ℕ) (h : HandlerDef) → slice_get core.handlers k ≡ Some h →
+    InOrder (length core.arrays) core.funs h.body ↔ InOrder (length core.arrays) [] (flat_handler core.funs h).body
 
 -- Its counts are those that are found over the program.
 pub record KeepsCounts (core : Parts) : Type 0 where

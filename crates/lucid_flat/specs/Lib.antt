@@ -1,3 +1,4 @@
 pub mod Counts
+pub mod Examples
 pub mod Flat
 pub mod Laws
