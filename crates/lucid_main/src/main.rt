@@ -29,7 +29,7 @@ fn main(rt: HostRuntime) -> ExitCode {
             status
         }
     };
-    ExitCode::from(status as u8)
+    ExitCode::from(status.code())
 }
 
 /// The program's words, without its name. A word that isn't UTF-8 is none of the forms of words.

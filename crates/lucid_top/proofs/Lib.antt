@@ -1,3 +1,6 @@
+pub mod Laws
 pub mod Numbers
-pub mod Outcomes
-pub mod Sources
+pub mod Parts
+pub mod Reading
+pub mod Readings
+pub mod Tokens

@@ -1,13 +1,13 @@
 -- A word is the number whose decimal text it is, whatever way it was parsed.
-use Rattle.std.proofs.Common.{◌≡◌, ℕ, ◌<◌, ◌^◌, ◌&&◌, Bool, true, false, List, Option, Some, None, Result, Ok, Err, refl, sym, ◌∙◌, ap, subst, if◌then◌else◌}
+use Rattle.std.proofs.Common.{◌≡◌, ℕ, ◌+◌, ◌<◌, ◌^◌, ◌&&◌, Bool, true, false, List, [], ◌∷◌, ◌++◌, length, get_or, drop, drop-cons, add-one, append_assoc, map, option_map, string_bytes, String, Global, Option, Some, None, Result, Ok, Err, refl, sym, ◌∙◌, ap, subst, if◌then◌else◌}
 use Rattle.std.specs.Str.{bytes_eq}
 use Rattle.std.specs.Str.Parse.{ParsesUnsigned, digits_value}
 use Rattle.std.specs.Fmt.{decimal}
-use Rattle.std.specs.Prelude.{nat_lt}
+use Rattle.std.specs.Prelude.{nat_lt, option_and_then}
 use Rattle.std.proofs.lemmas.Fmt.{parse-decimal, decimal_is_IsNumeral}
 use Rattle.std.proofs.lemmas.Bool.{ltb-true, lt-ltb}
 use Rattle.std.proofs.lemmas.Slice.Eq.{bytes_eq-Decides}
-use Rattle.lucid_top.specs.Words.{number_of}
+use Rattle.lucid_top.specs.Words.{number_of, numbers_of}
 
 -- which way a choice went
 chosen : (a b : Bool) (m n : ℕ) → ◌≡◌ {A = Option ℕ} (if a && b then Some m else None) (Some n) → (a ≡ true) × (b ≡ true) × (m ≡ n)
@@ -77,3 +77,20 @@ number_dropped {E = E} word r n parsed is same = sym (rw (is, same) refl) ∙ nu
 
 pub number_unread : {E : Type 0} (word : List ℕ) (r : Result ℕ E) (e : E) → ParsesUnsigned 64 10 word r → r ≡ Err e → None ≡ number_of word
 number_unread {E = E} word r e parsed is = sym (rw is refl) ∙ number_by {E = E} word r parsed
+
+-- one number more
+joined : (before : List ℕ) (n : ℕ) (rest : Option (List ℕ)) →
+    option_map (λ ns. before ++ ns) (option_map (λ ns. n ∷ ns) rest) ≡ option_map (λ ns. (before ++ n ∷ []) ++ ns) rest
+joined before n None = refl
+joined before n (Some ns) = ap (λ (l : List ℕ). Some l) (sym (append_assoc before (n ∷ []) ns))
+
+pub numbers-next : (before : List ℕ) (words : List (String Global)) (i : ℕ) (word : String Global) (n : ℕ) →
+    i < length words → word ≡ get_or words i word → number_of (string_bytes word) ≡ Some n →
+    option_map (λ ns. (before ++ n ∷ []) ++ ns) (numbers_of (map string_bytes (drop (i + 1) words))) ≡ option_map (λ ns. before ++ ns) (numbers_of (map string_bytes (drop i words)))
+numbers-next before words i word n lt is number =
+    let step : drop i words ≡ get_or words i word ∷ drop (i + 1) words = rw add-one (drop-cons words i word lt) in
+    let next : drop i words ≡ word ∷ drop (i + 1) words = step ∙ ap (λ (w : String Global). w ∷ drop (i + 1) words) (sym is) in
+    let rest = numbers_of (map string_bytes (drop (i + 1) words)) in
+    sym (ap (λ (ws : List (String Global)). option_map (λ ns. before ++ ns) (numbers_of (map string_bytes ws))) next
+    ∙ ap (λ (o : Option ℕ). option_map (λ ns. before ++ ns) (option_and_then (λ m. option_map (λ ns. m ∷ ns) rest) o)) number
+    ∙ joined before n rest)

@@ -1,6 +1,11 @@
 pub mod Answer
+pub mod Call
+pub mod Command
+pub mod Files
 pub mod Once
-pub mod Refused
-pub mod Said
-pub mod Source
+pub mod Outcome
+pub mod Program
+pub mod Refusal
+pub mod Status
 pub mod Words
+pub mod Writing

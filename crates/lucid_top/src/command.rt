@@ -1,61 +1,67 @@
-// The words of a call, read by place.
-ghost use Rattle.std.specs.Prelude.{◌≡◌, Option, IfOk, map, option_map, string_bytes};
-ghost use Rattle.lucid_top.specs.Words.{form_of, form_view, number_of, numbers_of};
+// What the words of a call ask for, read by place.
+ghost use Rattle.std.specs.Prelude.{◌≡◌, ◌+◌, ◌<◌, ◌^◌, All, IfSome, length, map, string_bytes};
+ghost use Rattle.lucid_top.specs.Command.{command_of, once_words, files_of};
 
-use itoa::Buffer;
-use std::alloc::{AllocError, Global};
+use crate::number::arguments;
+use lucid_base::Args;
 
-/// What the words `once P NAME ARG..` ask for, the one form that there is.
-#[derive(Debug, Drop)]
-pub struct Once<'a> {
-    pub program: &'a str,
-    pub name: &'a str,
-    pub arguments: Vec<u64>,
+/// What the words ask for. The words that it reads again are told by place.
+#[derive(Clone, Copy)]
+pub enum Command {
+    /// `once P NAME ARG..`
+    Once {
+        /// The numbers that ARG.. write; None where there are more than any event has.
+        arguments: Option<Args>,
+    },
 }
 
-/// What the words ask for; None where they are none of the forms.
-pub fn read_words<'a>(alloc: Global, words: &'a [String]) -> Result<Option<Once<'a>>, AllocError>
-    ensures { IfOk result (λ asked. option_map form_view asked ≡ form_of (map string_bytes words.now)) }
+/// A word that names a file.
+pub struct NamedFile {
+    /// The number of the word, from 0.
+    pub word: usize,
+    /// The most bytes that the file may have.
+    pub limit: usize,
+}
+
+/// The most bytes that a program file may have.
+const PROGRAM_BYTES: usize = 1_048_576;
+
+const ONCE_FILES: [NamedFile; 1] = [NamedFile {
+    word: 1,
+    limit: PROGRAM_BYTES,
+}];
+
+impl Command {
+    /// What the words ask for; None where they are none of the forms. Each word that names a file is there.
+    pub fn read(words: &[String]) -> Option<Command>
+        ensures command { result ≡ command_of (map string_bytes words.now) }
+        ensures there { IfSome result (λ c. All (λ file. file.word < length words.now) (files_of c)) }
+    {
+        match words {
+            [verb, rest @ ..] if verb.as_str() == "once" => read_once(rest),
+            _ => None,
+        }
+    }
+
+    /// The words that name files, in word order.
+    pub fn files(&self) -> &'static [NamedFile]
+        ensures files { result.now ≡ files_of self.now }
+        ensures small { All (λ file. file.limit < 2 ^ 32) result.now }
+    {
+        match self {
+            Command::Once { .. } => &ONCE_FILES,
+        }
+    }
+}
+
+fn read_once(words: &[String]) -> Option<Command>
+    ensures command { result ≡ once_words (map string_bytes words.now) }
+    ensures there { IfSome result (λ c. All (λ file. file.word < 1 + length words.now) (files_of c)) }
 {
     match words {
-        [verb, program, name, rest @ ..] if verb.as_str() == "once" => {
-            Ok(numbers(alloc, rest)?.map(|arguments| Once {
-                program: program.as_str(),
-                name: name.as_str(),
-                arguments,
-            }))
-        }
-        _ => Ok(None),
-    }
-}
-
-/// The numbers that the words write; None where one is no number.
-fn numbers(alloc: Global, words: &[String]) -> Result<Option<Vec<u64>>, AllocError>
-    ensures { IfOk result (λ ns. option_map (λ v. v.items) ns ≡ numbers_of (map string_bytes words.now)) }
-{
-    let mut all = Vec::new(alloc);
-    for word in words {
-        match number(word.as_str()) {
-            Some(n) => all.push(n)?,
-            None => return Ok(None),
-        }
-    }
-    Ok(Some(all))
-}
-
-/// The number below `2^64` that a word writes in decimal digits without a leading zero.
-fn number(word: &str) -> Option<u64>
-    ensures { result ≡ number_of word.now }
-{
-    match word.parse::<u64>() {
-        Ok(n) => {
-            let mut buffer = Buffer::new();
-            if buffer.format(n) == word {
-                Some(n)
-            } else {
-                None
-            }
-        }
-        Err(_) => None,
+        [_, _, rest @ ..] => Some(Command::Once {
+            arguments: arguments(rest)?,
+        }),
+        _ => None,
     }
 }

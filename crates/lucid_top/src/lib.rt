@@ -1,16 +1,18 @@
-// The top call, and what it answers. The bytes that it writes, its status and its error line are tied to one definition,
-// `Answers` of specs/Answer.antt, which goes by the forms of words; each form is one file here. Its clauses stand on `lucid` itself.
-// Stands on all other crates.
+// The top call, and what it answers. What it does to files and streams, its status and its error line are tied to one definition,
+// `Ended` of specs/Call.antt: the files that the words name are read in word order, and the answer of the words over what they
+// hold is written. A command is one file in commands/, and a line in each table of specs/. Stands on all crates of the program.
 #![tactic(auto)]
 
 mod command;
-mod once;
+mod commands;
+mod files;
+mod number;
+mod program;
 mod refusal;
-mod show;
 mod status;
 #[cfg(test)]
 mod tests;
 mod top;
 
-pub use status::Status;
+pub use status::{Status, faults_alone_are_free};
 pub use top::lucid;

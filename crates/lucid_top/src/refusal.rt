@@ -1,25 +1,27 @@
-// Why there is no output, and the one place that writes the error line.
-ghost use Rattle.std.specs.Prelude.{◌≡◌, map, string_bytes};
-ghost use Rattle.lucid_log.specs.Pieces.{piece_text};
-ghost use Rattle.lucid_top.specs.Refused.{status_of, program_of as program_in, head_of, detail_of, line_of};
-ghost use Rattle.lucid_top.specs.Said.{Said};
+// Why there is no output, and the one place that writes the error line. An error of a lower crate becomes a refusal by one `From`.
+ghost use Rattle.std.specs.Prelude.{◌≡◌, ◌++◌, OnOk, OnErr, codes, map, string_bytes};
+ghost use Rattle.lucid_io.specs.Puts.{PutsAll, PutsPart};
+ghost use Rattle.lucid_top.specs.Files.{of_take};
+ghost use Rattle.lucid_top.specs.Refusal.{status_of, line_of};
+ghost use Rattle.lucid_top.specs.Words.{word_at};
+ghost use Rattle.lucid_top.specs.Writing.{Said};
 
 use crate::status::Status;
 use lucid_base::Memory as WantOfMemory;
-use lucid_io::{Sink, Take, WriteFault};
+use lucid_io::{Sink, Take, WriteFault, put_all};
 use lucid_lex::LexError;
 use lucid_log::{Piece, put_pieces};
 use std::alloc::AllocError;
 
-/// Why there is no output, or only a part of it.
-#[derive(Clone, Copy, Debug, PartialEq, Eq)]
+/// Why there is no output, or only a part of it, with what its line tells.
+#[derive(Drop)]
 pub enum Refusal {
     /// The words are none of the forms, or the event's name and arguments fit no event.
     Usage,
-    /// A call on the program file failed.
-    ReadFault,
-    /// The program file has more bytes than its limit.
-    TooLong,
+    /// A call on the file that the word of this number names failed.
+    ReadFault(usize),
+    /// The file that the word of this number names has more bytes than its limit.
+    TooLong(usize),
     /// No token begins at this byte of the text, from 0.
     NoToken(usize),
     /// The tokens are no program.
@@ -32,9 +34,9 @@ pub enum Refusal {
 
 impl From<AllocError> for Refusal {
     ghost use Rattle.std.specs.Prelude.{◌≡◌};
-    ghost use Rattle.lucid_top.specs.declared.refusal.Refusal.TheVariants.{Memory};
+    ghost use Rattle.lucid_top.specs.declared.refusal.Refusal.TheVariants as refusal;
 
-    ghost from_gives = { λ _ r. r ≡ Memory };
+    ghost from_gives = { λ _ r. r ≡ refusal.Memory };
 
     fn from(_error: AllocError) -> Refusal {
         Refusal::Memory
@@ -43,9 +45,9 @@ impl From<AllocError> for Refusal {
 
 impl From<WantOfMemory> for Refusal {
     ghost use Rattle.std.specs.Prelude.{◌≡◌};
-    ghost use Rattle.lucid_top.specs.declared.refusal.Refusal.TheVariants.{Memory};
+    ghost use Rattle.lucid_top.specs.declared.refusal.Refusal.TheVariants as refusal;
 
-    ghost from_gives = { λ _ r. r ≡ Memory };
+    ghost from_gives = { λ _ r. r ≡ refusal.Memory };
 
     fn from(_error: WantOfMemory) -> Refusal {
         Refusal::Memory
@@ -63,24 +65,9 @@ impl From<WriteFault> for Refusal {
     }
 }
 
-impl From<Take> for Refusal {
-    ghost use Rattle.std.specs.Prelude.{◌≡◌};
-    ghost use Rattle.lucid_top.specs.Refused.{of_take};
-
-    ghost from_gives = { λ t r. r ≡ of_take t };
-
-    fn from(take: Take) -> Refusal {
-        match take {
-            Take::ReadFault => Refusal::ReadFault,
-            Take::TooLong => Refusal::TooLong,
-            Take::Memory => Refusal::Memory,
-        }
-    }
-}
-
 impl From<LexError> for Refusal {
     ghost use Rattle.std.specs.Prelude.{◌≡◌};
-    ghost use Rattle.lucid_top.specs.Refused.{of_lex};
+    ghost use Rattle.lucid_top.specs.Refusal.{of_lex};
 
     ghost from_gives = { λ e r. r ≡ of_lex e };
 
@@ -93,52 +80,38 @@ impl From<LexError> for Refusal {
 }
 
 impl Refusal {
-    pub fn status(self) -> Status
-        ensures { result ≡ status_of self }
+    /// Why the file that the word of this number names was not taken.
+    pub fn of_take(word: usize, take: Take) -> Refusal
+        ensures { result ≡ of_take word take }
+    {
+        match take {
+            Take::ReadFault => Refusal::ReadFault(word),
+            Take::TooLong => Refusal::TooLong(word),
+            Take::Memory => Refusal::Memory,
+        }
+    }
+
+    fn status(&self) -> Status
+        ensures { result ≡ status_of self.now }
     {
         match self {
             Refusal::Usage => Status::Usage,
-            Refusal::ReadFault => Status::ReadFault,
-            Refusal::TooLong => Status::TooLong,
+            Refusal::ReadFault(_) => Status::ReadFault,
+            Refusal::TooLong(_) => Status::TooLong,
             Refusal::NoToken(_) | Refusal::NoProgram => Status::Syntax,
             Refusal::WriteFault => Status::WriteFault,
             Refusal::Memory => Status::Memory,
         }
     }
-
-    fn head(self) -> &'static [u8]
-        ensures { result.now ≡ head_of self }
-    {
-        match self {
-            Refusal::Usage => b"usage",
-            Refusal::ReadFault => b"read fault: ",
-            Refusal::TooLong => b"too long: ",
-            Refusal::NoToken(_) => b"syntax: byte ",
-            Refusal::NoProgram => b"syntax",
-            Refusal::WriteFault => b"write fault",
-            Refusal::Memory => b"memory",
-        }
-    }
-
-    // The file or the place that the line names.
-    fn detail(self, words: &[String]) -> Piece<'_>
-        ensures { piece_text result ≡ detail_of (map string_bytes words.now) self }
-    {
-        match self {
-            Refusal::ReadFault | Refusal::TooLong => Piece::Text(program_of(words)),
-            Refusal::NoToken(at) => Piece::Number(at as u64),
-            _ => Piece::Text(b""),
-        }
-    }
 }
 
-// The program file among the words.
-fn program_of(words: &[String]) -> &[u8]
-    ensures { result.now ≡ program_in (map string_bytes words.now) }
+/// The word of this number, none where there is no such word.
+pub fn word_bytes(words: &[String], at: usize) -> &[u8]
+    ensures { result.now ≡ word_at (map string_bytes words.now) at }
 {
-    match words {
-        [_, program, ..] => program.as_str().as_bytes(),
-        _ => b"",
+    match words.get(at) {
+        Some(word) => word.as_str().as_bytes(),
+        None => b"",
     }
 }
 
@@ -147,11 +120,53 @@ pub fn refuse<E: Sink>(err: &mut E, words: &[String], refusal: Refusal) -> Statu
     ensures status { result ≡ status_of refusal }
     ensures said { Said E.written E.faults err.old err.new (line_of (map string_bytes words.now) refusal) }
 {
-    let line = [
-        Piece::Text(refusal.head()),
-        refusal.detail(words),
-        Piece::Text(b"\n"),
-    ];
-    let _ = put_pieces(err, &line);
+    let _ = put_line(err, words, &refusal);
     refusal.status()
+}
+
+// The line of a refusal, an arm each.
+fn put_line<E: Sink>(err: &mut E, words: &[String], refusal: &Refusal) -> Result<(), WriteFault>
+    ensures all { let line = line_of (map string_bytes words.now) refusal.now in
+        OnOk result (PutsAll E.written E.faults err.old err.new line) }
+    ensures part { let line = line_of (map string_bytes words.now) refusal.now in
+        OnErr result (PutsPart E.written E.faults err.old err.new line) }
+{
+    match refusal {
+        Refusal::Usage => put_all(err, b"usage\n"),
+        Refusal::ReadFault(word) => put_file(err, b"read fault: ", words, *word),
+        Refusal::TooLong(word) => put_file(err, b"too long: ", words, *word),
+        Refusal::NoToken(at) => put_pieces(
+            err,
+            &[
+                Piece::Text(b"syntax: byte "),
+                Piece::Number(*at as u64),
+                Piece::Text(b"\n"),
+            ],
+        ),
+        Refusal::NoProgram => put_all(err, b"syntax\n"),
+        Refusal::WriteFault => put_all(err, b"write fault\n"),
+        Refusal::Memory => put_all(err, b"memory\n"),
+    }
+}
+
+// A line that tells the file which the word of this number names.
+fn put_file<'a, E: Sink>(
+    err: &mut E,
+    head: &'a [u8],
+    words: &'a [String],
+    word: usize,
+) -> Result<(), WriteFault>
+    ensures all { let line = head.now ++ word_at (map string_bytes words.now) word ++ codes "\n" in
+        OnOk result (PutsAll E.written E.faults err.old err.new line) }
+    ensures part { let line = head.now ++ word_at (map string_bytes words.now) word ++ codes "\n" in
+        OnErr result (PutsPart E.written E.faults err.old err.new line) }
+{
+    put_pieces(
+        err,
+        &[
+            Piece::Text(head),
+            Piece::Text(word_bytes(words, word)),
+            Piece::Text(b"\n"),
+        ],
+    )
 }

@@ -1,34 +1,50 @@
 // The answers of the top call, which are the program's exit codes.
+ghost use Rattle.std.specs.Prelude.{◌≡◌, ◌≢◌};
+ghost use Rattle.lucid_top.specs.Status.{code_of, IsDetermined};
 
-/// How a call ended. The number of each is the process's exit code.
+/// How a call ended.
 #[derive(Clone, Copy, Debug, PartialEq, Eq)]
 pub enum Status {
     /// The work was done.
-    Ok = 0,
+    Ok,
     /// The words are none of the forms, or the event's name and arguments fit no event.
-    Usage = 1,
+    Usage,
     /// A call on a named file failed.
-    ReadFault = 2,
+    ReadFault,
     /// A named file has more bytes than its limit.
-    TooLong = 3,
+    TooLong,
     /// The text is no program.
-    Syntax = 4,
+    Syntax,
     /// A declaration has no typing, or passes a limit.
-    Types = 5,
+    Types,
     /// A declaration touches arrays in no order.
-    Order = 6,
+    Order,
     /// The program doesn't fit the pipeline.
-    NoFit = 7,
+    NoFit,
     /// The limits file says nothing that can be used.
-    BadLimits = 8,
+    BadLimits,
     /// The scenario says nothing that can be used.
-    BadScene = 9,
+    BadScene,
     /// A write of the output failed.
-    WriteFault = 10,
+    WriteFault,
     /// Memory ran out.
-    Memory = 11,
+    Memory,
     /// The placement file says nothing that can be used, or breaks a rule.
-    BadPlacement = 12,
+    BadPlacement,
     /// The width instances of the program can't be expanded.
-    BadSizes = 13,
+    BadSizes,
 }
+
+impl Status {
+    /// The process's exit code (`code_of`).
+    pub fn code(self) -> u8
+        ensures { result ≡ code_of self }
+    {
+        self as u8
+    }
+}
+
+/// Words and files determine every status but that of a fault and that of want of memory.
+pub fn faults_alone_are_free()
+    ensures { (s : Status) → s ≢ Status.ReadFault → s ≢ Status.WriteFault → s ≢ Status.Memory → IsDetermined s }
+{}

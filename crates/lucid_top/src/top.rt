@@ -1,15 +1,19 @@
 // The top call: all that the program does, over words, files and two sinks.
-ghost use Rattle.std.specs.Prelude.{◌≡◌, ◌≢◌, ◌⊎◌, ◌+◌, ℕ, List, IsSome, IfErr, OnOk, map, string_bytes};
-ghost use Rattle.std.specs.Io.KnownBytes.{Keeps};
-ghost use Rattle.lucid_io.specs.Counts.{Rose};
-ghost use Rattle.lucid_top.specs.Answer.{Answers, IsTold, IsDetermined, outcome_status};
-ghost use Rattle.lucid_top.specs.Once.{Outcome};
-ghost use Rattle.lucid_top.specs.Refused.{IsDetermined as IsDeterminedBy, program_of, line_of, status_of};
-ghost use Rattle.lucid_top.specs.Said.{Said, Grows, PutsWhole, PutsCut};
-ghost use Rattle.lucid_top.specs.Words.{form_of};
+ghost use Rattle.std.specs.Prelude.{◌≡◌, ◌≢◌, ◌⊎◌, ◌+◌, ℕ, List, [], ◌∷◌, Ok, Err};
+ghost use Rattle.std.specs.Io.KnownBytes.{Appends, Keeps};
+ghost use Rattle.lucid_io.specs.Contents.{SameHeld};
+ghost use Rattle.lucid_io.specs.Counts.{Rose, OthersKept};
+ghost use Rattle.lucid_io.specs.Puts.{PutsAll, PutsPart};
+ghost use Rattle.lucid_top.specs.Call.{Asked, CanStop, Does, Ended, IsNamed, Names, Told, Unfailed, bytes_of, name_of, named_files};
+ghost use Rattle.lucid_top.specs.Command.{command_of};
+ghost use Rattle.lucid_top.specs.Outcome.{Outcome, SameRefusal, outcome_status};
+ghost use Rattle.lucid_top.specs.Refusal.{line_of, status_of};
+ghost use Rattle.lucid_top.specs.Status.{IsDetermined};
+ghost use Rattle.lucid_top.specs.Writing.{PutsSome, Said};
 
-use crate::command::read_words;
-use crate::once::{PROGRAM_BYTES, once};
+use crate::command::{Command, NamedFile};
+use crate::commands::perform;
+use crate::files::read_files;
 use crate::refusal::{Refusal, refuse};
 use crate::status::Status;
 use lucid_io::{Files, Sink};
@@ -23,27 +27,62 @@ pub fn lucid<F: Files, W: Sink, E: Sink>(
     out: &mut W,
     err: &mut E,
 ) -> Status
-    // What words and files determine is answered: the status, all bytes of `out`, the line of `err`.
-    ensures status { IsDetermined result → (o : Outcome) → Answers (map string_bytes words.now) (F.held files.old) o → result ≡ outcome_status o }
-    ensures out { result ≡ Status.Ok → (o : Outcome) → Answers (map string_bytes words.now) (F.held files.old) o → PutsWhole W.written W.faults out.old out.new o }
-    ensures err { IsDetermined result → (r : Refusal) → Answers (map string_bytes words.now) (F.held files.old) (Err r) → Said E.written E.faults err.old err.new (line_of (map string_bytes words.now) r) }
-    ensures answered { IsDetermined result → IsTold (map string_bytes words.now) (F.held files.old) → (o : Outcome) × Answers (map string_bytes words.now) (F.held files.old) o }
+    // all of it, by how the call ended
+    ensures ended { Ended F.held F.given F.faults files.old files.new W.written W.faults out.old out.new
+        E.written E.faults err.old err.new (bytes_of words.now) result }
 
-    // when each fault comes
-    ensures read_fault { result ≡ Status.ReadFault → Rose (F.faults files.old (program_of (map string_bytes words.now))) (F.faults files.new (program_of (map string_bytes words.now))) }
-    ensures too_long { result ≡ Status.TooLong → F.given files.new ≡ PROGRAM_BYTES + 1 }
-    ensures gave_more { IsSome (form_of (map string_bytes words.now)) → F.given files.new ≡ PROGRAM_BYTES + 1 → (result ≡ Status.TooLong) ⊎ (result ≡ Status.Memory) }
-    ensures write_fault { result ≡ Status.WriteFault → Rose (W.faults out.old) (W.faults out.new) }
+    // What words and files determine is answered: the status, the bytes of `out`, the line of `err`.
+    ensures status { IsDetermined result → (o : Outcome) → Asked F.held files.old words.now o → result ≡ outcome_status o }
+    ensures out { result ≡ Status.Ok → (text : List ℕ) → Asked F.held files.old words.now (Ok text) →
+        PutsAll W.written W.faults out.old out.new text }
+    ensures err { IsDetermined result → (r : Refusal) → Asked F.held files.old words.now (Err r) →
+        (s : Refusal) × Asked F.held files.old words.now (Err s) × SameRefusal r s ×
+        Said E.written E.faults err.old err.new (line_of (bytes_of words.now) s) }
+    ensures answered { IsDetermined result → Told F.held files.old words.now →
+        (o : Outcome) × Asked F.held files.old words.now o }
 
     // Where there is a text to write and no count rose, it is written, unless memory ran out.
-    ensures complete { (text : List ℕ) → Answers (map string_bytes words.now) (F.held files.old) (Ok text) → ¬ Rose (F.faults files.old (program_of (map string_bytes words.now))) (F.faults files.new (program_of (map string_bytes words.now))) → ¬ Rose (W.faults out.old) (W.faults out.new) → (result ≡ Status.Ok) ⊎ (result ≡ Status.Memory) }
+    ensures complete { (text : List ℕ) → Asked F.held files.old words.now (Ok text) → Unfailed F.faults files.old files.new words.now →
+        ¬ Rose (W.faults out.old) (W.faults out.new) → (result ≡ Status.Ok) ⊎ (result ≡ Status.Memory) }
 
-    // what was written: at a write fault a proper prefix, at every other refusal nothing
-    ensures cut { result ≡ Status.WriteFault → (o : Outcome) → Answers (map string_bytes words.now) (F.held files.old) o → PutsCut W.written W.faults out.old out.new o }
-    ensures silent { result ≢ Status.Ok → result ≢ Status.WriteFault → Keeps (W.written out.old) (W.written out.new) }
-    ensures grows { Grows (W.written out.old) (W.written out.new) }
-    ensures said { result ≢ Status.Ok → (r : Refusal) × (status_of r ≡ result) × Said E.written E.faults err.old err.new (line_of (map string_bytes words.now) r) }
+    // when each fault comes; a file that is told is one that the words name
+    ensures read_fault { result ≡ Status.ReadFault → (file : NamedFile) × Names words.now file ×
+        Rose (F.faults files.old (name_of words.now file)) (F.faults files.new (name_of words.now file)) ×
+        Said E.written E.faults err.old err.new (line_of (bytes_of words.now) (Refusal.ReadFault file.word)) }
+    ensures too_long { result ≡ Status.TooLong → (file : NamedFile) × Names words.now file × (F.given files.new ≡ file.limit + 1) ×
+        Said E.written E.faults err.old err.new (line_of (bytes_of words.now) (Refusal.TooLong file.word)) }
+    ensures gave_more { (file : NamedFile) → named_files words.now ≡ file ∷ [] → F.given files.new ≡ file.limit + 1 →
+        (result ≡ Status.TooLong) ⊎ (result ≡ Status.Memory) }
+    ensures write_fault { result ≡ Status.WriteFault → Rose (W.faults out.old) (W.faults out.new) }
+
+    // what was written: at a write fault a proper prefix, at want of memory a prefix, at every other refusal nothing
+    ensures cut { result ≡ Status.WriteFault → (text : List ℕ) → Asked F.held files.old words.now (Ok text) →
+        PutsPart W.written W.faults out.old out.new text }
+    ensures memory { result ≡ Status.Memory → (text : List ℕ) → Asked F.held files.old words.now (Ok text) →
+        PutsSome W.written W.faults out.old out.new text }
+    ensures silent { result ≢ Status.Ok → result ≢ Status.WriteFault → (result ≡ Status.Memory → ¬ CanStop words.now) →
+        Keeps (W.written out.old) (W.written out.new) }
+    ensures grows { (text : List ℕ) × Appends (W.written out.old) (W.written out.new) text }
+    ensures said { result ≢ Status.Ok → (r : Refusal) × (status_of r ≡ result) ×
+        Said E.written E.faults err.old err.new (line_of (bytes_of words.now) r) }
     ensures unsaid { result ≡ Status.Ok → Keeps (E.written err.old) (E.written err.new) }
+
+    // what stays as it was
+    ensures held { SameHeld (F.held files.old) (F.held files.new) }
+    ensures others { OthersKept (IsNamed words.now) (F.held files.old) (F.faults files.old) (F.faults files.new) }
+{
+    call(alloc, words, files, out, err)
+}
+
+fn call<F: Files, W: Sink, E: Sink>(
+    alloc: Global,
+    words: &[String],
+    files: &mut F,
+    out: &mut W,
+    err: &mut E,
+) -> Status
+    ensures { Ended F.held F.given F.faults files.old files.new W.written W.faults out.old out.new
+        E.written E.faults err.old err.new (bytes_of words.now) result }
 {
     match work(alloc, words, files, out) {
         Ok(()) => Status::Ok,
@@ -57,28 +96,12 @@ fn work<F: Files, W: Sink>(
     files: &mut F,
     out: &mut W,
 ) -> Result<(), Refusal>
-    ensures ok { OnOk result ((o : Outcome) → Answers (map string_bytes words.now) (F.held files.old) o → PutsWhole W.written W.faults out.old out.new o) }
-    ensures err { IfErr result (λ r. IsDeterminedBy r → (o : Outcome) → Answers (map string_bytes words.now) (F.held files.old) o → o ≡ Err r) }
-    ensures cut { result ≡ Err Refusal.WriteFault → (o : Outcome) → Answers (map string_bytes words.now) (F.held files.old) o → PutsCut W.written W.faults out.old out.new o }
-    ensures answered { OnOk result (IsTold (map string_bytes words.now) (F.held files.old) → (o : Outcome) × Answers (map string_bytes words.now) (F.held files.old) o) }
-    ensures refused { IfErr result (λ r. IsDeterminedBy r → IsTold (map string_bytes words.now) (F.held files.old) → (o : Outcome) × Answers (map string_bytes words.now) (F.held files.old) o) }
-    ensures read_fault { result ≡ Err Refusal.ReadFault → Rose (F.faults files.old (program_of (map string_bytes words.now))) (F.faults files.new (program_of (map string_bytes words.now))) }
-    ensures too_long { result ≡ Err Refusal.TooLong → F.given files.new ≡ PROGRAM_BYTES + 1 }
-    ensures gave_more { IsSome (form_of (map string_bytes words.now)) → F.given files.new ≡ PROGRAM_BYTES + 1 → (result ≡ Err Refusal.TooLong) ⊎ (result ≡ Err Refusal.Memory) }
-    ensures write_fault { result ≡ Err Refusal.WriteFault → Rose (W.faults out.old) (W.faults out.new) }
-    ensures silent { IfErr result (λ r. r ≢ Refusal.WriteFault → Keeps (W.written out.old) (W.written out.new)) }
-    ensures grows { Grows (W.written out.old) (W.written out.new) }
+    ensures { let words' = bytes_of words.now in
+        Does F.held F.given F.faults files.old files.new W.written W.faults out.old out.new words' (command_of words') result }
 {
-    match read_words(alloc, words) {
-        Ok(Some(asked)) => once(
-            alloc,
-            files,
-            out,
-            asked.program,
-            asked.name,
-            asked.arguments.as_slice(),
-        ),
-        Ok(None) => Err(Refusal::Usage),
-        Err(_) => Err(Refusal::Memory),
-    }
+    let Some(command) = Command::read(words) else {
+        return Err(Refusal::Usage);
+    };
+    let texts = read_files(alloc, files, words, command.files())?;
+    perform(alloc, command, words, texts.as_slice(), out)
 }

@@ -1,0 +1,31 @@
+// The commands, one file each, and the one match over them. A command prepares what is to be written, or refuses, and then writes it.
+ghost use Rattle.std.specs.Prelude.{◌≡◌, length, map, string_bytes};
+ghost use Rattle.lucid_top.specs.Answer.{CommandAnswers, MayStop};
+ghost use Rattle.lucid_top.specs.Command.{files_of};
+ghost use Rattle.lucid_top.specs.Files.{texts_in};
+ghost use Rattle.lucid_top.specs.Writing.{Performs};
+
+mod once;
+
+use crate::command::Command;
+use crate::refusal::Refusal;
+use lucid_io::Sink;
+use once::once;
+use std::alloc::Global;
+
+/// Performs a command of these words over the texts of its files, in word order.
+pub fn perform<W: Sink>(
+    alloc: Global,
+    command: Command,
+    words: &[String],
+    texts: &[Vec<u8>],
+    out: &mut W,
+) -> Result<(), Refusal>
+    requires { length texts.now ≡ length (files_of command) }
+    ensures { let texts' = texts_in texts.now in let answers = CommandAnswers command (map string_bytes words.now) texts' in
+        Performs (MayStop command texts') answers W.written W.faults out.old out.new result }
+{
+    match command {
+        Command::Once { arguments } => once(alloc, words, texts, arguments, out),
+    }
+}

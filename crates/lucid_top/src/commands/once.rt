@@ -1,0 +1,118 @@
+// `once P NAME ARG..`: one event, run whole from cells that are all 0, at tick 0 on switch 0.
+ghost use Rattle.std.specs.Prelude.{◌≡◌, All, IfSome, IsTrue, OnOk, OnErr, length, map, string_bytes};
+ghost use Rattle.lucid_core.specs.Fits.{event_fits, out_fits};
+ghost use Rattle.lucid_io.specs.Puts.{PutsAll, PutsPart};
+ghost use Rattle.lucid_top.specs.Files.{texts_in};
+ghost use Rattle.lucid_top.specs.Once.{OnceAnswers, last_of, fitting as fitting_of, event_at as event_in, event_of, shown, ran};
+ghost use Rattle.lucid_top.specs.Outcome.{Prepares};
+ghost use Rattle.lucid_top.specs.Words.{word_at};
+ghost use Rattle.lucid_top.specs.Writing.{Performs};
+
+use crate::program::accepted;
+use crate::refusal::{Refusal, word_bytes};
+use lucid_base::{Args, Event, Outs};
+use lucid_core::{Cells, Core, EventDef, run_whole};
+use lucid_io::{Sink, WriteFault};
+use lucid_log::{put_block, put_cells};
+use std::alloc::Global;
+
+/// Writes what the event of the third word does in the program of this text, with these arguments.
+pub fn once<W: Sink>(
+    alloc: Global,
+    words: &[String],
+    texts: &[Vec<u8>],
+    arguments: Option<Args>,
+    out: &mut W,
+) -> Result<(), Refusal>
+    requires { length texts.now ≡ 1 }
+    ensures { let answers = OnceAnswers (word_at (texts_in texts.now) 0) (word_at (map string_bytes words.now) 2) arguments in
+        Performs ⊥ answers W.written W.faults out.old out.new result }
+{
+    let ran = prepare(alloc, texts[0].as_slice(), word_bytes(words, 2), arguments)?;
+    put(out, &ran)?;
+    Ok(())
+}
+
+/// What an event did: the program, the event, what it sent out, and the cells after it.
+#[derive(Drop)]
+struct Ran {
+    core: Core,
+    event: Event,
+    outs: Outs,
+    cells: Cells,
+    ghost event_fits: { IsTrue (event_fits core event) },
+    ghost outs_fit: { All (λ out. IsTrue (out_fits core out)) outs },
+}
+
+// What the event of this name does in the program of this text.
+fn prepare(alloc: Global, text: &[u8], name: &[u8], arguments: Option<Args>) -> Result<Ran, Refusal>
+    ensures { Prepares (OnceAnswers text.now name.now arguments) (λ r. shown r.core r.event r.outs r.cells) result }
+{
+    let core = accepted(alloc, text)?;
+    let event = fitting(&core, name, arguments);
+    run(alloc, core, event)
+}
+
+// What the event does, if there is one.
+fn run(alloc: Global, core: Core, event: Option<Event>) -> Result<Ran, Refusal>
+    requires { IfSome event (λ e. IsTrue (event_fits core e)) }
+    ensures { Prepares (λ o. o ≡ ran core event) (λ r. shown r.core r.event r.outs r.cells) result }
+{
+    let Some(event) = event else {
+        return Err(Refusal::Usage);
+    };
+    let mut cells = Cells::new(alloc, &core)?;
+    let outs = run_whole(alloc, &core, &mut cells, 0, 0, &event)?;
+    Ok(Ran {
+        core,
+        event,
+        outs,
+        cells,
+    })
+}
+
+// The last declared event of this name with these arguments, if it fits the program.
+fn fitting(core: &Core, name: &[u8], arguments: Option<Args>) -> Option<Event>
+    ensures event { result ≡ event_of core.now name.now arguments }
+    ensures fits { IfSome result (λ e. IsTrue (event_fits core.now e)) }
+{
+    event_at(core, last_event(core.events(), name)?, arguments?)
+}
+
+fn event_at(core: &Core, id: usize, args: Args) -> Option<Event>
+    ensures event { result ≡ event_in core.now (Some args) (Some id) }
+    ensures fits { IfSome result (λ e. IsTrue (event_fits core.now e)) }
+{
+    if id > u32::MAX as usize {
+        return None;
+    }
+    let event = Event {
+        id: id as u32,
+        args,
+    };
+    if core.fits(&event) { Some(event) } else { None }
+}
+
+// The number of the last event of this name.
+fn last_event(events: &[EventDef], name: &[u8]) -> Option<usize>
+    ensures { result ≡ last_of name.now 0 None events.now }
+{
+    let mut last = None;
+    for (id, event) in events.iter().enumerate() {
+        if event.name.bytes() == name {
+            last = Some(id);
+        }
+    }
+    last
+}
+
+// Writes the block of the event, and the cells after it. Takes no memory.
+fn put<W: Sink>(out: &mut W, ran: &Ran) -> Result<(), WriteFault>
+    ensures all { let text = shown ran.now.core ran.now.event ran.now.outs ran.now.cells in
+        OnOk result (PutsAll W.written W.faults out.old out.new text) }
+    ensures part { let text = shown ran.now.core ran.now.event ran.now.outs ran.now.cells in
+        OnErr result (PutsPart W.written W.faults out.old out.new text) }
+{
+    put_block(out, &ran.core, 0, 0, &ran.event, &ran.outs, 0)?;
+    put_cells(out, 0, ran.core.arrays(), &ran.cells)
+}
