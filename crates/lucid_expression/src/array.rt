@@ -32,8 +32,8 @@ pub(crate) fn array_method(tokens: Tokens) -> Result<(Method, Tokens), Stop>
     }
 }
 
-/// The call by this method that is given these expressions, all of them. It is boxed at once: to let go of a call that is not costs
-/// the proof of its holder as much as a hundred other lines.
+/// The call by this method that is given these expressions, all of them. It is boxed at once, since a proof pays much for each path
+/// that lets go of a call by value.
 pub(crate) fn array_of(alloc: Global, method: Method, given: Items<E>) -> Result<Boxed<A>, Stop>
     ensures { Gives result (spec.array_of method given) }
 {

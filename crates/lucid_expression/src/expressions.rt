@@ -1,6 +1,5 @@
 // Expressions, by how tightly their signs bind. `depth` bounds how many expressions stand round one another; where it is the
 // number of the tokens, it never runs out, and the limits on nesting, which are tried before, bound the recursion by far less.
-ghost use Rattle.std.specs.Prelude.{◌≡◌};
 ghost use Rattle.lucid_grammar.specs.Reader.{separated};
 ghost use Rattle.lucid_expression.specs.Reads.{Reads, Leaves};
 ghost use Rattle.lucid_expression.specs.Tokens.{said};

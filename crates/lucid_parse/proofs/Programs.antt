@@ -20,9 +20,6 @@ use Rattle.lucid_parse.specs.Program.{line_at, line_of, last_of, HasLines, IsTre
 use Rattle.lucid_grammar.specs.Law.{ReadAsSpelled}
 use Rattle.lucid_grammar.proofs.Steps.{both, of_both}
 
-pub begin : (text : List ℕ) (ts : List Token) (ls : Text) → Progress text ts ls [] ls
-begin text ts ls = record { written = refl; spelled = refl; lines = tt }
-
 one_behind : (all : List Decl) (x : Decl) (r : Text) → declarations (all ++ x ∷ []) r ≡ declarations all (declaration x.kind r)
 one_behind [] x r = refl
 one_behind (y ∷ ys) x r = ap (declaration y.kind) (one_behind ys x r)
