@@ -1,7 +1,7 @@
 // The walk along a body that finds its scheme.
 ghost use Rattle.std.specs.Prelude.{◌≡◌, ◌+◌, ◌≤◌, length, map, OnOk, Some};
 ghost use Rattle.std.specs.Option.{option_map};
-ghost use Rattle.lucid_constraints.specs.Same.{same_pair, join_all};
+ghost use Rattle.lucid_constraints.specs.Same.{same_atom, same_pair, join_all};
 ghost use Rattle.lucid_constraints.specs.Substitution.{pair};
 ghost use Rattle.lucid_order.specs.Evaluation.{optional, sequence};
 ghost use Rattle.lucid_effects.specs.Goes.{Goes, walked};
@@ -95,6 +95,14 @@ fn goes_through<L: Ledger>(
     } else {
         Ok(())
     }
+}
+
+/// After both branches of an `if`: the places where the first ended, and those where the walk stands after the second.
+fn stand_at_both(at: &mut Scheme, left: Items<Atom>) -> Result<(), Memory>
+    ensures { OnOk result (at.new ≡ record at.old { ends = join_all same_atom left at.old.ends }) }
+{
+    let right = mem::replace(&mut at.ends, left);
+    join_ends(&mut at.ends, right.as_slice())
 }
 
 #[cycle(walk)]
@@ -259,8 +267,7 @@ fn stmt<L: Ledger>(
             body(alloc, schemes, at, steps, a.as_slice())?;
             let left = mem::replace(&mut at.ends, began);
             body(alloc, schemes, at, steps, b.as_slice())?;
-            let right = mem::replace(&mut at.ends, left);
-            join_ends(&mut at.ends, right.as_slice())
+            stand_at_both(at, left)
         }
         Stmt::Gen {
             args,
