@@ -3,6 +3,7 @@
 // and is found in few steps. Stands on lucid_order and lucid_constraints.
 #![tactic(auto)]
 
+mod examples;
 mod laws;
 mod scheme;
 
