@@ -11,4 +11,6 @@ mod constraints;
 #[cfg(test)]
 mod copies;
 #[cfg(test)]
+mod order_rows;
+#[cfg(test)]
 mod texts;
