@@ -14,7 +14,8 @@ use std::sync::ledger::{Blank, Ledger};
 use std::test::Fail;
 
 /// Two arrays and two events: declarations 1 to 4.
-const HEAD: &str = "global Array.t<<32>> a = Array.create(4); global Array.t<<32>> b = Array.create(4); event e(int i); event f(int i);";
+const HEAD: &str =
+    "global Array.t<<32>> a = Array.create(4); global Array.t<<32>> b = Array.create(4); event e(int i); event f(int i);";
 
 fn push_name(alloc: Global, text: &mut String, name: ArrayName) -> Result<(), Fail> {
     let part = match name {
