@@ -3,7 +3,7 @@ use Rattle.std.specs.List.{slice_get}
 use Rattle.std.specs.Option.{option_map_or}
 use Rattle.std.proofs.lemmas.Option.{slice_get_read}
 use Rattle.lucid_core.specs.Texts.{holes_of}
-use Rattle.lucid_rows.proofs.texts.print_fits.Goals as goal
+use Rattle.lucid_rows_parts.proofs.texts.print_fits.Goals as goal
 
 -- a text that is there with two `%d`, and two numbers
 two_fit : (forms : List (List ℕ)) (form : ℕ) (text numbers : List ℕ) → form < length forms → text ≡ get_or forms form text → text ≡ codes "v %d w %d" → length numbers ≡ 2 →

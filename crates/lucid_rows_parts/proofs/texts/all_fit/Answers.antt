@@ -4,7 +4,7 @@ use Rattle.std.proofs.lemmas.List.{take_all}
 use Rattle.std.proofs.lemmas.List.Elements.{All-more}
 use Rattle.lucid_base.specs.declared.event.Out.{Out}
 use Rattle.lucid_core.specs.Fits.{out_fits}
-use Rattle.lucid_rows.proofs.texts.all_fit.Goals as goal
+use Rattle.lucid_rows_parts.proofs.texts.all_fit.Goals as goal
 
 pub loop-out-preserved : goal.loop-out-preserved
 loop-out-preserved c =
