@@ -10,8 +10,6 @@ mod number;
 mod program;
 mod refusal;
 mod status;
-#[cfg(test)]
-mod tests;
 mod top;
 
 pub use status::{Status, faults_alone_are_free};
