@@ -7,4 +7,6 @@
 #[cfg(test)]
 mod calls;
 #[cfg(test)]
+mod inlining;
+#[cfg(test)]
 mod order_rows;
