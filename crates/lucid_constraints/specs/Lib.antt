@@ -1,6 +1,7 @@
 pub mod Circle
 pub mod Cycle
 pub mod Laws
+pub mod Marks
 pub mod Means
 pub mod Same
 pub mod Substitution

@@ -7,6 +7,7 @@ mod cycle;
 mod ends;
 mod laws;
 mod look;
+mod marks;
 mod names;
 mod order;
 mod pair;

@@ -1,10 +1,11 @@
 // Pairs without repeats.
-ghost use Rattle.std.specs.Prelude.{◌≡◌, ◌≢◌, ◌+◌, [], IfOk, OnOk, AllPairs, map};
+ghost use Rattle.std.specs.Prelude.{◌≡◌, ◌≢◌, ◌+◌, ◌++◌, ◌∷◌, false, [], IfOk, OnOk, AllPairs, map};
 ghost use Rattle.std.specs.List.{list_any};
 ghost use Rattle.lucid_constraints.specs.Same.{same_pair as are_same_pairs, joined, join_all};
-ghost use Rattle.lucid_constraints.specs.Substitution.{pair, pairs_at, needs_from};
+ghost use Rattle.lucid_constraints.specs.Substitution.{pair as pair_before, pairs_at, needs_from};
 
 use crate::ends::name_at;
+use crate::marks::{mark, marked, table};
 use crate::pair::{Atom, Pair};
 use lucid_base::{ArrayName, Items, Memory, Steps};
 use std::alloc::Global;
@@ -15,18 +16,24 @@ use std::sync::ledger::Ledger;
 #[derive(Drop)]
 pub struct Order {
     pairs: Items<Pair>,
+    /// The table of these pairs, once they are many.
+    marks: Vec<bool>,
 }
 
 impl Model for Order {
     ghost use Rattle.std.specs.Prelude.{List, ◌≢◌, AllPairs};
     ghost use Rattle.lucid_constraints.specs.declared.pair.Pair.{Pair};
+    ghost use Rattle.lucid_constraints.specs.Marks.{Marked};
 
     ghost Value = { List Pair };
 
     ghost view = { λ o. o.pairs };
 
-    ghost invariant = { λ o. AllPairs (λ p q. p ≢ q) o.pairs };
+    ghost invariant = { λ o. AllPairs (λ p q. p ≢ q) o.pairs × Marked o.marks.items o.pairs };
 }
+
+/// So many pairs are searched; more are looked up.
+const FEW: usize = 16;
 
 fn has(pairs: &[Pair], pair: Pair) -> bool
     ensures { result ≡ list_any (are_same_pairs pair) pairs.now }
@@ -46,6 +53,7 @@ impl Order {
     {
         Order {
             pairs: Items::new(alloc),
+            marks: Vec::new(alloc),
         }
     }
 
@@ -57,15 +65,45 @@ impl Order {
         self.pairs.as_slice()
     }
 
+    fn has(&self, pair: Pair) -> bool
+        ensures { result ≡ list_any (are_same_pairs pair) self.now }
+    {
+        match marked(&self.marks, pair) {
+            Some(there) => there,
+            None => has(self.pairs.as_slice(), pair),
+        }
+    }
+
+    /// Adds a pair that isn't there.
+    fn push(&mut self, pair: Pair) -> Result<(), Memory>
+        requires { list_any (are_same_pairs pair) self.old ≡ false }
+        ensures { OnOk result (self.new ≡ self.old ++ pair ∷ []) }
+    {
+        self.pairs.push(pair)?;
+        mark(&mut self.marks, pair);
+        Ok(())
+    }
+
+    /// Makes the table of the pairs, once they are many.
+    fn tabulate(&mut self) -> Result<(), Memory>
+        ensures { self.new ≡ self.old }
+    {
+        if self.marks.is_empty() && self.pairs.len() > FEW {
+            let alloc = *self.marks.allocator();
+            self.marks = table(alloc, self.pairs.as_slice())?;
+        }
+        Ok(())
+    }
+
     /// Adds the pair unless it is there.
     fn join(&mut self, pair: Pair) -> Result<(), Memory>
         ensures { OnOk result (self.new ≡ joined are_same_pairs self.old pair) }
     {
-        if has(self.pairs.as_slice(), pair) {
+        if self.has(pair) {
             return Ok(());
         }
-        self.pairs.push(pair)?;
-        Ok(())
+        self.push(pair)?;
+        self.tabulate()
     }
 
     /// Adds the pair unless it is there, in one step. The work is in proportion to the pairs.
@@ -79,7 +117,7 @@ impl Order {
 
     /// Adds that each of the places comes before the array.
     fn join_before(&mut self, start: &[Atom], array: ArrayName) -> Result<(), Memory>
-        ensures { OnOk result (self.new ≡ join_all are_same_pairs self.old (map (pair array) start.now)) }
+        ensures { OnOk result (self.new ≡ join_all are_same_pairs self.old (map (pair_before array) start.now)) }
     {
         for atom in start {
             self.join(Pair { atom: *atom, array })?;
