@@ -3,7 +3,7 @@ use Rattle.std.proofs.Common.{◌≡◌, ◌≢◌, ℕ, ◌+◌, ◌⊎◌, inl
 use Rattle.std.specs.Io.KnownBytes.{Appends, Keeps}
 use Rattle.std.proofs.KnownBytes.{Appends-nil, Appends-kept}
 use Rattle.lucid_io.specs.Contents.{SameHeld}
-use Rattle.lucid_io.specs.Counts.{Rose, OthersKept}
+use Rattle.lucid_io.specs.Counts.{Rose, SameCounts, OthersKept}
 use Rattle.lucid_io.specs.Puts.{PutsAll, PutsPart}
 use Rattle.lucid_top.specs.declared.command.Command.{Command}
 use Rattle.lucid_top.specs.declared.command.NamedFile.{NamedFile}
@@ -22,13 +22,16 @@ use Rattle.lucid_top.specs.Refusal.{line_of, status_of}
 use Rattle.lucid_top.specs.Status.{IsDetermined}
 use Rattle.lucid_top.specs.Words.{word_at}
 use Rattle.lucid_top.specs.Writing.{Performs, PutsSome, Refuses, Said, Untouched}
-use Rattle.lucid_top.proofs.Readings.{Agrees, read-agrees, read-why, read-rose, read-long, read-gave_more, read-held, read-others}
+use Rattle.lucid_top.proofs.Readings.{Agrees, read-agrees, read-why, read-rose, read-long, read-gave_more, read-held, read-others, read-quiet}
 
 -- ---- what is alike
 
+same-refl : (r : Refusal) → SameRefusal r r
+same-refl r = refl
+
 Alike-refl : (o : Outcome) → Alike o o
 Alike-refl (Ok text) = refl
-Alike-refl (Err r) = refl
+Alike-refl (Err r) = same-refl r
 
 same-status : (r s : Refusal) → SameRefusal r s → status_of r ≡ status_of s
 same-status r s same = ap status_of same
@@ -285,6 +288,19 @@ pub does-held : {F W : Type 0} (held : F → Held) (given : F → ℕ) (met : F 
     Does held given met files files' written faults out out' words co end → SameHeld (held files) (held files')
 does-held held given met files files' written faults out out' words None end does = λ name. ap (λ t. held t name) does.0
 does-held held given met files files' written faults out out' words (Some c) end does = read-held held given met words files files' (files_of c) does.0 does.1
+
+-- the texts that were read end by a read fault only where the call does
+pub does-quiet : {F W : Type 0} (held : F → Held) (given : F → ℕ) (met : F → List ℕ → ℕ) (files files' : F) (written : W → Option (List ℕ)) (faults : W → ℕ) (out out' : W) (words : List (List ℕ)) (co : Option Command) (end : End) →
+    Does held given met files files' written faults out out' words co end → end_status end ≢ status.ReadFault → SameCounts (met files) (met files')
+does-quiet held given met files files' written faults out out' words None end does not = λ name. ap (λ t. met t name) does.0
+does-quiet held given met files files' written faults out out' words (Some c) end does not =
+    read-quiet held given met words files files' (files_of c) does.0 does.1 (none does.0 does.2)
+  where
+    none : (texts : Texts) → PerformsOver written faults out out' c words texts end → (word : ℕ) → texts ≡ Err (refusal.ReadFault word) → ⊥
+    none (Ok texts) performs word is = cc
+    none (Err r) performs word is =
+        let same : r ≡ refusal.ReadFault word = cc in
+        not (ap end_status (performs.0 ∙ ap (λ (s : Refusal). Err s) same))
 
 -- ---- the line
 

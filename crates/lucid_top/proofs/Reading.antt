@@ -10,10 +10,6 @@ abbrev pub after : List (List ℕ) → Texts → Texts
 after texts (Ok more) = Ok (texts ++ more)
 after texts (Err r) = Err r
 
-after-nil : (end : Texts) → after [] end ≡ end
-after-nil (Ok texts) = refl
-after-nil (Err r) = refl
-
 after-more : (texts : List (List ℕ)) (text : List ℕ) (end : Texts) → after (texts ++ text ∷ []) end ≡ after texts (before text end)
 after-more texts text (Ok more) = ap (λ (l : List (List ℕ)). Ok l) (append_assoc texts (text ∷ []) more)
 after-more texts text (Err r) = refl
@@ -21,12 +17,6 @@ after-more texts text (Err r) = refl
 -- Of all the files those up to `rest` were read, with these texts: however the rest is read, all are.
 pub record SoFar {T : Type 0} (held : T → Held) (given : T → ℕ) (faults : T → List ℕ → ℕ) (words : List (List ℕ)) (old now : T) (all rest : List NamedFile) (texts : List (List ℕ)) : Type 0 where
   pub goes : (new : T) (end : Texts) → FilesRead held given faults words now new rest end → FilesRead held given faults words old new all (after texts end)
-
-pub SoFar-start : {T : Type 0} {held : T → Held} {given : T → ℕ} {faults : T → List ℕ → ℕ} {words : List (List ℕ)} {old : T} {all : List NamedFile} {texts : List (List ℕ)} →
-    texts ≡ [] → SoFar held given faults words old old all all texts
-SoFar-start {T} {held} {given} {faults} {words} {old} {all} {texts} none = record {
-  goes = λ new end reads. subst (FilesRead held given faults words old new all) (sym (ap (λ (l : List (List ℕ)). after l end) none ∙ after-nil end)) reads;
-}
 
 -- one more file, read whole
 pub SoFar-more : {T : Type 0} {held : T → Held} {given : T → ℕ} {faults : T → List ℕ → ℕ} {words : List (List ℕ)} {old now new : T} {all left : List NamedFile} {texts texts' : List (List ℕ)} (file : NamedFile) (rest : List NamedFile) →

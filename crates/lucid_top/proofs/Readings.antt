@@ -3,7 +3,7 @@ use Rattle.std.proofs.Common.{◌≡◌, ℕ, suc, ◌+◌, ◌<◌, ◌≤◌, 
 use Rattle.std.specs.Prelude.{option_map}
 use Rattle.std.proofs.lemmas.Bool.{lt-ltb, le-ltb}
 use Rattle.lucid_io.specs.Contents.{SameHeld}
-use Rattle.lucid_io.specs.Counts.{Rose, OthersKept}
+use Rattle.lucid_io.specs.Counts.{Rose, SameCounts, OthersKept}
 use Rattle.lucid_io.specs.declared.reading.Take.{Take}
 use Rattle.lucid_io.specs.declared.reading.Take.TheVariants as take
 use Rattle.lucid_top.specs.declared.command.NamedFile.{NamedFile}
@@ -189,3 +189,16 @@ read-length {T} held given faults words old new (file ∷ rest) texts reads =
         let whole : texts ≡ text ∷ more = cc in
         ap length whole ∙ ap suc (shorter more refl)
     at text (Err r) is shorter = absurd (cc)
+
+-- no count of faults changed, unless a call on a file failed
+pub read-quiet : {T : Type 0} (held : T → Held) (given : T → ℕ) (faults : T → List ℕ → ℕ) (words : List (List ℕ)) (old new : T) (named : List NamedFile) (texts : Texts) →
+    FilesRead held given faults words old new named texts → ((word : ℕ) → texts ≡ Err (refusal.ReadFault word) → ⊥) → SameCounts (faults old) (faults new)
+read-quiet held given faults words old new [] texts reads read = λ name. ap (λ t. faults t name) reads.0
+read-quiet held given faults words old new (file ∷ rest) texts reads read =
+    elim reads [
+      | inl stop ↦
+          stop.1.1.quiet
+          (λ same. read file.word (stop.2 ∙ ap (λ (r : Refusal). Err r) (stop.1.2 ∙ ap (of_take file.word) same)))
+      | inr go ↦ λ name.
+          read-quiet held given faults words go.0 new rest go.2 go.4 (λ word is. read word (go.5 ∙ ap (before go.1) is)) name ∙ go.3.quiet name
+    ]

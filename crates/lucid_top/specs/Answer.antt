@@ -1,5 +1,5 @@
 -- What words and the contents of files determine. A command is a line in `CommandAnswers` and in `MayStop`.
-use Rattle.std.specs.Prelude.{◌≡◌, ℕ, List, Option, None, Some, Ok, Err, IsSome}
+use Rattle.std.specs.Prelude.{◌≡◌, List, Option, None, Some, Ok, Err, IsSome}
 use Rattle.lucid_top.specs.declared.command.Command.{Command}
 use Rattle.lucid_top.specs.declared.command.Command.TheVariants as command
 use Rattle.lucid_top.specs.declared.refusal.Refusal.TheVariants as refusal

@@ -1,18 +1,16 @@
 -- What a call does, and how it ended: `Ended` is all that `lucid` promises.
-use Rattle.std.specs.Prelude.{◌≡◌, ℕ, List, [], Option, Some, None, Result, Ok, Err, map, String, string_bytes}
+use Rattle.std.specs.Prelude.{◌≡◌, ℕ, List, [], Option, Some, None, Ok, Err, map, String, string_bytes}
 use Rattle.std.specs.declared.alloc.Global.{Global}
 use Rattle.lucid_io.specs.Counts.{Rose}
 use Rattle.lucid_top.specs.declared.command.Command.{Command}
 use Rattle.lucid_top.specs.declared.command.NamedFile.{NamedFile}
-use Rattle.lucid_top.specs.declared.refusal.Refusal.{Refusal}
 use Rattle.lucid_top.specs.declared.refusal.Refusal.TheVariants as refusal
 use Rattle.lucid_top.specs.declared.status.Status.{Status}
-use Rattle.lucid_top.specs.declared.status.Status.TheVariants as status
 use Rattle.lucid_top.specs.Answer.{Answers, CommandAnswers, IsTold, MayStop}
 use Rattle.lucid_top.specs.Command.{command_of, files_of}
 use Rattle.lucid_top.specs.Files.{Faults, Held, Texts, FilesRead, IsOneOf}
 use Rattle.lucid_top.specs.Outcome.{End, Outcome, end_status}
-use Rattle.lucid_top.specs.Refusal.{status_of, line_of}
+use Rattle.lucid_top.specs.Refusal.{line_of}
 use Rattle.lucid_top.specs.Words.{Bytes, word_at}
 use Rattle.lucid_top.specs.Writing.{Said, Untouched, Performs}
 
@@ -25,25 +23,25 @@ PerformsOver written faults out out' c words (Ok texts) end =
 -- what a call of these words does to files and output: it reads the files that they name, and performs the command over their texts
 abbrev pub Does : {F W : Type 0} → (F → Held) → (F → ℕ) → (F → Faults) → F → F → (W → Option Bytes) → (W → ℕ) → W → W →
     List Bytes → Option Command → End → Type 0
-Does held given met files files' written faults out out' words None end =
+Does held given counts files files' written faults out out' words None end =
     (files' ≡ files) × Untouched written faults out out' × (end ≡ Err refusal.Usage)
-Does held given met files files' written faults out out' words (Some c) end =
-    (texts : Texts) × FilesRead held given met words files files' (files_of c) texts
+Does held given counts files files' written faults out out' words (Some c) end =
+    (texts : Texts) × FilesRead held given counts words files files' (files_of c) texts
     × PerformsOver written faults out out' c words texts end
 
 -- nothing at Ok, else the line of the refusal
 abbrev pub EndSaid : {E : Type 0} → (E → Option Bytes) → (E → ℕ) → E → E → List Bytes → End → Type 0
-EndSaid told failed err err' words (Ok u) = Untouched told failed err err'
-EndSaid told failed err err' words (Err r) = Said told failed err err' (line_of words r)
+EndSaid err_written err_faults err err' words (Ok u) = Untouched err_written err_faults err err'
+EndSaid err_written err_faults err err' words (Err r) = Said err_written err_faults err err' (line_of words r)
 
 -- how a call of these words ended: its status, what it did to files and output, and what it wrote to `err`
-pub record Ended {F W E : Type 0} (held : F → Held) (given : F → ℕ) (met : F → Faults) (files files' : F)
+pub record Ended {F W E : Type 0} (held : F → Held) (given : F → ℕ) (counts : F → Faults) (files files' : F)
     (written : W → Option Bytes) (faults : W → ℕ) (out out' : W)
-    (told : E → Option Bytes) (failed : E → ℕ) (err err' : E) (words : List Bytes) (result : Status) : Type 0 where
+    (err_written : E → Option Bytes) (err_faults : E → ℕ) (err err' : E) (words : List Bytes) (result : Status) : Type 0 where
   pub end : End
   pub status : result ≡ end_status end
-  pub does : Does held given met files files' written faults out out' words (command_of words) end
-  pub said : EndSaid told failed err err' words end
+  pub does : Does held given counts files files' written faults out out' words (command_of words) end
+  pub said : EndSaid err_written err_faults err err' words end
 
 -- the words that name files
 abbrev pub command_files : Option Command → List NamedFile
@@ -79,8 +77,8 @@ IsNamed words name = (file : NamedFile) × Names words file × (name ≡ name_of
 
 -- no count of a named file rose
 abbrev pub Unfailed : {F : Type 0} → (F → Faults) → F → F → Words → Type 0
-Unfailed met old new words =
-    (file : NamedFile) → Names words file → ¬ Rose (met old (name_of words file)) (met new (name_of words file))
+Unfailed counts old new words =
+    (file : NamedFile) → Names words file → ¬ Rose (counts old (name_of words file)) (counts new (name_of words file))
 
 -- this is what the words ask for over these files
 abbrev pub Asked : {F : Type 0} → (F → Held) → F → Words → Outcome → Type 0

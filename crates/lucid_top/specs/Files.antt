@@ -1,6 +1,6 @@
 -- The files that the words name: how they are read in word order, and what they are told to hold. This page owns all that is said
 -- of statuses 2 and 3. `held`, `given` and `faults` are those of the files.
-use Rattle.std.specs.Prelude.{◌≡◌, ℕ, ◌+◌, ◌<◌, ◌≤◌, ◌⊎◌, List, [], ◌∷◌, ◌++◌, Option, Some, None, Result, Ok, Err, IfSome, if◌then◌else◌, length, map, nat_lt, option_map, Vec}
+use Rattle.std.specs.Prelude.{◌≡◌, ◌≢◌, ℕ, ◌+◌, ◌<◌, ◌≤◌, ◌⊎◌, List, [], ◌∷◌, ◌++◌, Option, Some, None, Result, Ok, Err, IfSome, if◌then◌else◌, length, map, nat_lt, option_map, Vec}
 use Rattle.std.specs.declared.alloc.Global.{Global}
 use Rattle.lucid_io.specs.Contents.{SameHeld}
 use Rattle.lucid_io.specs.Counts.{Rose, NoneFell, SameCounts, OthersKept}
@@ -52,6 +52,7 @@ pub record ReadsNot {T : Type 0} (held : T → Held) (given : T → ℕ) (faults
   pub longer : why ≡ take.TooLong → IfSome (held old name) (λ bytes. limit < length bytes)
   pub same : SameHeld (held old) (held new)
   pub later : NoneFell (faults old) (faults new)
+  pub quiet : why ≢ take.ReadFault → SameCounts (faults old) (faults new)
   pub others : OthersKept (λ other. other ≡ name) (held old) (faults old) (faults new)
 
 -- this file was read whole, and its text comes after those before

@@ -1,5 +1,5 @@
 -- From a program's text to the program, part by part. Every command that takes a program begins so.
-use Rattle.std.specs.Prelude.{◌≡◌, ℕ, List, Option, None, Some, Result, Ok, Err}
+use Rattle.std.specs.Prelude.{◌≡◌, List, Option, None, Some, Result, Ok, Err}
 use Rattle.lucid_core.specs.Parts.{Parts}
 use Rattle.lucid_lex.specs.declared.token.Token.{Token}
 use Rattle.lucid_lex.specs.Reading.{Reads, StopsAt}

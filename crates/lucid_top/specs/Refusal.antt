@@ -1,5 +1,5 @@
 -- Why there is no output, and the error line that says so: a line a refusal in each table.
-use Rattle.std.specs.Prelude.{ℕ, List, ◌++◌, codes, decimal}
+use Rattle.std.specs.Prelude.{List, ◌++◌, codes, decimal}
 use Rattle.lucid_lex.specs.declared.token.LexError.{LexError}
 use Rattle.lucid_lex.specs.declared.token.LexError.TheVariants as lex
 use Rattle.lucid_top.specs.declared.refusal.Refusal.{Refusal}

@@ -1,5 +1,5 @@
 -- What a call writes to a sink. `written` and `faults` are those of the sink.
-use Rattle.std.specs.Prelude.{◌≡◌, ℕ, ◌≤◌, ◌⊎◌, List, Option, Result, Ok, Err, length, take}
+use Rattle.std.specs.Prelude.{◌≡◌, ℕ, ◌≤◌, ◌⊎◌, Option, Ok, Err, length, take}
 use Rattle.std.specs.Io.KnownBytes.{Appends, Keeps}
 use Rattle.lucid_io.specs.Puts.{PutsAll, PutsPart}
 use Rattle.lucid_top.specs.declared.refusal.Refusal.{Refusal}

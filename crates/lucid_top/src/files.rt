@@ -1,5 +1,5 @@
 // The files that the words name, read in word order. All that is said of statuses 2 and 3 comes from here.
-ghost use Rattle.std.specs.Prelude.{◌≡◌, ◌<◌, ◌^◌, All, OnOk, OnErr, IfErr, length, map, string_bytes};
+ghost use Rattle.std.specs.Prelude.{◌<◌, ◌^◌, All, OnOk, IfErr, length, map, string_bytes};
 ghost use Rattle.lucid_top.specs.Files.{FilesRead, ReadsOne, ReadsNone, texts_of, texts_in};
 
 use crate::command::NamedFile;

@@ -2,7 +2,7 @@
 ghost use Rattle.std.specs.Prelude.{◌≡◌, ◌≢◌, ◌⊎◌, ◌+◌, ℕ, List, [], ◌∷◌, Ok, Err};
 ghost use Rattle.std.specs.Io.KnownBytes.{Appends, Keeps};
 ghost use Rattle.lucid_io.specs.Contents.{SameHeld};
-ghost use Rattle.lucid_io.specs.Counts.{Rose, OthersKept};
+ghost use Rattle.lucid_io.specs.Counts.{Rose, SameCounts, OthersKept};
 ghost use Rattle.lucid_io.specs.Puts.{PutsAll, PutsPart};
 ghost use Rattle.lucid_top.specs.Call.{Asked, CanStop, Does, Ended, IsNamed, Names, Told, Unfailed, bytes_of, name_of, named_files};
 ghost use Rattle.lucid_top.specs.Command.{command_of};
@@ -69,6 +69,7 @@ pub fn lucid<F: Files, W: Sink, E: Sink>(
 
     // what stays as it was
     ensures held { SameHeld (F.held files.old) (F.held files.new) }
+    ensures quiet { result ≢ Status.ReadFault → SameCounts (F.faults files.old) (F.faults files.new) }
     ensures others { OthersKept (IsNamed words.now) (F.held files.old) (F.faults files.old) (F.faults files.new) }
 {
     call(alloc, words, files, out, err)

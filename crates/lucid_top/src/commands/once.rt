@@ -3,7 +3,7 @@ ghost use Rattle.std.specs.Prelude.{◌≡◌, All, IfSome, IsTrue, OnOk, OnErr,
 ghost use Rattle.lucid_core.specs.Fits.{event_fits, out_fits};
 ghost use Rattle.lucid_io.specs.Puts.{PutsAll, PutsPart};
 ghost use Rattle.lucid_top.specs.Files.{texts_in};
-ghost use Rattle.lucid_top.specs.Once.{OnceAnswers, last_of, fitting as fitting_of, event_at as event_in, event_of, shown, ran};
+ghost use Rattle.lucid_top.specs.Once.{OnceAnswers, last_of, event_at as event_in, event_of, shown, ran};
 ghost use Rattle.lucid_top.specs.Outcome.{Prepares};
 ghost use Rattle.lucid_top.specs.Words.{word_at};
 ghost use Rattle.lucid_top.specs.Writing.{Performs};

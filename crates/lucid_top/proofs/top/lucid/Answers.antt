@@ -102,6 +102,12 @@ returns-clause-held g c =
     let words = bytes_of c.args.words.now in
     laws.does-held g.F.Files.held g.F.Files.given g.F.Files.faults c.args.files.now c.call.new.files g.W.Sink.written g.W.Sink.faults c.args.out.now c.call.new.out words (command_of words) e.end e.does
 
+pub returns-clause-quiet : goal.returns-clause-quiet
+returns-clause-quiet g c = λ not.
+    let e = c.call.ensures in
+    let words = bytes_of c.args.words.now in
+    laws.does-quiet g.F.Files.held g.F.Files.given g.F.Files.faults c.args.files.now c.call.new.files g.W.Sink.written g.W.Sink.faults c.args.out.now c.call.new.out words (command_of words) e.end e.does (λ is. not (e.status ∙ is))
+
 pub returns-clause-others : goal.returns-clause-others
 returns-clause-others g c =
     let e = c.call.ensures in
