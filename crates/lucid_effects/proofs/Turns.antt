@@ -8,7 +8,7 @@ use Rattle.lucid_core.proofs.Grown.{grown}
 use Rattle.lucid_order.specs.Order.{Body, fun_bodies, handler_bodies}
 use Rattle.lucid_effects.specs.declared.first.Refused.{Refused}
 use Rattle.lucid_schemes.specs.declared.scheme.Scheme.{Scheme}
-use Rattle.lucid_effects.specs.First.{IsFirst}
+use Rattle.lucid_effects.specs.First.{IsFirst, Judges}
 use Rattle.lucid_schemes.specs.Schemes.{handler_schemes, scheme_of, schemes_of}
 
 take_more : {A : Type 0} (xs : List A) (i : ℕ) (x : A) → slice_get xs i ≡ Some x → take (suc i) xs ≡ take i xs ++ x ∷ []
@@ -28,10 +28,6 @@ bodies_more before (g ∷ fs) (suc i) f is =
   where
     the : List FunDef → FunDef → Body
     the b x = record { decl = x.decl; funs = b; body = x.body }
-
--- What the check of one declaration says of the first that isn't in order.
-abbrev pub Judges : ℕ → List Scheme → ℕ → List Stmt → Option Refused → Option Refused → Type 0
-Judges n ss decl body first next = (funs : List FunDef) → ss ≡ schemes_of funs → (bs : List Body) → IsFirst n bs first → IsFirst n (bs ++ record { decl = decl; funs = funs; body = body } ∷ []) next
 
 pub judges_same : (n : ℕ) (ss rs : List Scheme) (decl : ℕ) (body stmts : List Stmt) (first next : Option Refused) → rs ≡ ss → stmts ≡ body → Judges n rs decl stmts first next → Judges n ss decl body first next
 judges_same n ss rs decl body stmts first next same is h = subst (λ (xs : List Scheme). Judges n xs decl body first next) same (subst (λ (b : List Stmt). Judges n rs decl b first next) is h)

@@ -1,9 +1,14 @@
 -- Which of several bodies is the first that isn't in order.
-use Rattle.std.specs.Prelude.{ℕ, List, [], ◌∷◌, Option, None, Some, if◌then◌else◌, nat_lt, All}
+use Rattle.std.specs.Prelude.{◌≡◌, ℕ, List, [], ◌∷◌, ◌++◌, Option, None, Some, if◌then◌else◌, nat_lt, All}
 use Rattle.std.specs.Global.{Vec}
 use Rattle.lucid_base.specs.declared.array.ArrayName.{ArrayName}
-use Rattle.lucid_order.specs.Order.{Body, InOrder}
+use Rattle.lucid_core.specs.declared.body.Stmt.{Stmt}
+use Rattle.lucid_core.specs.declared.defs.FunDef.{FunDef}
+use Rattle.lucid_core.specs.declared.defs.HandlerDef.{HandlerDef}
+use Rattle.lucid_order.specs.Order.{Body, InOrder, handler_bodies}
 use Rattle.lucid_order.specs.Refused.{IsFirstOf}
+use Rattle.lucid_schemes.specs.declared.scheme.Scheme.{Scheme}
+use Rattle.lucid_schemes.specs.Schemes.{schemes_of}
 use Rattle.lucid_effects.specs.declared.first.Refused.{Refused}
 
 -- It is declaration `decl`, and these names are its cycle.
@@ -21,3 +26,13 @@ abbrev pub kept : Option Refused → ℕ → Option (Vec ArrayName) → Option R
 kept first decl None = first
 kept None decl (Some cycle) = Some (record { decl = decl; cycle = cycle })
 kept (Some r) decl (Some cycle) = if nat_lt decl r.decl then Some (record { decl = decl; cycle = cycle }) else Some r
+
+-- One more declaration is judged, behind the functions of these schemes: the first of any bodies stays right with it.
+abbrev pub Judges : ℕ → List Scheme → ℕ → List Stmt → Option Refused → Option Refused → Type 0
+Judges arrays schemes decl body first next = (funs : List FunDef) → schemes ≡ schemes_of funs → (bs : List Body) →
+    IsFirst arrays bs first → IsFirst arrays (bs ++ record { decl = decl; funs = funs; body = body } ∷ []) next
+
+-- And so with all these handlers.
+abbrev pub JudgesHandlers : ℕ → List Scheme → List HandlerDef → Option Refused → Option Refused → Type 0
+JudgesHandlers arrays schemes handlers first next = (funs : List FunDef) → schemes ≡ schemes_of funs → (bs : List Body) →
+    IsFirst arrays bs first → IsFirst arrays (bs ++ handler_bodies funs handlers) next

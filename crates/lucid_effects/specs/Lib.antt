@@ -1,3 +1,4 @@
 pub mod Answers
 pub mod First
 pub mod Goes
+pub mod Spent

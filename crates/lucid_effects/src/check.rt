@@ -1,16 +1,14 @@
 // The check of a program.
-ghost use Rattle.std.specs.Prelude.{◌≡◌, ◌++◌, ◌≤◌, ◌+◌, ◌*◌, [], List, length, map, take, Err, IfErr, IfOk, IsOk, MatchOption, OnOk};
-ghost use Rattle.lucid_core.specs.declared.defs.FunDef.{FunDef};
-ghost use Rattle.lucid_core.specs.Parts.{Parts};
-ghost use Rattle.lucid_core.specs.Valid.{IsSound};
+ghost use Rattle.std.specs.Prelude.{◌≡◌, ◌++◌, ◌≤◌, ◌+◌, ◌*◌, [], length, take, Err, IfErr, IfOk, IsOk, MatchOption, OnOk};
 ghost use Rattle.lucid_order.specs.Laws.{TouchesRise};
-ghost use Rattle.lucid_order.specs.Order.{Body, IsAccepted, bodies, fun_bodies, handler_bodies};
-ghost use Rattle.lucid_effects.specs.Answers.{Tells};
-ghost use Rattle.lucid_effects.specs.First.{IsFirst};
-ghost use Rattle.lucid_order.specs.Size.{fun_nodes, handler_nodes, nodes};
+ghost use Rattle.lucid_order.specs.Order.{IsAccepted, bodies, fun_bodies};
+ghost use Rattle.lucid_order.specs.Size.{nodes};
 ghost use Rattle.lucid_schemes.specs.Laws.{steps_a_node};
 ghost use Rattle.lucid_schemes.specs.Principal.{ArePrincipal};
 ghost use Rattle.lucid_schemes.specs.Schemes.{all_schemes, handler_schemes, schemes_of};
+ghost use Rattle.lucid_effects.specs.Answers.{Tells};
+ghost use Rattle.lucid_effects.specs.First.{IsFirst, JudgesHandlers};
+ghost use Rattle.lucid_effects.specs.Spent.{FunsTake, HandlersTake};
 ghost use Rattle.lucid_effects.specs.declared.error.OrderError.TheVariants as errors;
 
 use crate::declaration::judge;
@@ -44,7 +42,7 @@ fn check_funs<L: Ledger>(
 ) -> Result<Judged, Memory>
     ensures schemes { IfOk result (λ j. j.schemes.items ≡ schemes_of funs.now) }
     ensures first { IfOk result (λ j. IsFirst arrays (fun_bodies [] funs.now) j.first) }
-    ensures most { (parts : Parts) → IsSound parts → parts.funs ≡ funs.now → length parts.arrays ≡ arrays → steps.new ≤ steps.old + fun_nodes funs.now * steps_a_node arrays }
+    ensures most { FunsTake arrays funs.now steps.old steps.new }
 {
     let mut schemes: Vec<Scheme> = Vec::new(alloc);
     let mut first: Option<Refused> = None;
@@ -79,8 +77,8 @@ fn check_handlers<L: Ledger>(
     steps: &mut Steps<L>,
 ) -> Result<Judged, Memory>
     ensures schemes { IfOk result (λ j. j.schemes.items ≡ judged.schemes.items ++ handler_schemes judged.schemes.items handlers.now) }
-    ensures first { IfOk result (λ j. (funs : List FunDef) → judged.schemes.items ≡ schemes_of funs → (bs : List Body) → IsFirst arrays bs judged.first → IsFirst arrays (bs ++ handler_bodies funs handlers.now) j.first) }
-    ensures most { (parts : Parts) → IsSound parts → judged.schemes.items ≡ schemes_of parts.funs → parts.handlers ≡ handlers.now → length parts.arrays ≡ arrays → steps.new ≤ steps.old + handler_nodes handlers.now * steps_a_node arrays }
+    ensures first { IfOk result (λ j. JudgesHandlers arrays judged.schemes.items handlers.now judged.first j.first) }
+    ensures most { HandlersTake arrays judged.schemes.items handlers.now steps.old steps.new }
 {
     let Judged {
         mut schemes,

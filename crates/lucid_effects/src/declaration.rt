@@ -1,9 +1,7 @@
 // The check of one body.
-ghost use Rattle.std.specs.Prelude.{◌≡◌, ◌≤◌, ◌++◌, ◌∷◌, [], List, IfOk, OnOk};
-ghost use Rattle.lucid_core.specs.declared.defs.FunDef.{FunDef};
-ghost use Rattle.lucid_order.specs.Order.{Body};
-ghost use Rattle.lucid_effects.specs.First.{IsFirst};
-ghost use Rattle.lucid_schemes.specs.Schemes.{begun, body_found, scheme_of, schemes_of};
+ghost use Rattle.std.specs.Prelude.{◌≡◌, ◌≤◌, IfOk, OnOk};
+ghost use Rattle.lucid_schemes.specs.Schemes.{begun, body_found, scheme_of};
+ghost use Rattle.lucid_effects.specs.First.{Judges};
 
 use crate::first::{Refused, keep};
 use crate::walk::body;
@@ -48,7 +46,7 @@ pub fn judge<L: Ledger>(
 ) -> Result<Scheme, Memory>
     ensures scheme { IfOk result (λ s. s ≡ scheme_of schemes.now stmts.now) }
     ensures most { steps.new ≤ (body_found stmts.now schemes.now (begun steps.old)).steps }
-    ensures first { OnOk result ((funs : List FunDef) → schemes.now ≡ schemes_of funs → (bs : List Body) → IsFirst arrays bs first.old → IsFirst arrays (bs ++ record { decl = decl; funs = funs; body = stmts.now } ∷ []) first.new) }
+    ensures first { OnOk result (Judges arrays schemes.now decl stmts.now first.old first.new) }
 {
     let found = scheme(alloc, schemes, stmts, steps)?;
     let cycle = found.needs.cycle(alloc, arrays)?;

@@ -5,7 +5,8 @@ ghost use Rattle.lucid_constraints.specs.Same.{same_atom, same_pair, join_all};
 ghost use Rattle.lucid_constraints.specs.Substitution.{pair};
 ghost use Rattle.lucid_order.specs.Evaluation.{optional, sequence};
 ghost use Rattle.lucid_effects.specs.Goes.{Goes, walked};
-ghost use Rattle.lucid_schemes.specs.Schemes.{passes as passes_by, through as through_by, goes_through as goes_through_by, finds, expr_found, given_found, stmt_found, touch_found, body_found};
+ghost use Rattle.lucid_schemes.specs.Schemes.{passes as passes_by, through as through_by, goes_through as goes_through_by, finds};
+ghost use Rattle.lucid_schemes.specs.Schemes.{expr_found, given_found, stmt_found, touch_found, body_found};
 
 use lucid_base::{ArrayName, Items, Memory, Steps};
 use lucid_constraints::{Atom, Order, Pair, ends_at, join_ends};

@@ -23,7 +23,8 @@ SchemesArePrincipal = (parts : Parts) → ArePrincipal (bodies parts) (all_schem
 abbrev pub CyclesTell : Type 0
 CyclesTell = (arrays : ℕ) (funs : List FunDef) (body : List Stmt) →
     (HasNumbering (Needed arrays (scheme_of (schemes_of funs) body).needs) → InOrder arrays funs body)
-    × ((first : ArrayName) (others : List ArrayName) → c.IsCycle (Needed arrays (scheme_of (schemes_of funs) body).needs) first others → IsCycle arrays (paths funs body) first others)
+    × ((first : ArrayName) (others : List ArrayName) →
+    c.IsCycle (Needed arrays (scheme_of (schemes_of funs) body).needs) first others → IsCycle arrays (paths funs body) first others)
 
 -- How many steps a node may take, where so many arrays are declared.
 abbrev pub steps_a_node : ℕ → ℕ
@@ -31,7 +32,8 @@ steps_a_node arrays = 2 * ((arrays + 9) * (arrays + 9))
 
 -- The walk along the body of a declaration, behind these functions, takes at most so many steps for each node, the declaration among them.
 abbrev pub TakesFewSteps : ℕ → List FunDef → List Stmt → Type 0
-TakesFewSteps arrays funs body = (steps : ℕ) → (body_found body (schemes_of funs) (begun steps)).steps ≤ steps + (1 + body_walk size body) * steps_a_node arrays
+TakesFewSteps arrays funs body = (steps : ℕ) →
+    (body_found body (schemes_of funs) (begun steps)).steps ≤ steps + (1 + body_walk size body) * steps_a_node arrays
 
 -- So it is of all functions and handlers, though their derivations may be exponentially large.
 pub record WalksAreShort (parts : Parts) : Type 0 where

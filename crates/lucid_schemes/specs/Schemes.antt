@@ -39,7 +39,10 @@ passes a = λ fs w. record (add_all (map (pair a) w.ends) (visit w)) { ends = Af
 
 -- Both branches begin where the walk stands, and it then stands at the ends of both.
 abbrev pub either : Act → Act → Act
-either f g = λ fs w. let left = f fs w in let right = g fs (record left { ends = w.ends }) in record right { ends = join_all same_atom left.ends right.ends }
+either f g = λ fs w.
+    let left = f fs w in
+    let right = g fs (record left { ends = w.ends }) in
+    record right { ends = join_all same_atom left.ends right.ends }
 
 -- A function's scheme, with the caller's arrays and places put in.
 abbrev pub through : Option Scheme → List ArrayName → Walked → Walked
