@@ -1,5 +1,6 @@
 // The worked examples of the step, run by `run_whole`, and each form of expression and statement that a core has.
 mod forms;
+mod order;
 mod worked;
 
 use self::forms::{empty, formed};
