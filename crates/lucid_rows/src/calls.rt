@@ -36,6 +36,22 @@ const EARLY: &str = "handle go() { generate go(); }
 event go();
 ";
 
+/// The array that is declared first is called last.
+const CROSSED: &str = "global Array.t<<32>> x = Array.create(1);
+global Array.t<<32>> y = Array.create(1);
+event e();
+handle e() { Array.set(y, 0, 1); Array.set(x, 0, 1); }
+";
+
+/// An array is called twice.
+const TWICE: &str = "global Array.t<<32>> x = Array.create(2);
+event e();
+event f();
+handle f() { Array.set(x, 0, 1); }
+
+handle e() { Array.set(x, 0, 1); generate f(); Array.set(x, 1, 1); }
+";
+
 const FIRST_OUT: &str = "[0] s0 pkt(5)
   generate seen(5,7) delay 0 here
 s0 last[1] = 7
@@ -182,6 +198,57 @@ fn other_texts_are_refused(rt: HostRuntime) -> Result<(), Fail> {
             "",
             "read fault: none\n",
         ),
+    ];
+    all_hold(&rt, rt.alloc(), &rows)
+}
+
+#[test]
+fn accepted_programs_are_counted(rt: HostRuntime) -> Result<(), Fail> {
+    let rows: [Row; 6] = [
+        (
+            "check p",
+            "",
+            Status::Ok,
+            "ok arrays 0 memops 0 events 0 handlers 0 functions 0\n",
+            "",
+        ),
+        (
+            "check p",
+            FIRST,
+            Status::Ok,
+            "ok arrays 1 memops 0 events 2 handlers 1 functions 0\n",
+            "",
+        ),
+        (
+            "check p",
+            TWO,
+            Status::Ok,
+            "ok arrays 0 memops 0 events 3 handlers 1 functions 0\n",
+            "",
+        ),
+        ("check", FIRST, Status::Usage, "", "usage\n"),
+        ("check p p", FIRST, Status::Usage, "", "usage\n"),
+        (
+            "check none",
+            FIRST,
+            Status::ReadFault,
+            "",
+            "read fault: none\n",
+        ),
+    ];
+    all_hold(&rt, rt.alloc(), &rows)
+}
+
+#[test]
+fn programs_out_of_order_are_refused(rt: HostRuntime) -> Result<(), Fail> {
+    let crossed = "order: declaration 4 line 4 cycle x y\n";
+    let twice = "order: declaration 5 line 6 cycle x\n";
+    let rows: [Row; 5] = [
+        ("check p", CROSSED, Status::Order, "", crossed),
+        ("check p", TWICE, Status::Order, "", twice),
+        ("once p e", CROSSED, Status::Order, "", crossed),
+        ("once p f", TWICE, Status::Order, "", twice),
+        ("once p nobody", TWICE, Status::Order, "", twice),
     ];
     all_hold(&rt, rt.alloc(), &rows)
 }

@@ -27,6 +27,7 @@ use Rattle.lucid_top.proofs.Readings.{Agrees, read-agrees, read-why, read-rose, 
 -- ---- what is alike
 
 same-refl : (r : Refusal) → SameRefusal r r
+same-refl (refusal.NoOrder decl line cycle) = (refl, refl)
 same-refl r = refl
 
 Alike-refl : (o : Outcome) → Alike o o
@@ -34,6 +35,7 @@ Alike-refl (Ok text) = refl
 Alike-refl (Err r) = same-refl r
 
 same-status : (r s : Refusal) → SameRefusal r s → status_of r ≡ status_of s
+same-status (refusal.NoOrder decl line cycle) (refusal.NoOrder decl' line' cycle') same = refl
 same-status r s same = ap status_of same
 
 -- ---- an end, by what words and told files determine

@@ -46,3 +46,11 @@ pub Prepares-ok : {Q X Y : Type 0} (part : Result X Refusal → Type 0) (rest : 
     IsTheAnswer part (Ok x) → Prepares (rest x) view result → Prepares (FollowedBy part rest) view result
 Prepares-ok part rest view x (Ok q) first second = went_on part rest x (Ok (view q)) first second
 Prepares-ok part rest view x (Err r) first second = Declines-second part rest x r first second
+
+-- a text that is determined is the answer
+pub one-text : {X : Type 0} (text : X) → IsTheAnswer (λ (o : Result X Refusal). o ≡ Ok text) (Ok text)
+one-text {X} text = record { is = refl; only = only }
+  where
+    only : (p : Result X Refusal) → p ≡ Ok text → Alike p (Ok text)
+    only (Ok y) same = cc
+    only (Err r) same = absurd (cc)

@@ -3,6 +3,7 @@ use Rattle.std.specs.Prelude.{◌≡◌, List, Option, None, Some, Ok, Err, IsSo
 use Rattle.lucid_top.specs.declared.command.Command.{Command}
 use Rattle.lucid_top.specs.declared.command.Command.TheVariants as command
 use Rattle.lucid_top.specs.declared.refusal.Refusal.TheVariants as refusal
+use Rattle.lucid_top.specs.Check.{CheckAnswers}
 use Rattle.lucid_top.specs.Command.{command_of, files_of}
 use Rattle.lucid_top.specs.Files.{Held, Texts, contents}
 use Rattle.lucid_top.specs.Once.{OnceAnswers}
@@ -11,10 +12,12 @@ use Rattle.lucid_top.specs.Words.{Bytes, word_at}
 
 -- what a command of these words answers over the texts of its files
 abbrev pub CommandAnswers : Command → List Bytes → List Bytes → Outcome → Type 0
+CommandAnswers command.Check words texts o = CheckAnswers (word_at texts 0) o
 CommandAnswers (command.Once arguments) words texts o = OnceAnswers (word_at texts 0) (word_at words 2) arguments o
 
 -- where a command may run out of memory after it began to write
 abbrev pub MayStop : Command → List Bytes → Type 0
+MayStop command.Check texts = ⊥
 MayStop (command.Once arguments) texts = ⊥
 
 -- nothing is an answer where a file doesn't tell what it holds; a file that is too long is the answer

@@ -1,10 +1,15 @@
 -- What the words of a call ask for, and which of them name files: a line a command in each table.
-use Rattle.std.specs.Prelude.{ℕ, List, [], ◌∷◌, Option, None, if◌then◌else◌, codes, option_map}
+use Rattle.std.specs.Prelude.{ℕ, List, [], ◌∷◌, Option, None, Some, if◌then◌else◌, codes, option_map}
 use Rattle.std.specs.Str.{bytes_eq}
 use Rattle.lucid_top.specs.declared.command.Command.{Command}
 use Rattle.lucid_top.specs.declared.command.Command.TheVariants as command
 use Rattle.lucid_top.specs.declared.command.NamedFile.{NamedFile}
 use Rattle.lucid_top.specs.Words.{Bytes, numbers_of, arguments_of}
+
+-- `check P`
+abbrev pub check_words : List Bytes → Option Command
+check_words (program ∷ []) = Some command.Check
+check_words words = None
 
 -- `once P NAME ARG..`
 abbrev pub once_words : List Bytes → Option Command
@@ -14,7 +19,10 @@ once_words words = None
 -- the command that the words ask for; None where they are none of the forms
 abbrev pub command_of : List Bytes → Option Command
 command_of [] = None
-command_of (verb ∷ words) = if bytes_eq verb (codes "once") then once_words words else None
+command_of (verb ∷ words) =
+    if bytes_eq verb (codes "check") then check_words words
+    else if bytes_eq verb (codes "once") then once_words words
+    else None
 
 -- a program file: at most one mebibyte
 abbrev pub program_file : ℕ → NamedFile
@@ -22,4 +30,5 @@ program_file word = record { word = word; limit = 1048576 }
 
 -- the words that name files, in word order
 abbrev pub files_of : Command → List NamedFile
+files_of command.Check = program_file 1 ∷ []
 files_of (command.Once arguments) = program_file 1 ∷ []

@@ -1,5 +1,6 @@
 pub mod Answer
 pub mod Call
+pub mod Check
 pub mod Command
 pub mod Files
 pub mod Once

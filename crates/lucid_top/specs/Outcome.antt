@@ -23,9 +23,10 @@ abbrev pub end_status : End → Status
 end_status (Ok u) = status.Ok
 end_status (Err r) = status_of r
 
--- Either refusal may be given for the other. They are the same; a refusal that may tell any of several things, as any of several
--- cycles, would be compared here without it.
+-- Either refusal may be given for the other. They are the same, but that a declaration which isn't in order may have several cycles,
+-- of which any is told.
 abbrev pub SameRefusal : Refusal → Refusal → Type 0
+SameRefusal (refusal.NoOrder decl line cycle) (refusal.NoOrder decl' line' cycle') = (decl ≡ decl') × (line ≡ line')
 SameRefusal r s = r ≡ s
 
 -- either outcome may be given for the other

@@ -1,6 +1,6 @@
 // What the words of a call ask for, read by place.
 ghost use Rattle.std.specs.Prelude.{◌≡◌, ◌+◌, ◌<◌, ◌^◌, All, IfSome, length, map, string_bytes};
-ghost use Rattle.lucid_top.specs.Command.{command_of, once_words, files_of};
+ghost use Rattle.lucid_top.specs.Command.{command_of, check_words, once_words, files_of};
 
 use crate::number::arguments;
 use lucid_base::Args;
@@ -8,6 +8,8 @@ use lucid_base::Args;
 /// What the words ask for. The words that it reads again are told by place.
 #[derive(Clone, Copy)]
 pub enum Command {
+    /// `check P`
+    Check,
     /// `once P NAME ARG..`
     Once {
         /// The numbers that ARG.. write; None where there are more than any event has.
@@ -26,6 +28,11 @@ pub struct NamedFile {
 /// The most bytes that a program file may have.
 const PROGRAM_BYTES: usize = 1_048_576;
 
+const CHECK_FILES: [NamedFile; 1] = [NamedFile {
+    word: 1,
+    limit: PROGRAM_BYTES,
+}];
+
 const ONCE_FILES: [NamedFile; 1] = [NamedFile {
     word: 1,
     limit: PROGRAM_BYTES,
@@ -38,8 +45,12 @@ impl Command {
         ensures there { IfSome result (λ c. All (λ file. file.word < length words.now) (files_of c)) }
     {
         match words {
-            [verb, rest @ ..] if verb.as_str() == "once" => read_once(rest),
-            _ => None,
+            [verb, rest @ ..] => match verb.as_str() {
+                "check" => read_check(rest),
+                "once" => read_once(rest),
+                _ => None,
+            },
+            [] => None,
         }
     }
 
@@ -49,8 +60,19 @@ impl Command {
         ensures small { All (λ file. file.limit < 2 ^ 32) result.now }
     {
         match self {
+            Command::Check => &CHECK_FILES,
             Command::Once { .. } => &ONCE_FILES,
         }
+    }
+}
+
+fn read_check(words: &[String]) -> Option<Command>
+    ensures command { result ≡ check_words (map string_bytes words.now) }
+    ensures there { IfSome result (λ c. All (λ file. file.word < 1 + length words.now) (files_of c)) }
+{
+    match words {
+        [_] => Some(Command::Check),
+        _ => None,
     }
 }
 

@@ -5,10 +5,12 @@ ghost use Rattle.lucid_top.specs.Command.{files_of};
 ghost use Rattle.lucid_top.specs.Files.{texts_in};
 ghost use Rattle.lucid_top.specs.Writing.{Performs};
 
+mod check;
 mod once;
 
 use crate::command::Command;
 use crate::refusal::Refusal;
+use check::check;
 use lucid_io::Sink;
 use once::once;
 use std::alloc::Global;
@@ -26,6 +28,7 @@ pub fn perform<W: Sink>(
         Performs (MayStop command texts') answers W.written W.faults out.old out.new result }
 {
     match command {
+        Command::Check => check(alloc, texts, out),
         Command::Once { arguments } => once(alloc, words, texts, arguments, out),
     }
 }

@@ -2,12 +2,12 @@
 ghost use Rattle.std.specs.Prelude.{◌≡◌, ◌++◌, OnOk, OnErr, codes, map, string_bytes};
 ghost use Rattle.lucid_io.specs.Puts.{PutsAll, PutsPart};
 ghost use Rattle.lucid_top.specs.Files.{of_take};
-ghost use Rattle.lucid_top.specs.Refusal.{status_of, line_of};
+ghost use Rattle.lucid_top.specs.Refusal.{status_of, line_of, names_text, order_line};
 ghost use Rattle.lucid_top.specs.Words.{word_at};
 ghost use Rattle.lucid_top.specs.Writing.{Said};
 
 use crate::status::Status;
-use lucid_base::Memory as WantOfMemory;
+use lucid_base::{Id, Memory as WantOfMemory};
 use lucid_io::{Sink, Take, WriteFault, put_all};
 use lucid_lex::LexError;
 use lucid_log::{Piece, put_pieces};
@@ -26,6 +26,15 @@ pub enum Refusal {
     NoToken(usize),
     /// The tokens are no program.
     NoProgram,
+    /// A declaration doesn't touch arrays in order.
+    NoOrder {
+        /// Its number among all declarations, from 1: the first that isn't in order.
+        decl: u32,
+        /// The line on which it begins, from 1.
+        line: u32,
+        /// The names of a cycle, each of which is needed before the next and the last before the first.
+        cycle: Vec<Id>,
+    },
     /// A write of the output failed.
     WriteFault,
     /// Memory ran out.
@@ -99,6 +108,7 @@ impl Refusal {
             Refusal::ReadFault(_) => Status::ReadFault,
             Refusal::TooLong(_) => Status::TooLong,
             Refusal::NoToken(_) | Refusal::NoProgram => Status::Syntax,
+            Refusal::NoOrder { .. } => Status::Order,
             Refusal::WriteFault => Status::WriteFault,
             Refusal::Memory => Status::Memory,
         }
@@ -144,6 +154,7 @@ fn put_line<E: Sink>(err: &mut E, words: &[String], refusal: &Refusal) -> Result
             ],
         ),
         Refusal::NoProgram => put_all(err, b"syntax\n"),
+        Refusal::NoOrder { decl, line, cycle } => put_order(err, *decl, *line, cycle.as_slice()),
         Refusal::WriteFault => put_all(err, b"write fault\n"),
         Refusal::Memory => put_all(err, b"memory\n"),
     }
@@ -169,4 +180,34 @@ fn put_file<'a, E: Sink>(
             Piece::Text(b"\n"),
         ],
     )
+}
+
+// The line that tells a declaration that isn't in order.
+fn put_order<E: Sink>(err: &mut E, decl: u32, line: u32, cycle: &[Id]) -> Result<(), WriteFault>
+    ensures all { OnOk result (PutsAll E.written E.faults err.old err.new (order_line decl line cycle.now)) }
+    ensures part { OnErr result (PutsPart E.written E.faults err.old err.new (order_line decl line cycle.now)) }
+{
+    put_pieces(
+        err,
+        &[
+            Piece::Text(b"order: declaration "),
+            Piece::Number(decl as u64),
+            Piece::Text(b" line "),
+            Piece::Number(line as u64),
+            Piece::Text(b" cycle"),
+        ],
+    )?;
+    put_names(err, cycle)?;
+    put_all(err, b"\n")
+}
+
+// Names, each after a blank.
+fn put_names<E: Sink>(err: &mut E, names: &[Id]) -> Result<(), WriteFault>
+    ensures all { OnOk result (PutsAll E.written E.faults err.old err.new (names_text names.now)) }
+    ensures part { OnErr result (PutsPart E.written E.faults err.old err.new (names_text names.now)) }
+{
+    for name in names {
+        put_pieces(err, &[Piece::Text(b" "), Piece::Text(name.bytes())])?;
+    }
+    Ok(())
 }

@@ -1,17 +1,10 @@
-use Rattle.std.proofs.Common.{◌≡◌, List, Result, rules, subst}
-use Rattle.lucid_core.specs.Parts.{Parts}
-use Rattle.lucid_lex.specs.declared.token.Token.{Token}
-use Rattle.lucid_small.specs.Spelled.{core_of}
-use Rattle.lucid_top.specs.declared.refusal.Refusal.{Refusal}
-use Rattle.lucid_top.specs.Outcome.{Prepares}
-use Rattle.lucid_top.specs.Program.{AreTokens, spelled}
+use Rattle.std.proofs.Common.{rules}
+use Rattle.lucid_top.specs.Program.{IsSpelled}
 use Rattle.lucid_top.proofs.Parts.{Prepares-err, Prepares-ok}
 use Rattle.lucid_top.proofs.program.accepted.Goals as goal
 
-pub returns-in_err-tokens : goal.returns-in_err-tokens
-returns-in_err-tokens c = Prepares-err (AreTokens c.args.text.now) _ _ c.in_err-tokens.field-0.0 c.from_residual.result (search rules) c.in_err-tokens.ensures
+pub returns-in_err-core : goal.returns-in_err-core
+returns-in_err-core c = Prepares-err (IsSpelled c.args.text.now) _ _ c.in_err-core.field-0.0 c.from_residual.result (search rules) c.in_err-core.ensures
 
 pub returns : goal.returns
-returns c =
-    Prepares-ok (AreTokens c.args.text.now) _ _ c.in_ok-tokens.tokens.items c.spelled_core.result c.in_ok-tokens.ensures
-    (subst (λ (ts : List Token). Prepares (λ (o : Result Parts Refusal). o ≡ spelled (core_of c.args.text.now ts)) (λ (core : Parts). core) c.spelled_core.result) c.as_slice.ensures.value c.spelled_core.ensures)
+returns c = Prepares-ok (IsSpelled c.args.text.now) _ _ c.in_ok-core.core c.in_order.result c.in_ok-core.ensures c.in_order.ensures
