@@ -1,0 +1,13 @@
+-- What is found is the shape, fits, and means what the body does.
+use Rattle.lucid_memop.proofs.Finding.{exact}
+use Rattle.lucid_memop.proofs.Promises.{found_fits, found_means}
+use Rattle.lucid_memop.proofs.body.shape.Goals as goal
+
+pub returns-clause-shape : goal.returns-clause-shape
+returns-clause-shape c = exact c.args.width c.args.body.now c.memop.result c.memop.ensures
+
+pub returns-clause-fits : goal.returns-clause-fits
+returns-clause-fits c = found_fits c.args.width c.args.body.now c.memop.result c.memop.ensures
+
+pub returns-clause-means : goal.returns-clause-means
+returns-clause-means c = found_means c.args.width c.args.body.now c.memop.result c.memop.ensures
