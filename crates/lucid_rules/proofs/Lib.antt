@@ -1,0 +1,11 @@
+pub mod AcceptedProofs
+pub mod ExampleProofs
+pub mod FewCases
+pub mod First
+pub mod Leaves
+pub mod Opened
+pub mod OpenedStatement
+pub mod RefusedDeclarations
+pub mod RefusedExpressions
+pub mod RefusedStatements
+pub mod Rolled

@@ -1,0 +1,15 @@
+pub mod Accepted
+pub mod Block
+pub mod Declaration
+pub mod Examples
+pub mod Found
+pub mod Leaves
+pub mod Limits
+pub mod Makes
+pub mod Memop
+pub mod Names
+pub mod Refused
+pub mod Operators
+pub mod Sends
+pub mod Typed
+pub mod Types
