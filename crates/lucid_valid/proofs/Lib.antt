@@ -1,0 +1,11 @@
+pub mod Lists
+pub mod Suits
+pub mod Expressions
+pub mod Numbering
+pub mod Blocks
+pub mod Assigns
+pub mod Tops
+pub mod Counted
+pub mod Memops
+pub mod Linked
+pub mod Programs
