@@ -1,0 +1,12 @@
+pub mod Complete
+pub mod Declarations
+pub mod Forms
+pub mod Leads
+pub mod Memops
+pub mod Parts
+pub mod Sendings
+pub mod Signs
+pub mod Sound
+pub mod StatementComplete
+pub mod StatementForms
+pub mod StatementSound
