@@ -1,0 +1,6 @@
+pub mod Tallies
+pub mod Forms
+pub mod FewCases
+pub mod Passing
+pub mod Stays
+pub mod New

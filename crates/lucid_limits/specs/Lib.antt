@@ -1,0 +1,4 @@
+pub mod Tally
+pub mod Cases
+pub mod NewPart
+pub mod Laws
