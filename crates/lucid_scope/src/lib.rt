@@ -1,0 +1,7 @@
+// The names in scope while a program is typed. Each is found as the rules see it, and the names of a block end with it.
+// Stands on lucid_base and lucid_rules.
+#![tactic(auto)]
+
+mod scope;
+
+pub use scope::Scope;

@@ -1,0 +1,15 @@
+// The cores of expressions: what the typing function gives at a place that asks for a type and at a free place, or that it gives none.
+// Stands on lucid_base, lucid_tree, lucid_core, lucid_rules, lucid_typing and lucid_scope.
+#![tactic(auto)]
+
+mod array;
+mod expressions;
+mod fault;
+mod lead;
+mod names;
+mod node;
+mod operator;
+
+pub use expressions::{all_free, call, expression, free, given, touch};
+pub use fault::Fault;
+pub use lead::{bare, free_width};
