@@ -1,0 +1,34 @@
+// What is numbered on the way through a body.
+ghost use Rattle.std.specs.Prelude.{◌≡◌, IfOk, length};
+ghost use Rattle.std.specs.Prelude.{OnOk, OnErr};
+ghost use Rattle.lucid_rules.specs.Block.{one_local};
+ghost use Rattle.lucid_statements.specs.Bodies.{numbered_of};
+
+use lucid_base::{Id, Items, Memory, Width};
+
+/// The widths of a body's locals so far, and the texts of the program so far.
+#[derive(Drop)]
+pub struct Numbering {
+    pub locals: Items<Width>,
+    pub forms: Items<Id>,
+}
+
+impl Numbering {
+    /// The number of the next local. Memory is the answer past the last number that there is.
+    pub fn next_local(&self) -> Result<u32, Memory>
+        ensures { IfOk result (λ i. i ≡ length self.now.locals) }
+    {
+        match u32::try_from(self.locals.len()) {
+            Ok(i) => Ok(i),
+            Err(_) => Err(Memory),
+        }
+    }
+
+    /// One local more, of this width.
+    pub fn add_local(&mut self, width: Width) -> Result<(), Memory>
+        ensures { OnOk result (numbered_of self.new ≡ one_local width (numbered_of self.old)) }
+    {
+        self.locals.push(width)?;
+        Ok(())
+    }
+}
