@@ -4,7 +4,7 @@ use lucid_base::{
     ArrayName, BinOp, Bits, Boxed, CmpOp, Id, Items, MemAlu, MemArg, MemSide, Memory, UnOp, Width,
 };
 use lucid_core::{Expr, FunDef, Stmt, Touch};
-use lucid_inline::{Site, block, flatten};
+use lucid_inline::{InlineError, Site, block, inline};
 use lucid_lex::lex;
 use lucid_small::read_core;
 use std::alloc::Global;
@@ -210,21 +210,43 @@ fn every_form_is_put_in(rt: HostRuntime) -> Result<(), Fail> {
     Ok(())
 }
 
-#[test]
-fn a_program_without_calls_stays_as_it_is(rt: HostRuntime) -> Result<(), Fail> {
-    let alloc = rt.alloc();
-    let text =
-        b"global Array.t<<32>> a = Array.create(4); event e(int i, int v); handle e(int i, int v) { Array.set(a, i, 7); generate e(v, 1); }";
-    let tokens = lex(alloc, text)?;
-    let mut counts = [0usize; 3];
-    if let Some(core) = read_core(alloc, text, tokens.as_slice())? {
-        let flat = flatten(alloc, &core)?;
-        counts = [
-            flat.arrays().len(),
-            flat.events().len(),
-            flat.handlers().len(),
-        ];
+/// What becomes of a program where the normal form has room for so many ops: the arrays, events and handlers of its flat form.
+fn inlined(alloc: Global, text: &[u8], room: usize) -> Result<[usize; 3], InlineError> {
+    let tokens = match lex(alloc, text) {
+        Err(_) => return Err(InlineError::Memory),
+        Ok(tokens) => tokens,
+    };
+    match read_core(alloc, text, tokens.as_slice())? {
+        None => Ok([0; 3]),
+        Some(core) => {
+            let flat = inline(alloc, &core, room)?;
+            Ok([
+                flat.arrays().len(),
+                flat.events().len(),
+                flat.handlers().len(),
+            ])
+        }
     }
-    assert_eq!(rt; counts, [1, 1, 1]);
+}
+
+/// Two handlers, each with a call of the array and an event.
+const TWICE: &[u8] =
+    b"global Array.t<<32>> a = Array.create(4); event e(int i); event f(int i); handle e(int i) { Array.set(a, i, 7); generate f(i); } handle f(int i) { Array.set(a, i, 8); generate e(i); }";
+
+#[test]
+fn a_program_is_put_in_where_there_is_room(rt: HostRuntime) -> Result<(), Fail> {
+    let alloc = rt.alloc();
+    assert_eq!(rt; inlined(alloc, TWICE, 4), Ok([1, 2, 2]));
+    let second = InlineError::TooMany {
+        handler: 1,
+        count: 4,
+    };
+    assert_eq!(rt; inlined(alloc, TWICE, 3), Err(second));
+    assert_eq!(rt; inlined(alloc, TWICE, 2), Err(second));
+    let first = InlineError::TooMany {
+        handler: 0,
+        count: 4,
+    };
+    assert_eq!(rt; inlined(alloc, TWICE, 1), Err(first));
     Ok(())
 }

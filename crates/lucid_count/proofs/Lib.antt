@@ -1,0 +1,5 @@
+pub mod Flags
+pub mod Joining
+pub mod Agrees
+pub mod LawOfCounts
+pub mod Summing

@@ -1,0 +1,6 @@
+pub mod Bodies
+pub mod Counts
+pub mod Flags
+pub mod Found
+pub mod Rounds
+pub mod Sums

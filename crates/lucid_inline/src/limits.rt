@@ -1,0 +1,43 @@
+// The flat form of a core within its limits.
+ghost use Rattle.std.specs.Prelude.{◌≡◌, IfErr, IfOk};
+ghost use Rattle.lucid_flat.specs.Flat.{flat_of};
+ghost use Rattle.lucid_flat.specs.Laws.{KeepsOrder, KeepsSteps};
+ghost use Rattle.lucid_inline.specs.Refusals.{Fits, Refused, largest};
+
+use crate::error::InlineError;
+use crate::program::flatten;
+use lucid_core::{Core, Flat};
+use lucid_count::count_core;
+use lucid_flat::{keeps_order, keeps_steps};
+use std::alloc::Global;
+
+/// The largest flat form that is built.
+fn most() -> u64
+    ensures { result ≡ largest }
+{
+    262_144
+}
+
+/// The flat form of a core. Both counts are found first, in proportion to the core, and nothing is built where one passes its bound:
+/// `TooMany` where the normal form has more than `room` ops, else `TooLarge` where the flat form has more than 262,144 statements and
+/// calls. The flat form does at each event what the core does, calls the same arrays in the same order, and is in order where the core is.
+pub fn inline(alloc: Global, core: &Core, room: usize) -> Result<Flat, InlineError>
+    ensures flat { IfOk result (λ flat. flat ≡ flat_of core.now) }
+    ensures fits { IfOk result (λ flat. Fits core.now room) }
+    ensures refused { IfErr result (Refused core.now room) }
+    ensures steps { KeepsSteps core.now }
+    ensures order { KeepsOrder core.now }
+{
+    keeps_steps(core);
+    keeps_order(core);
+    let totals = count_core(alloc, core, room as u64, most())?;
+    if let Some(handler) = totals.length.passed {
+        let count = totals.length.total;
+        return Err(InlineError::TooMany { handler, count });
+    }
+    if let Some(handler) = totals.size.passed {
+        let size = totals.size.total;
+        return Err(InlineError::TooLarge { handler, size });
+    }
+    Ok(flatten(alloc, core)?)
+}
