@@ -1,0 +1,91 @@
+// Pairs of rows, made and kept as long as there are not too many.
+ghost use Rattle.std.specs.Prelude.{◌≡◌, ◌+◌, ◌*◌, ◌≤◌, ◌++◌, [], ◌∷◌, length, IfOk};
+ghost use Rattle.std.specs.List.{list_any};
+ghost use Rattle.lucid_tables.specs.declared.table.Row.{Row as TableRow};
+ghost use Rattle.lucid_merge.specs.Product.{includes, default, pairs_with, kept_of};
+ghost use Rattle.lucid_merge.specs.Offers.{Offered};
+
+use crate::patterns::{contradict, includes, pair};
+use lucid_base::{Items, Memory, Steps};
+use lucid_code::Literal;
+use lucid_tables::Row;
+use std::alloc::Global;
+use std::sync::ledger::Ledger;
+
+/// Whether a pattern includes that of a row that was kept. It takes a step for each row that it compares.
+fn is_covered<L: Ledger>(pattern: &[Literal], kept: &[Row], steps: &mut Steps<L>) -> bool
+    ensures value { result ≡ list_any (λ (k : TableRow). includes pattern.now k.pattern) kept.now }
+    ensures steps { steps.new ≤ steps.old + length kept.now }
+{
+    for row in kept {
+        steps.tick();
+        if includes(pattern, row.pattern.as_slice()) {
+            return true;
+        }
+    }
+    false
+}
+
+/// Makes a pair of two rows, keeps it where it has to be kept, and tells whether there are still at most so many.
+fn offer<L: Ledger>(
+    alloc: Global,
+    kept: &mut Items<Row>,
+    a: &Row,
+    b: &Row,
+    most: usize,
+    steps: &mut Steps<L>,
+) -> Result<bool, Memory>
+    ensures offered { IfOk result (λ r. Offered most kept.new (kept_of kept.old (pairs_with a.now (b.now ∷ []))) r) }
+    ensures steps { steps.new ≤ steps.old + (length kept.old + 1) }
+{
+    steps.tick();
+    if !contradict(a.pattern.as_slice(), b.pattern.as_slice()) {
+        let row = pair(alloc, a, b)?;
+        if !is_covered(row.pattern.as_slice(), kept.as_slice(), steps) {
+            kept.push(row)?;
+        }
+    }
+    Ok(kept.len() <= most)
+}
+
+/// Pairs a row with each of these, and stops as soon as there are too many.
+pub(crate) fn offer_each<L: Ledger>(
+    alloc: Global,
+    kept: &mut Items<Row>,
+    a: &Row,
+    rows: &[Row],
+    most: usize,
+    steps: &mut Steps<L>,
+) -> Result<bool, Memory>
+    requires { length kept.old ≤ most }
+    ensures offered { IfOk result (λ r. Offered most kept.new (kept_of kept.old (pairs_with a.now rows.now)) r) }
+    ensures steps { steps.new ≤ steps.old + length rows.now * (most + 1) }
+{
+    for b in rows {
+        if !offer(alloc, kept, a, b, most, steps)? {
+            return Ok(false);
+        }
+    }
+    Ok(true)
+}
+
+/// Pairs a row with each of these and with their default, and stops as soon as there are too many.
+pub(crate) fn offer_all<L: Ledger>(
+    alloc: Global,
+    kept: &mut Items<Row>,
+    a: &Row,
+    rows: &[Row],
+    last: &Row,
+    most: usize,
+    steps: &mut Steps<L>,
+) -> Result<bool, Memory>
+    requires few { length kept.old ≤ most }
+    requires last { last.now ≡ default }
+    ensures offered { IfOk result (λ r. Offered most kept.new (kept_of kept.old (pairs_with a.now (rows.now ++ default ∷ []))) r) }
+    ensures steps { steps.new ≤ steps.old + (length rows.now + 1) * (most + 1) }
+{
+    if !offer_each(alloc, kept, a, rows, most, steps)? {
+        return Ok(false);
+    }
+    offer(alloc, kept, a, last, most, steps)
+}
