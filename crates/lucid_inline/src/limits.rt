@@ -5,10 +5,10 @@ ghost use Rattle.lucid_flat.specs.Laws.{KeepsOrder, KeepsSteps};
 ghost use Rattle.lucid_inline.specs.Refusals.{Fits, Refused, largest};
 
 use crate::error::InlineError;
-use crate::program::flatten;
 use lucid_core::{Core, Flat};
 use lucid_count::count_core;
 use lucid_flat::{keeps_order, keeps_steps};
+use lucid_flatten::flatten;
 use std::alloc::Global;
 
 /// The largest flat form that is built.

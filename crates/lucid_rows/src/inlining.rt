@@ -1,10 +1,11 @@
-// Bodies with their calls put in: each call of lucid_inline once, with every form in what it puts in. Which flat form they make, their
+// Bodies with their calls put in: each call of lucid_flatten and lucid_inline once, with every form in what it puts in. Which flat form they make, their
 // contracts say; what is asserted here was worked by hand.
 use lucid_base::{
     ArrayName, BinOp, Bits, Boxed, CmpOp, Id, Items, MemAlu, MemArg, MemSide, Memory, UnOp, Width,
 };
 use lucid_core::{Expr, FunDef, Stmt, Touch};
-use lucid_inline::{InlineError, Site, block, inline};
+use lucid_flatten::{Site, block};
+use lucid_inline::{InlineError, inline};
 use lucid_lex::lex;
 use lucid_small::read_core;
 use std::alloc::Global;

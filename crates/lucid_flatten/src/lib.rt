@@ -1,0 +1,13 @@
+// The flat form of a core, built: each call has its body put in (lucid_flat's specs/Flat.antt), and the result is valid by its type. It
+// counts nothing, so a caller pays for the whole size of what it asks for; lucid_inline counts first.
+// Stands on lucid_base, lucid_core, lucid_copy and lucid_flat.
+#![tactic(auto)]
+
+mod bodies;
+mod group;
+mod program;
+mod site;
+
+pub use bodies::block;
+pub use program::flatten;
+pub use site::Site;
