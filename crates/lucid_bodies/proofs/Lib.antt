@@ -1,0 +1,4 @@
+pub mod Arms
+pub mod Assembled
+pub mod Kept
+pub mod Matches
