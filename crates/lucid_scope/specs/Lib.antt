@@ -1,1 +1,1 @@
-pub mod Latest
+pub mod Places

@@ -1,4 +1,5 @@
-// The names in scope while a program is typed. Each is found as the rules see it, and the names of a block end with it.
+// The names in scope while a program is typed. Each is found as the rules see it, at once however many there are, and the names of a
+// block end with it.
 // Stands on lucid_base and lucid_rules.
 #![tactic(auto)]
 

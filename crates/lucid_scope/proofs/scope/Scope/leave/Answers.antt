@@ -1,10 +1,10 @@
--- The last names end.
-use Rattle.std.proofs.Common.{◌-◌, ◌∙◌, List, ap, drop, length, reverse}
-use Rattle.lucid_rules.specs.declared.scope.Named.{Named}
-use Rattle.lucid_scope.proofs.Names.{ended}
+-- One name less.
+use Rattle.std.proofs.Common.{◌∙◌, ◌<◌, ◌-◌, ℕ, ap, drop, length, subst}
+use Rattle.lucid_rules.specs.Names.{Names}
+use Rattle.lucid_scope.proofs.Places.{one_less}
 use Rattle.lucid_scope.proofs.scope.Scope.leave.Goals as goal
 
-pub returns : goal.returns
-returns c =
-    ap reverse c.truncate.ensures.items ∙ ended c.self.inside.named.items c.args.len
-    ∙ ap (λ (names : List Named). drop (length names - c.args.len) names) c.self.view_is
+pub loop-self-preserved : goal.loop-self-preserved
+loop-self-preserved c =
+    ap (λ (names : Names). drop (length names - c.args.len) names) c.leave_newest.ensures
+    ∙ one_less c.loop-self.self c.args.len (subst (λ (n : ℕ). c.args.len < n) c.len.ensures c.loop-self-test.true) ∙ c.loop-self.invariant
