@@ -1,3 +1,4 @@
 pub mod Chains
 pub mod Holes
 pub mod Onto
+pub mod Places

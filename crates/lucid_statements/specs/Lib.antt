@@ -1,3 +1,4 @@
 pub mod Arms
 pub mod Assembly
 pub mod Bodies
+pub mod Places

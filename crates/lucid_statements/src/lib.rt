@@ -15,4 +15,5 @@ pub use arms::{Arm, Tested, begin, behind_test, chain};
 pub use assembly::{assemble, chosen};
 pub use numbering::Numbering;
 pub use simple::{assign, declare, does, drop_call, drop_touch, generate, give_back, print};
+pub use texts::Texts;
 pub use types::{type_of, width_of};

@@ -4,13 +4,14 @@ ghost use Rattle.std.specs.Prelude.{OnOk, OnErr};
 ghost use Rattle.lucid_rules.specs.Block.{one_local};
 ghost use Rattle.lucid_statements.specs.Bodies.{numbered_of};
 
-use lucid_base::{Id, Items, Memory, Width};
+use crate::texts::Texts;
+use lucid_base::{Items, Memory, Width};
 
 /// The widths of a body's locals so far, and the texts of the program so far.
 #[derive(Drop)]
 pub struct Numbering {
     pub locals: Items<Width>,
-    pub forms: Items<Id>,
+    pub forms: Texts,
 }
 
 impl Numbering {

@@ -9,7 +9,7 @@ ghost use Rattle.lucid_statements.specs.Bodies.{Leaves, Takes, numbered_of};
 
 use crate::Numbering;
 use crate::sendings::{self, sending};
-use crate::texts::{holes, number};
+use crate::texts::holes;
 use crate::types::{type_of, width_of};
 use lucid_base::{Boxed, Id, Items, Memory};
 use lucid_core::{Expr, Stmt};
@@ -116,7 +116,7 @@ pub fn print(
     if args.len() != holes(text.bytes()) {
         return Err(Fault::NoRule);
     }
-    let form = number(alloc, &mut numbering.forms, text)?;
+    let form = numbering.forms.number(alloc, text)?;
     Ok(one(alloc, Stmt::Say { form, args }, Ending::Never)?)
 }
 

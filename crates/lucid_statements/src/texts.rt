@@ -1,11 +1,13 @@
 // The texts of prints.
-ghost use Rattle.std.specs.Prelude.{◌≡◌, IfOk, bytes_eq, position};
+ghost use Rattle.std.specs.Prelude.{◌≡◌, ◌∷◌, ◌++◌, [], None, IfOk, OnOk, bytes_eq, length, position};
 ghost use Rattle.lucid_core.specs.Texts.{holes_of};
 ghost use Rattle.lucid_rules.specs.Block.{form_number, one_form};
 ghost use Rattle.lucid_statements.specs.Bodies.{IsNumbered, is_hole};
 
-use lucid_base::{Id, Items, Memory};
+use lucid_base::{Id, Memory};
 use std::alloc::Global;
+use std::collections::HashMap;
+use std::marker::Model;
 
 /// How often `%d` stands in a text.
 #[tactic(auto, using(crate::proofs::Holes::holes_at, crate::proofs::Holes::no_holes, std::proofs::lemmas::Grind::common_steps))]
@@ -31,24 +33,88 @@ fn is_hole(first: u8, second: u8) -> bool
     first == b'%' && second == b'd'
 }
 
-/// The number of a text, which is added where it is new. Memory is the answer past the last number that there is.
-pub fn number(alloc: Global, forms: &mut Items<Id>, text: &Id) -> Result<u32, Memory>
-    ensures { IsNumbered result text.now forms.old forms.new }
-{
-    match place_of(forms.as_slice(), text) {
-        Some(place) => Ok(to_number(place)?),
-        None => {
-            let place = forms.len();
-            forms.push(text.copy(alloc)?)?;
-            Ok(to_number(place)?)
-        }
-    }
+/// The texts of a program so far, which contracts see as the list of their bytes in the order of their numbers. A text is found at
+/// once, however many there are.
+#[derive(Drop)]
+pub struct Texts {
+    texts: Vec<Id>,
+    // For each text its place in `texts`.
+    places: HashMap<Id, usize>,
 }
 
-fn place_of(forms: &[Id], text: &Id) -> Option<usize>
-    ensures { result ≡ position (bytes_eq text.now) forms.now }
-{
-    forms.iter().position(|form| *text == *form)
+impl Model for Texts {
+    ghost use Rattle.std.specs.Prelude.{List, ℕ};
+
+    ghost Value = { List (List ℕ) };
+
+    ghost use Rattle.lucid_statements.specs.Places.{IsIndexed};
+
+    ghost view = { λ t. t.texts.items };
+
+    ghost invariant = { λ t. IsIndexed t.texts.items t.places };
+}
+
+impl Texts {
+    /// No texts.
+    pub fn new(alloc: Global) -> Texts
+        ensures { result ≡ [] }
+    {
+        Texts {
+            texts: Vec::new(alloc),
+            places: HashMap::new(alloc),
+        }
+    }
+
+    /// The number of a text, which is added where it is new. Memory is the answer past the last number that there is.
+    pub fn number(&mut self, alloc: Global, text: &Id) -> Result<u32, Memory>
+        ensures { IsNumbered result text.now self.old self.new }
+    {
+        match self.place_of(text) {
+            Some(place) => Ok(to_number(place)?),
+            None => {
+                let place = self.len();
+                self.add(alloc, text)?;
+                Ok(to_number(place)?)
+            }
+        }
+    }
+
+    /// The texts, in the order of their numbers.
+    pub fn into_vec(self) -> Vec<Id>
+        ensures { result.items ≡ self }
+    {
+        self.texts
+    }
+
+    fn len(&self) -> usize
+        ensures { result ≡ length self.now }
+    {
+        self.texts.len()
+    }
+
+    fn place_of(&self, text: &Id) -> Option<usize>
+        ensures { result ≡ position (bytes_eq text.now) self.now }
+    {
+        self.places.get(text).copied()
+    }
+
+    // Adds a text that is new.
+    fn add(&mut self, alloc: Global, text: &Id) -> Result<(), Memory>
+        requires { position (bytes_eq text.now) self.old ≡ None }
+        ensures { OnOk result (self.new ≡ self.old ++ text.now ∷ []) }
+    {
+        let key = text.copy(alloc)?;
+        let form = text.copy(alloc)?;
+        let place = self.texts.len();
+        self.texts.push(form)?;
+        match self.places.insert(key, place) {
+            Ok(_) => Ok(()),
+            Err(_) => {
+                self.texts.pop();
+                Err(Memory)
+            }
+        }
+    }
 }
 
 fn to_number(place: usize) -> Result<u32, Memory>
