@@ -1,0 +1,2 @@
+pub mod NewPart
+pub mod Reading

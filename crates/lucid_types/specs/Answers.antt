@@ -1,0 +1,44 @@
+-- What the elaborator answers of a tree that has no core, and of one declaration.
+use Rattle.std.specs.Prelude.{◌≡◌, ℕ, Option, Some, None, Result, Ok, Err}
+use Rattle.lucid_base.specs.declared.memory.Memory.{Memory as WantOfMemory}
+use Rattle.lucid_tree.specs.declared.tree.Decl.{Decl}
+use Rattle.lucid_tree.specs.declared.tree.DeclKind.{DeclKind}
+use Rattle.lucid_tree.specs.declared.tree.Tree.{Tree}
+use Rattle.lucid_rules.specs.declared.limit.What.{What}
+use Rattle.lucid_rules.specs.Declaration.{Made, parts_of}
+use Rattle.lucid_rules.specs.Found.{Refusal, on_made}
+use Rattle.lucid_rules.specs.Limits.{passed}
+use Rattle.lucid_rules.specs.Makes.{IsRefused, IsTyped}
+use Rattle.lucid_typing.specs.Declaration.{declaration}
+use Rattle.lucid_limits.specs.declared.limits.Limits.{Limits}
+use Rattle.lucid_limits.specs.NewPart.{Knows}
+use Rattle.lucid_types.specs.declared.error.TypeError.{TypeError}
+use Rattle.lucid_types.specs.declared.error.TypeError.TheVariants.{NoRule, Limit, Memory}
+
+-- The first declaration that is refused, with its line and the limit that it passes. Want of memory tells nothing.
+abbrev pub Tells : Tree → TypeError → Type 0
+Tells tree (NoRule decl line) = IsRefused tree decl line None
+Tells tree (Limit what decl line) = IsRefused tree decl line (Some what)
+Tells tree Memory = Unit {0}
+
+-- What is found of declarations is this refusal.
+abbrev pub IsTold : TypeError → Result Made Refusal → Type 0
+IsTold (NoRule decl line) r = r ≡ Err (record { decl = decl; line = line; limit = None })
+IsTold (Limit what decl line) r = r ≡ Err (record { decl = decl; line = line; limit = Some what })
+IsTold Memory r = Unit {0}
+
+-- Whatever follows the declaration: it follows what the declaration makes, or the refusal is found.
+abbrev pub Adds : Result (Unit {0}) TypeError → ℕ → Decl → Made → Made → Limits → Type 0
+Adds (Ok u) number x m l limits =
+    ((next : Made → Result Made Refusal) → on_made number x (declaration number x.line x.kind m) next ≡ next l) × Knows l.funs limits
+Adds (Err e) number x m l limits = (next : Made → Result Made Refusal) → IsTold e (on_made number x (declaration number x.line x.kind m) next)
+
+-- The limit that a declaration passes which makes this; what the next one asks is known, where it passes none.
+abbrev pub Passes : Result (Option What) WantOfMemory → DeclKind → Made → Limits → Type 0
+Passes (Ok w) x l limits = (w ≡ passed x (parts_of l)) × (w ≡ None → Knows l.funs limits)
+Passes (Err e) x l limits = Unit {0}
+
+-- Whatever was made before, behind typed declarations whose outs are known: where this declaration made l of it, the limit that it passes.
+abbrev pub Judges : Result (Option What) WantOfMemory → DeclKind → Made → Limits → Limits → Type 0
+Judges r x l old new =
+    (front : Tree) (number line : ℕ) (m : Made) → IsTyped front (parts_of m) → Knows m.funs old → declaration number line x m ≡ Some l → Passes r x l new

@@ -1,0 +1,13 @@
+// The elaborator: the core of a tree. `elaborate` answers exactly where the typing rules derive one, with that core, which is valid;
+// else it tells the first declaration that is refused, its line, and the limit that it passes, if it has a rule.
+// Stands on lucid_declarations for what each declaration makes, on lucid_limits for the limits, and on lucid_rules, lucid_typing and
+// lucid_valid for what the rules say of the whole.
+#![tactic(auto)]
+
+mod error;
+mod limit;
+mod parts;
+mod program;
+
+pub use error::TypeError;
+pub use program::elaborate;

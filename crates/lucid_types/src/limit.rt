@@ -1,0 +1,63 @@
+// The limit that the newest declaration passes.
+ghost use Rattle.std.specs.Prelude.{◌≡◌, ◌-◌, length, slice_get};
+ghost use Rattle.std.specs.Option.{option_copied};
+ghost use Rattle.lucid_declarations.specs.Known.{made_of};
+ghost use Rattle.lucid_types.specs.Answers.{Judges};
+
+use lucid_base::Memory;
+use lucid_declarations::Known;
+use lucid_limits::{Limits, only_the_new_counts};
+use lucid_rules::What;
+use lucid_tree::DeclKind;
+use lucid_typing::declarations_are_computed;
+
+/// What this declaration passes, which made what is known the last.
+pub fn passed(limits: &mut Limits, known: &Known, x: &DeclKind) -> Result<Option<What>, Memory>
+    ensures { Judges result x.now (made_of known.now) limits.old limits.new }
+{
+    declarations_are_computed();
+    only_the_new_counts();
+    match x {
+        DeclKind::Const(_, _, _) => Ok(None),
+        DeclKind::Global {
+            short: _,
+            width: _,
+            name: _,
+            size: _,
+        } => Ok(Limits::array(known.arrays.as_slice().len())),
+        DeclKind::Memop {
+            name: _,
+            first: _,
+            second: _,
+            body: _,
+        } => Ok(None),
+        DeclKind::Event { name: _, params: _ } => match newest(&known.events) {
+            Some(event) => Ok(Limits::event(event)),
+            None => Ok(None),
+        },
+        DeclKind::Handle {
+            name: _,
+            params: _,
+            body,
+        } => match newest(&known.handlers) {
+            Some(handler) => Ok(limits.handler(handler, body.as_slice())),
+            None => Ok(None),
+        },
+        DeclKind::Fun {
+            answer: _,
+            name: _,
+            params: _,
+            body,
+        } => match newest(&known.funs) {
+            Some(fun) => limits.fun(fun, body.as_slice()),
+            None => Ok(None),
+        },
+        DeclKind::Group(_, _) => Ok(None),
+    }
+}
+
+fn newest<T>(items: &Vec<T>) -> Option<&T>
+    ensures { option_copied result ≡ slice_get items.now.items (length items.now.items - 1) }
+{
+    items.get(items.len().saturating_sub(1))
+}

@@ -1,0 +1,32 @@
+// The core of what was made.
+ghost use Rattle.std.specs.Prelude.{◌≡◌};
+ghost use Rattle.lucid_core.specs.Valid.{IsValid};
+ghost use Rattle.lucid_rules.specs.Declaration.{parts_of};
+ghost use Rattle.lucid_declarations.specs.Known.{made_of};
+
+use lucid_core::Core;
+use lucid_declarations::Known;
+
+/// The core of what is known.
+pub fn core_of(known: Known) -> Core
+    requires { IsValid (parts_of (made_of known)) }
+    ensures { result ≡ parts_of (made_of known) }
+{
+    let Known {
+        scope: _scope,
+        numbering,
+        arrays,
+        memops,
+        events,
+        funs,
+        handlers,
+    } = known;
+    Core::new(
+        arrays,
+        memops,
+        events,
+        funs,
+        handlers,
+        numbering.forms.into_vec(),
+    )
+}

@@ -1,0 +1,81 @@
+// From a tree to its core.
+ghost use Rattle.std.specs.Prelude.{◌≡◌, ◌+◌, IfErr, IfOk};
+ghost use Rattle.lucid_tree.specs.declared.tree.Tree.{Tree as Program};
+ghost use Rattle.lucid_rules.specs.Declaration.{parts_of};
+ghost use Rattle.lucid_rules.specs.Found.{IsDetermined};
+ghost use Rattle.lucid_rules.specs.Makes.{IsTyped};
+ghost use Rattle.lucid_declarations.specs.Known.{made_of};
+ghost use Rattle.lucid_limits.specs.NewPart.{Knows};
+ghost use Rattle.lucid_types.specs.Answers.{Adds, Tells};
+
+use crate::error::TypeError;
+use crate::limit::passed;
+use crate::parts::core_of;
+use lucid_base::Memory;
+use lucid_core::Core;
+use lucid_declarations::{Known, declare};
+use lucid_limits::Limits;
+use lucid_rules::the_first_refusal_is_found;
+use lucid_terms::Fault;
+use lucid_tree::{Decl, Tree};
+use lucid_typing::declarations_are_computed;
+use lucid_valid::typed_programs_are_valid;
+use std::alloc::Global;
+
+/// The core of the tree, where the rules derive one; else the first declaration that is refused, and why. A tree has one of the two.
+pub fn elaborate(alloc: Global, tree: &Tree) -> Result<Core, TypeError>
+    ensures typed { IfOk result (λ core. IsTyped tree.now core) }
+    ensures refused { IfErr result (Tells tree.now) }
+    ensures one { IsDetermined tree.now }
+{
+    declarations_are_computed();
+    the_first_refusal_is_found();
+    typed_programs_are_valid();
+    let mut known = Known::new(alloc);
+    let mut limits = Limits::new(alloc);
+    let mut number = 0u32;
+    for x in tree.decls.as_slice() {
+        number = next(number)?;
+        add(alloc, &mut known, &mut limits, number, x)?;
+    }
+    Ok(core_of(known))
+}
+
+fn next(number: u32) -> Result<u32, Memory>
+    ensures { IfOk result (λ k. k ≡ number + 1) }
+{
+    match number.checked_add(1) {
+        Some(next) => Ok(next),
+        None => Err(Memory),
+    }
+}
+
+/// Adds what declaration `number` makes behind what is known, which the rules derive of the declarations before.
+fn add(
+    alloc: Global,
+    known: &mut Known,
+    limits: &mut Limits,
+    number: u32,
+    x: &Decl,
+) -> Result<(), TypeError>
+    ensures { (front : Program) → IsTyped front (parts_of (made_of known.old)) → Knows known.old.funs.items limits.old →
+        Adds result number x.now (made_of known.old) (made_of known.new) limits.new }
+{
+    match declare(alloc, known, number, x) {
+        Err(fault) => match fault {
+            Fault::NoRule => Err(TypeError::NoRule {
+                decl: number,
+                line: x.line,
+            }),
+            Fault::Memory => Err(TypeError::Memory),
+        },
+        Ok(()) => match passed(limits, known, &x.kind)? {
+            Some(what) => Err(TypeError::Limit {
+                what,
+                decl: number,
+                line: x.line,
+            }),
+            None => Ok(()),
+        },
+    }
+}
