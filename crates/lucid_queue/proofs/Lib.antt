@@ -1,0 +1,4 @@
+mod Entries
+mod Firsts
+mod InOrder
+mod Places
