@@ -1,1 +1,2 @@
 mod ExampleProofs
+mod InOrder

@@ -2,11 +2,12 @@
 use Rattle.std.specs.Prelude.{ℕ, zero, suc, ◌+◌, List, [], ◌∷◌, ◌++◌, Option, None, Some, false, length, replicate, slice_index_or, slice_set}
 use Rattle.std.specs.List.{count_by, find}
 use Rattle.lucid_base.specs.Cells.{zero_cells}
+use Rattle.lucid_base.specs.declared.event.Event.{Event}
 use Rattle.lucid_conf.specs.declared.limits.Limits.{Limits}
 use Rattle.lucid_conf.specs.declared.scene.FileEvent.{FileEvent}
 use Rattle.lucid_conf.specs.declared.scene.Scene.{Scene}
 use Rattle.lucid_core.specs.Parts.{Parts}
-use Rattle.lucid_core.specs.Step.{step}
+use Rattle.lucid_core.specs.Step.{Stepped, step}
 use Rattle.lucid_log.specs.Block.{block_text}
 use Rattle.lucid_log.specs.Cells.{cells_text}
 use Rattle.lucid_log.specs.Ending.{ending_text}
@@ -45,21 +46,34 @@ start net = record {
   lost = 0;
 }
 
+-- What a run makes pending, what it writes, and how many events it loses: of the run alone, whenever that is told.
+abbrev pub made : Network → Run → List Pending
+made net run = pending_outs net run 0 run.outs
+
 abbrev pub block : Network → Run → List ℕ
 block net run = block_text net.parts run.tick run.switch run.event run.outs (lost_marks net run 0 run.outs)
+
+abbrev pub losses : Network → Run → ℕ
+losses net run = count_by (is_lost net run) run.outs
+
+-- What an event does that enters the switch at the tick, and its run.
+abbrev pub done_at : Network → ℕ → ℕ → State → Event → Stepped
+done_at net tick switch now event = net.does (slice_index_or now.cells switch []) tick switch event
+
+abbrev pub run_at : Network → ℕ → ℕ → State → Event → Run
+run_at net tick switch now event = record { tick = tick; switch = switch; event = event; outs = (done_at net tick switch now event).outs }
 
 -- The event enters the switch at the tick, if there is one, and runs whole.
 abbrev pub enters : Network → ℕ → ℕ → State → Option Pending → State
 enters net tick switch now None = now
 enters net tick switch now (Some p) =
-    let did = net.does (slice_index_or now.cells switch []) tick switch p.event in
-    let run : Run = record { tick = tick; switch = switch; event = p.event; outs = did.outs } in
+    let run = run_at net tick switch now p.event in
     record {
-      cells = slice_set now.cells switch did.cells;
-      pending = put_all (pending_outs net run 0 run.outs) (without_first (is_ready switch tick) now.pending);
+      cells = slice_set now.cells switch (done_at net tick switch now p.event).cells;
+      pending = put_all (made net run) (without_first (is_ready switch tick) now.pending);
       text = now.text ++ block net run;
       entered = now.entered + 1;
-      lost = now.lost + count_by (is_lost net run) run.outs;
+      lost = now.lost + losses net run;
     }
 
 -- The turn of a switch at a tick; the turns of the first switches, in order; and the first ticks.
