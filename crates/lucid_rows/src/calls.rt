@@ -1,24 +1,13 @@
 // Calls of the program over files and sinks in memory: what each writes, byte by byte, and how it ends.
-use lucid_io::{MemFile, MemFiles, MemSink};
-use lucid_top::{Status, lucid};
+use crate::running::{Row, all_hold, holds, run, run_well};
+use lucid_top::Status;
 use std::alloc::Global;
-use std::process::Abort;
 use std::test::Fail;
 
 const FIRST: &str = "global Array.t<<32>> last = Array.create(4);
 event seen(int i, int n);
 event pkt(int i);
 handle pkt(int i) { Array.set(last, i, 7); generate seen(i, 7); }
-";
-
-const COUNTER: &str = "global Array.t<<32>> hits = Array.create(4);
-memop plus(int stored, int x) { return stored + x; }
-event seen(int i, int n);
-event pkt(int i);
-handle pkt(int i) {
-  int n = Array.update(hits, i, plus, 1, plus, 1);
-  generate Event.delay(seen(i, n), 10);
-}
 ";
 
 const TWO: &str = "event a(int x);
@@ -61,68 +50,6 @@ const TWO_OUT: &str = "[0] s0 go(9)
   generate a(9) delay 0 here
   generate b() delay 0 here
 ";
-
-/// What a call left.
-#[derive(Drop)]
-struct Ran {
-    status: Status,
-    out: MemSink,
-    err: MemSink,
-}
-
-/// The words of `line` over one file `p` of this text; the calls on files and the writes of `out` whose numbers stand in `reads` and
-/// `writes` fail.
-fn run(
-    alloc: Global,
-    line: &str,
-    text: &[u8],
-    reads: Vec<u64>,
-    writes: Vec<u64>,
-) -> Result<Ran, Fail> {
-    let mut words = Vec::new(alloc);
-    for word in line.split(' ') {
-        words.push(String::from_str(alloc, word)?)?;
-    }
-    let mut held = Vec::new(alloc);
-    held.push(MemFile {
-        name: String::from_str(alloc, "p")?,
-        bytes: Vec::from_slice(alloc, text)?,
-    })?;
-    let mut files = MemFiles::new(alloc, held, reads)?;
-    let mut out = MemSink::new(alloc, 4096, writes)?;
-    let mut err = MemSink::new(alloc, 4096, Vec::new(alloc))?;
-    let status = lucid(alloc, words.as_slice(), &mut files, &mut out, &mut err);
-    Ok(Ran { status, out, err })
-}
-
-fn holds(rt: &impl Abort, ran: Ran, status: Status, out: &str, err: &str, line: &str) {
-    assert_eq!(rt; ran.status, status, "status of {line}");
-    assert!(rt; ran.out.bytes() == out.as_bytes(), "output of {line}");
-    assert!(rt; ran.err.bytes() == err.as_bytes(), "error line of {line}");
-}
-
-/// A row: the words, the text of the program, and what the call leaves.
-type Row = (
-    &'static str,
-    &'static str,
-    Status,
-    &'static str,
-    &'static str,
-);
-
-fn all_hold(rt: &impl Abort, alloc: Global, rows: &[Row]) -> Result<(), Fail> {
-    for (line, text, status, out, err) in rows {
-        let ran = run(
-            alloc,
-            line,
-            text.as_bytes(),
-            Vec::new(alloc),
-            Vec::new(alloc),
-        )?;
-        holds(rt, ran, *status, out, err, line);
-    }
-    Ok(())
-}
 
 #[test]
 fn events_that_fit_are_run(rt: HostRuntime) -> Result<(), Fail> {
@@ -174,9 +101,14 @@ fn other_words_are_refused(rt: HostRuntime) -> Result<(), Fail> {
 
 #[test]
 fn other_texts_are_refused(rt: HostRuntime) -> Result<(), Fail> {
-    let rows: [Row; 5] = [
-        ("once p pkt 5", COUNTER, Status::Syntax, "", "syntax\n"),
-        ("once p go", EARLY, Status::Syntax, "", "syntax\n"),
+    let rows: [Row; 4] = [
+        (
+            "once p go",
+            EARLY,
+            Status::Types,
+            "",
+            "types: declaration 1 line 1\n",
+        ),
         (
             "once p go",
             "event #",
@@ -266,22 +198,10 @@ fn padded(alloc: Global, length: usize) -> Result<Vec<u8>, Fail> {
 fn file_of_the_limit_is_read_and_one_byte_more_is_not(rt: HostRuntime) -> Result<(), Fail> {
     let alloc = rt.alloc();
     let text = padded(alloc, 1_048_576)?;
-    let ran = run(
-        alloc,
-        "once p pkt 5",
-        text.as_slice(),
-        Vec::new(alloc),
-        Vec::new(alloc),
-    )?;
+    let ran = run_well(alloc, "once p pkt 5", text.as_slice())?;
     holds(&rt, ran, Status::Ok, FIRST_OUT, "", "a file of the limit");
     let text = padded(alloc, 1_048_577)?;
-    let ran = run(
-        alloc,
-        "once p pkt 5",
-        text.as_slice(),
-        Vec::new(alloc),
-        Vec::new(alloc),
-    )?;
+    let ran = run_well(alloc, "once p pkt 5", text.as_slice())?;
     holds(
         &rt,
         ran,
@@ -301,13 +221,7 @@ fn program_of_a_thousand_events_is_run(rt: HostRuntime) -> Result<(), Fail> {
         text.push_str(format!(in alloc; "event e{id}(int v);\n")?.as_str())?;
     }
     text.push_str("handle e999(int v) { generate e0(v); generate e999(7); }\n")?;
-    let ran = run(
-        alloc,
-        "once p e999 5",
-        text.as_str().as_bytes(),
-        Vec::new(alloc),
-        Vec::new(alloc),
-    )?;
+    let ran = run_well(alloc, "once p e999 5", text.as_str().as_bytes())?;
     let out = "[0] s0 e999(5)\n  generate e0(5) delay 0 here\n  generate e999(7) delay 0 here\n";
     holds(&rt, ran, Status::Ok, out, "", "a thousand events");
     Ok(())
@@ -327,13 +241,7 @@ fn names_of_a_hundred_bytes_are_read(rt: HostRuntime) -> Result<(), Fail> {
     let out = format!(in alloc;
         "[0] s0 {NAME}()\n  generate {NAME}() delay 0 here\ns0 {NAME}x[0] = 1\n"
     )?;
-    let ran = run(
-        alloc,
-        line.as_str(),
-        text.as_str().as_bytes(),
-        Vec::new(alloc),
-        Vec::new(alloc),
-    )?;
+    let ran = run_well(alloc, line.as_str(), text.as_str().as_bytes())?;
     holds(
         &rt,
         ran,

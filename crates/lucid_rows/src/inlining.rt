@@ -1,13 +1,12 @@
 // Bodies with their calls put in: each call of lucid_flatten and lucid_inline once, with every form in what it puts in. Which flat form they make, their
 // contracts say; what is asserted here was worked by hand.
+use crate::cores::core_of;
 use lucid_base::{
     ArrayName, BinOp, Bits, Boxed, CmpOp, Id, Items, MemAlu, MemArg, MemSide, Memory, UnOp, Width,
 };
-use lucid_core::{Expr, FunDef, Stmt, Touch};
+use lucid_core::{Core, Expr, FunDef, Stmt, Touch};
 use lucid_flatten::{Site, block};
 use lucid_inline::{InlineError, inline};
-use lucid_lex::lex;
-use lucid_small::read_core;
 use std::alloc::Global;
 use std::test::Fail;
 
@@ -211,43 +210,58 @@ fn every_form_is_put_in(rt: HostRuntime) -> Result<(), Fail> {
     Ok(())
 }
 
-/// What becomes of a program where the normal form has room for so many ops: the arrays, events and handlers of its flat form.
-fn inlined(alloc: Global, text: &[u8], room: usize) -> Result<[usize; 3], InlineError> {
-    let tokens = match lex(alloc, text) {
-        Err(_) => return Err(InlineError::Memory),
-        Ok(tokens) => tokens,
+/// What becomes of a program where the normal form has room for so many ops: the arrays, events and handlers of its flat form, and
+/// the locals of its first handler.
+fn inlined(alloc: Global, core: &Core, room: usize) -> Result<[usize; 4], InlineError> {
+    let flat = inline(alloc, core, room)?;
+    let locals = match flat.handlers().get(0) {
+        Some(handler) => handler.locals.len(),
+        None => 0,
     };
-    match read_core(alloc, text, tokens.as_slice())? {
-        None => Ok([0; 3]),
-        Some(core) => {
-            let flat = inline(alloc, &core, room)?;
-            Ok([
-                flat.arrays().len(),
-                flat.events().len(),
-                flat.handlers().len(),
-            ])
-        }
-    }
+    Ok([
+        flat.arrays().len(),
+        flat.events().len(),
+        flat.handlers().len(),
+        locals,
+    ])
 }
 
 /// Two handlers, each with a call of the array and an event.
 const TWICE: &[u8] =
     b"global Array.t<<32>> a = Array.create(4); event e(int i); event f(int i); handle e(int i) { Array.set(a, i, 7); generate f(i); } handle f(int i) { Array.set(a, i, 8); generate e(i); }";
 
+/// A call in the argument of a call. Each body is one sum, and the event one op more.
+const NESTED: &[u8] =
+    b"event e(int i); fun int f(int x) { int y = x; return y + 1; } handle e(int i) { generate e(f(f(i))); }";
+
+fn too_many(handler: u32, count: u64) -> Result<[usize; 4], InlineError> {
+    Err(InlineError::TooMany { handler, count })
+}
+
 #[test]
 fn a_program_is_put_in_where_there_is_room(rt: HostRuntime) -> Result<(), Fail> {
     let alloc = rt.alloc();
-    assert_eq!(rt; inlined(alloc, TWICE, 4), Ok([1, 2, 2]));
-    let second = InlineError::TooMany {
-        handler: 1,
-        count: 4,
-    };
-    assert_eq!(rt; inlined(alloc, TWICE, 3), Err(second));
-    assert_eq!(rt; inlined(alloc, TWICE, 2), Err(second));
-    let first = InlineError::TooMany {
-        handler: 0,
-        count: 4,
-    };
-    assert_eq!(rt; inlined(alloc, TWICE, 1), Err(first));
+    let core = core_of(alloc, TWICE)?;
+    let rows = [
+        (4, Ok([1, 2, 2, 1])),
+        (3, too_many(1, 4)),
+        (2, too_many(1, 4)),
+        (1, too_many(0, 4)),
+    ];
+    for (room, wanted) in rows {
+        assert_eq!(rt; inlined(alloc, &core, room), wanted, "room for {room}");
+    }
+    Ok(())
+}
+
+#[test]
+fn functions_are_put_in_where_there_is_room(rt: HostRuntime) -> Result<(), Fail> {
+    let alloc = rt.alloc();
+    let core = core_of(alloc, NESTED)?;
+    // Each body also moves its argument to a local; the handler has its own local and two of each call.
+    let rows = [(5, Ok([0, 1, 1, 5])), (4, too_many(0, 5))];
+    for (room, wanted) in rows {
+        assert_eq!(rt; inlined(alloc, &core, room), wanted, "room for {room}");
+    }
     Ok(())
 }

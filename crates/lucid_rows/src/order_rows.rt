@@ -1,13 +1,12 @@
 // Texts with what the order check answers: the schemes of handlers, or the first that isn't in order with its cycle.
 ghost use Rattle.std.specs.Prelude.{◌≡◌, ◌<◌};
 
+use crate::cores::core_of;
 use lucid_base::{ArrayName, Steps, uncounted};
 use lucid_constraints::Atom;
 use lucid_core::Core;
 use lucid_effects::{OrderError, check_order};
-use lucid_lex::lex;
 use lucid_schemes::Scheme;
-use lucid_small::read_core;
 use std::alloc::Global;
 use std::marker::Brand;
 use std::sync::ledger::{Blank, Ledger};
@@ -79,49 +78,81 @@ fn shown<L: Ledger>(alloc: Global, core: &Core, blank: Blank) -> Result<String, 
 /// What the check answers to these declarations behind the head.
 fn answer(alloc: Global, rest: &str) -> Result<String, Fail> {
     let text = format!(in alloc; "{HEAD} {rest}")?;
-    let bytes = text.as_bytes();
-    let tokens = lex(alloc, bytes)?;
-    match read_core(alloc, bytes, tokens.as_slice())? {
-        Some(core) => shown::<Brand>(alloc, &core, uncounted()),
-        None => Ok(String::new(alloc)),
-    }
+    let core = core_of(alloc, text.as_bytes())?;
+    shown::<Brand>(alloc, &core, uncounted())
 }
+
+/// Declarations behind the head, and what the check answers.
+const ROWS: &[(&str, &str)] = &[
+    ("", ""),
+    ("handle e(int i) {}", "{ start }"),
+    ("handle e(int i) { generate f(i); }", "{ start }"),
+    ("handle e(int i) { Array.set(b, i, 7); }", "{ start 1, 1 }"),
+    (
+        "handle e(int i) { Array.set(a, i, 7); generate f(i); Array.set(b, 0, i); }",
+        "{ start 0, 0 1, 1 }",
+    ),
+    (
+        "handle e(int i) { Array.set(a, i, 7); } handle f(int i) { Array.set(b, i, 7); }",
+        "{ start 0, 0 }{ start 1, 1 }",
+    ),
+    (
+        "handle e(int i) { Array.set(b, i, 7); Array.set(a, 0, i); }",
+        "5: 0 1",
+    ),
+    (
+        "handle e(int i) { Array.set(b, i, 7); generate f(i); Array.set(b, 0, i); }",
+        "5: 1",
+    ),
+    (
+        "handle f(int i) { Array.set(a, i, 7); } handle e(int i) { Array.set(b, i, 7); Array.set(a, 0, i); }",
+        "6: 0 1",
+    ),
+    (
+        "handle e(int i) { Array.set(b, i, 7); Array.set(b, i, 7); } handle f(int i) { Array.set(a, i, 7); Array.set(a, i, 7); }",
+        "5: 1",
+    ),
+    // Functions, whose array parameters are p0 and p1.
+    (
+        "fun int g(Array<<32>> c) { return Array.get(c, 0); }",
+        "{ start p0, p0 }",
+    ),
+    (
+        "fun void g(Array<<32>> c) { Array.set(b, 0, 1); Array.set(c, 0, 1); }",
+        "{ start 1, 1 p0, p0 }",
+    ),
+    (
+        "fun int g(Array<<32>> c, Array<<32>> d) { return Array.get(d, 0) + Array.get(c, 0); }",
+        "{ start p1, p1 p0, p0 }",
+    ),
+    (
+        "fun void g(Array<<32>> c) { Array.set(c, 0, 1); } handle e(int i) { g(a); g(b); }",
+        "{ start p0, p0 }{ start 0, 0 1, 1 }",
+    ),
+    (
+        "fun void g(Array<<32>> c) { Array.set(b, 0, 1); Array.set(c, 0, 1); } handle e(int i) { g(a); }",
+        "6: 0 1",
+    ),
+    (
+        "fun void g(Array<<32>> c) { Array.set(c, 0, 1); Array.set(c, 0, 1); }",
+        "5: p0",
+    ),
+    // Branches.
+    (
+        "handle e(int i) { if (i == 0) { Array.set(a, 0, 1); } else { Array.set(b, 0, 1); } }",
+        "{ start 0, start 1, 0 1 }",
+    ),
+    (
+        "handle e(int i) { if (i == 0) { Array.set(a, 0, 1); } Array.set(b, 0, 1); }",
+        "{ start 0, 0 1, start 1, 1 }",
+    ),
+];
 
 #[test]
 fn programs_are_accepted_or_refused(rt: HostRuntime) -> Result<(), Fail> {
-    let rows: [(&str, &str); 10] = [
-        ("", ""),
-        ("handle e(int i) {}", "{ start }"),
-        ("handle e(int i) { generate f(i); }", "{ start }"),
-        ("handle e(int i) { Array.set(b, i, 7); }", "{ start 1, 1 }"),
-        (
-            "handle e(int i) { Array.set(a, i, 7); generate f(i); Array.set(b, 0, i); }",
-            "{ start 0, 0 1, 1 }",
-        ),
-        (
-            "handle e(int i) { Array.set(a, i, 7); } handle f(int i) { Array.set(b, i, 7); }",
-            "{ start 0, 0 }{ start 1, 1 }",
-        ),
-        (
-            "handle e(int i) { Array.set(b, i, 7); Array.set(a, 0, i); }",
-            "5: 0 1",
-        ),
-        (
-            "handle e(int i) { Array.set(b, i, 7); generate f(i); Array.set(b, 0, i); }",
-            "5: 1",
-        ),
-        (
-            "handle f(int i) { Array.set(a, i, 7); } handle e(int i) { Array.set(b, i, 7); Array.set(a, 0, i); }",
-            "6: 0 1",
-        ),
-        (
-            "handle e(int i) { Array.set(b, i, 7); Array.set(b, i, 7); } handle f(int i) { Array.set(a, i, 7); Array.set(a, i, 7); }",
-            "5: 1",
-        ),
-    ];
-    for (rest, wanted) in rows.iter() {
+    for (rest, wanted) in ROWS {
         let found = answer(rt.alloc(), rest)?;
-        assert_eq!(rt; found.as_str(), *wanted);
+        assert_eq!(rt; found.as_str(), *wanted, "{rest}");
     }
     Ok(())
 }

@@ -2,7 +2,9 @@
 use lucid_conf::{ConfError, Limits, Scene, Step, limits_of, scene_of};
 use lucid_core::Core;
 use lucid_lex::lex;
-use lucid_small::read_core;
+use lucid_parse::parse;
+use lucid_tree::Tree;
+use lucid_types::elaborate;
 use std::alloc::{AllocError, Global};
 use std::process::Abort;
 use std::test::Fail;
@@ -113,10 +115,15 @@ fn scene(alloc: Global, core: &Core, text: &[u8]) -> Result<String, AllocError> 
     }
 }
 
-fn core_of(alloc: Global, program: &str) -> Result<Option<Core>, Fail> {
+fn tree_of(alloc: Global, program: &str) -> Result<Tree, Fail> {
     let text = program.as_bytes();
     let tokens = lex(alloc, text)?;
-    Ok(read_core(alloc, text, tokens.as_slice())?)
+    Ok(parse(alloc, text, tokens.as_slice())?)
+}
+
+fn core_of(alloc: Global, program: &str) -> Result<Core, Fail> {
+    let tree = tree_of(alloc, program)?;
+    Ok(elaborate(alloc, &tree)?)
 }
 
 /// Limits files, each with its limits or its fault.
@@ -456,29 +463,21 @@ fn try_lists(
     before: &str,
     lists: &[(&str, &str)],
 ) -> Result<(), Fail> {
-    match core_of(alloc, PROGRAM)? {
-        None => assert!(rt; false, "no program"),
-        Some(core) => {
-            for (list, want) in lists.iter() {
-                let text = format!(in alloc; "{before}{list}}}")?;
-                let got = scene(alloc, &core, text.as_bytes())?;
-                assert_eq!(rt; got.as_str(), *want, "at {list:?}");
-            }
-        }
+    let core = core_of(alloc, PROGRAM)?;
+    for (list, want) in lists.iter() {
+        let text = format!(in alloc; "{before}{list}}}")?;
+        let got = scene(alloc, &core, text.as_bytes())?;
+        assert_eq!(rt; got.as_str(), *want, "at {list:?}");
     }
     Ok(())
 }
 
 #[test]
 fn scenarios_are_read_key_by_key(rt: HostRuntime) -> Result<(), Fail> {
-    match core_of(rt.alloc(), PROGRAM)? {
-        None => assert!(rt; false, "no program"),
-        Some(core) => {
-            for (text, want) in SCENARIOS {
-                let got = scene(rt.alloc(), &core, text.as_bytes())?;
-                assert_eq!(rt; got.as_str(), want, "at {text:?}");
-            }
-        }
+    let core = core_of(rt.alloc(), PROGRAM)?;
+    for (text, want) in SCENARIOS {
+        let got = scene(rt.alloc(), &core, text.as_bytes())?;
+        assert_eq!(rt; got.as_str(), want, "at {text:?}");
     }
     Ok(())
 }
@@ -579,13 +578,9 @@ const WHOLE: [(&str, &str, &str); 11] = [
 #[test]
 fn scenarios_of_programs(rt: HostRuntime) -> Result<(), Fail> {
     for (program, text, want) in WHOLE {
-        match core_of(rt.alloc(), program)? {
-            None => assert!(rt; false, "no program {program:?}"),
-            Some(core) => {
-                let got = scene(rt.alloc(), &core, text.as_bytes())?;
-                assert_eq!(rt; got.as_str(), want, "at {text:?}");
-            }
-        }
+        let core = core_of(rt.alloc(), program)?;
+        let got = scene(rt.alloc(), &core, text.as_bytes())?;
+        assert_eq!(rt; got.as_str(), want, "at {text:?}");
     }
     Ok(())
 }
@@ -629,20 +624,16 @@ fn with_links(alloc: Global, more: &str) -> Result<String, AllocError> {
 
 #[test]
 fn the_most_windows_and_links(rt: HostRuntime) -> Result<(), Fail> {
-    match core_of(rt.alloc(), "event e();")? {
-        None => assert!(rt; false, "no program"),
-        Some(core) => {
-            let texts = [
-                (with_windows(rt.alloc(), 1024)?, "1 1024"),
-                (with_windows(rt.alloc(), 1025)?, "down 1024"),
-                (with_links(rt.alloc(), "")?, "2016 0"),
-                (with_links(rt.alloc(), ",[62,63,9]")?, "links 2016"),
-            ];
-            for (text, want) in texts.iter() {
-                let got = counted(rt.alloc(), &core, text.as_bytes())?;
-                assert_eq!(rt; got.as_str(), *want);
-            }
-        }
+    let core = core_of(rt.alloc(), "event e();")?;
+    let texts = [
+        (with_windows(rt.alloc(), 1024)?, "1 1024"),
+        (with_windows(rt.alloc(), 1025)?, "down 1024"),
+        (with_links(rt.alloc(), "")?, "2016 0"),
+        (with_links(rt.alloc(), ",[62,63,9]")?, "links 2016"),
+    ];
+    for (text, want) in texts.iter() {
+        let got = counted(rt.alloc(), &core, text.as_bytes())?;
+        assert_eq!(rt; got.as_str(), *want);
     }
     Ok(())
 }

@@ -6,3 +6,4 @@ pub mod Parts
 pub mod Reading
 pub mod Readings
 pub mod Tokens
+pub mod Trees

@@ -9,6 +9,7 @@ use Rattle.lucid_core.specs.Parts.{Parts}
 use Rattle.lucid_order.specs.Order.{Body, InOrder, IsAccepted, bodies}
 use Rattle.lucid_order.specs.Refused.{IsFirstOf, IsFirstRefused}
 use Rattle.lucid_effects.specs.First.{IsRefusedFirst}
+use Rattle.lucid_tree.specs.declared.tree.Tree.{Tree}
 use Rattle.lucid_top.specs.declared.refusal.Refusal.{Refusal}
 use Rattle.lucid_top.specs.declared.refusal.Refusal.TheVariants as refusal
 use Rattle.lucid_top.specs.Outcome.{Alike, IsTheAnswer}
@@ -34,12 +35,13 @@ one-first core n m x y xs ys a b = elim (cases_order n m) [
   ]
 ]
 
-pub refused : (core : Parts) (decl line : ℕ) (cycle : List ArrayName) (names : Vec Bytes) → IsRefusedFirst (length core.arrays) (bodies core) decl cycle →
-    line ≡ declared_line core decl → names.items ≡ map (array_name core) cycle → IsTheAnswer (IsOrdered core) (Err (refusal.NoOrder decl line names))
-refused core decl line [] names none at named = absurd none
-refused core decl line (first ∷ others) names is at named = record { is = (first, others, is, at, named); only = only }
+pub refused : (tree : Tree) (core : Parts) (decl line : ℕ) (cycle : List ArrayName) (names : Vec Bytes) →
+    IsRefusedFirst (length core.arrays) (bodies core) decl cycle → line ≡ declared_line core decl → names.items ≡ map (array_name tree core decl) cycle →
+    IsTheAnswer (IsOrdered tree core) (Err (refusal.NoOrder decl line names))
+refused tree core decl line [] names none at named = absurd none
+refused tree core decl line (first ∷ others) names is at named = record { is = (first, others, is, at, named); only = only }
   where
-    only : (p : Result Parts Refusal) → IsOrdered core p → Alike p (Err (refusal.NoOrder decl line names))
+    only : (p : Result Parts Refusal) → IsOrdered tree core p → Alike p (Err (refusal.NoOrder decl line names))
     only (Ok c) o = absurd (accepted-none core decl first others o.0 is)
     only (Err (refusal.NoOrder d l ns)) o =
         let same : d ≡ decl = one-first core d decl o.0 first o.1 others o.2 is in

@@ -1,8 +1,14 @@
 -- Why there is no output, and the error line that says so: a line a refusal in each table.
-use Rattle.std.specs.Prelude.{ℕ, List, ◌++◌, codes, decimal}
+use Rattle.std.specs.Prelude.{ℕ, List, [], ◌++◌, codes, decimal}
 use Rattle.std.specs.List.{flat_map}
 use Rattle.lucid_lex.specs.declared.token.LexError.{LexError}
 use Rattle.lucid_lex.specs.declared.token.LexError.TheVariants as lex
+use Rattle.lucid_parse.specs.declared.error.ParseError.{ParseError}
+use Rattle.lucid_parse.specs.declared.error.ParseError.TheVariants as parse
+use Rattle.lucid_rules.specs.declared.limit.What.{What}
+use Rattle.lucid_rules.specs.declared.limit.What.TheVariants as what
+use Rattle.lucid_types.specs.declared.error.TypeError.{TypeError}
+use Rattle.lucid_types.specs.declared.error.TypeError.TheVariants as types
 use Rattle.lucid_top.specs.declared.refusal.Refusal.{Refusal}
 use Rattle.lucid_top.specs.declared.refusal.Refusal.TheVariants as refusal
 use Rattle.lucid_top.specs.declared.status.Status.{Status}
@@ -14,15 +20,43 @@ abbrev pub of_lex : LexError → Refusal
 of_lex (lex.NoToken at) = refusal.NoToken at
 of_lex lex.Memory = refusal.Memory
 
+-- why tokens have no tree
+abbrev pub of_parse : ParseError → Refusal
+of_parse (parse.NoTree n) = refusal.NoTree n
+of_parse (parse.TooDeep n) = refusal.TooDeep n
+of_parse parse.Memory = refusal.Memory
+
+-- why a tree has no core
+abbrev pub of_types : TypeError → Refusal
+of_types (types.NoRule decl line) = refusal.NoRule decl line
+of_types (types.Limit what decl line) = refusal.PassesLimit what decl line
+of_types types.Memory = refusal.Memory
+
 abbrev pub status_of : Refusal → Status
 status_of refusal.Usage = status.Usage
 status_of (refusal.ReadFault word) = status.ReadFault
 status_of (refusal.TooLong word) = status.TooLong
 status_of (refusal.NoToken at) = status.Syntax
-status_of refusal.NoProgram = status.Syntax
+status_of (refusal.TooDeep n) = status.Syntax
+status_of (refusal.NoTree n) = status.Syntax
+status_of (refusal.NoRule decl line) = status.Types
+status_of (refusal.PassesLimit what decl line) = status.Types
 status_of (refusal.NoOrder decl line cycle) = status.Order
 status_of refusal.WriteFault = status.WriteFault
 status_of refusal.Memory = status.Memory
+
+-- a limit
+abbrev pub limit_of : What → Bytes
+limit_of what.Arrays = codes " limit arrays"
+limit_of what.ArrayParameters = codes " limit array parameters"
+limit_of what.ValueParameters = codes " limit value parameters"
+limit_of what.Arguments = codes " limit arguments"
+limit_of what.Outs = codes " limit outs"
+limit_of what.Cases = codes " limit cases"
+
+-- a declaration that the typing rules refuse, and then the limit that it passes
+abbrev pub types_line : ℕ → ℕ → Bytes → Bytes
+types_line decl line limit = codes "types: declaration " ++ decimal decl ++ codes " line " ++ decimal line ++ limit ++ codes "\n"
 
 -- names, each after a blank
 abbrev pub names_text : List Bytes → Bytes
@@ -39,7 +73,10 @@ line_of words refusal.Usage = codes "usage\n"
 line_of words (refusal.ReadFault word) = codes "read fault: " ++ word_at words word ++ codes "\n"
 line_of words (refusal.TooLong word) = codes "too long: " ++ word_at words word ++ codes "\n"
 line_of words (refusal.NoToken at) = codes "syntax: byte " ++ decimal at ++ codes "\n"
-line_of words refusal.NoProgram = codes "syntax\n"
+line_of words (refusal.TooDeep n) = codes "syntax: nesting at token " ++ decimal n ++ codes "\n"
+line_of words (refusal.NoTree n) = codes "syntax: token " ++ decimal n ++ codes "\n"
+line_of words (refusal.NoRule decl line) = types_line decl line []
+line_of words (refusal.PassesLimit what decl line) = types_line decl line (limit_of what)
 line_of words (refusal.NoOrder decl line cycle) = order_line decl line cycle.items
 line_of words refusal.WriteFault = codes "write fault\n"
 line_of words refusal.Memory = codes "memory\n"

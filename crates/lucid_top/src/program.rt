@@ -1,17 +1,19 @@
 // From a program's text to the program: the path that every command takes which names a program file.
-ghost use Rattle.std.specs.Prelude.{◌≡◌, ◌<◌, IfOk, map, nat_eq, option_map};
+ghost use Rattle.std.specs.Prelude.{◌≡◌, ◌<◌, [], IfOk, map, nat_eq, option_map};
 ghost use Rattle.std.specs.List.{find};
-ghost use Rattle.lucid_order.specs.Order.{IsAccepted};
-ghost use Rattle.lucid_small.specs.Spelled.{core_of};
+ghost use Rattle.std.specs.Option.{unwrap_or};
+ghost use Rattle.lucid_lex.specs.Reading.{Reads};
 ghost use Rattle.lucid_top.specs.Outcome.{Prepares};
-ghost use Rattle.lucid_top.specs.Program.{AreTokens, IsOrdered, IsProgram, IsSpelled, array_name, declared_line, spelled};
+ghost use Rattle.lucid_top.specs.Program.{AreTokens, IsElaborated, IsOrdered, IsParsed, IsProgram, IsProgramFrom, IsProgramOf};
+ghost use Rattle.lucid_top.specs.Program.{array_name, array_param as array_param_of, declared_line, param_of};
 
 use crate::refusal::Refusal;
 use lucid_base::{ArrayName, Id, Memory, Steps, uncounted};
 use lucid_core::{Core, FunDef, HandlerDef};
 use lucid_effects::{OrderError, check_order};
 use lucid_lex::{Token, lex};
-use lucid_small::read_core;
+use lucid_parse::{Decl, DeclKind, P, Tree, parse};
+use lucid_types::elaborate;
 use std::alloc::Global;
 use std::marker::Brand;
 use std::sync::ledger::{Blank, Ledger};
@@ -20,21 +22,30 @@ use std::sync::ledger::{Blank, Ledger};
 pub fn accepted(alloc: Global, text: &[u8]) -> Result<Core, Refusal>
     ensures { Prepares (IsProgram text.now) (λ core. core) result }
 {
-    let core = spelled_by(alloc, text)?;
-    in_order::<Brand>(alloc, core, uncounted())
+    let tokens = tokens_of(alloc, text)?;
+    accepted_tokens(alloc, text, tokens.as_slice())
 }
 
-// What the text spells.
-fn spelled_by(alloc: Global, text: &[u8]) -> Result<Core, Refusal>
-    ensures { Prepares (IsSpelled text.now) (λ core. core) result }
+// The program that the tokens of the text spell.
+fn accepted_tokens(alloc: Global, text: &[u8], tokens: &[Token]) -> Result<Core, Refusal>
+    requires { Reads text.now tokens.now }
+    ensures { Prepares (IsProgramFrom text.now tokens.now) (λ core. core) result }
 {
-    let tokens = tokens_of(alloc, text)?;
-    spelled_core(alloc, text, tokens.as_slice())
+    let tree = tree_of(alloc, text, tokens)?;
+    accepted_tree(alloc, &tree)
+}
+
+fn accepted_tree(alloc: Global, tree: &Tree) -> Result<Core, Refusal>
+    ensures { Prepares (IsProgramOf tree.now) (λ core. core) result }
+{
+    let core = core_of(alloc, tree)?;
+    in_order::<Brand>(alloc, tree, core, uncounted())
 }
 
 // The tokens of the text.
 fn tokens_of(alloc: Global, text: &[u8]) -> Result<Vec<Token>, Refusal>
-    ensures { Prepares (AreTokens text.now) (λ tokens. tokens.items) result }
+    ensures tokens { Prepares (AreTokens text.now) (λ tokens. tokens.items) result }
+    ensures read { IfOk result (λ tokens. Reads text.now tokens.items) }
 {
     match lex(alloc, text) {
         Ok(tokens) => Ok(tokens),
@@ -42,29 +53,45 @@ fn tokens_of(alloc: Global, text: &[u8]) -> Result<Vec<Token>, Refusal>
     }
 }
 
-// The core that the tokens of the text spell.
-fn spelled_core(alloc: Global, text: &[u8], tokens: &[Token]) -> Result<Core, Refusal>
-    ensures { Prepares (λ o. o ≡ spelled (core_of text.now tokens.now)) (λ core. core) result }
+// The tree of the tokens of the text.
+fn tree_of(alloc: Global, text: &[u8], tokens: &[Token]) -> Result<Tree, Refusal>
+    requires { Reads text.now tokens.now }
+    ensures { Prepares (IsParsed text.now tokens.now) (λ tree. tree) result }
 {
-    match read_core(alloc, text, tokens)? {
-        Some(core) => Ok(core),
-        None => Err(Refusal::NoProgram),
+    match parse(alloc, text, tokens) {
+        Ok(tree) => Ok(tree),
+        Err(error) => Err(Refusal::from(error)),
+    }
+}
+
+// The core of the tree.
+fn core_of(alloc: Global, tree: &Tree) -> Result<Core, Refusal>
+    ensures { Prepares (IsElaborated tree.now) (λ core. core) result }
+{
+    match elaborate(alloc, tree) {
+        Ok(core) => Ok(core),
+        Err(error) => Err(Refusal::from(error)),
     }
 }
 
 // The program, where its functions and handlers touch arrays in order.
-fn in_order<L: Ledger>(alloc: Global, core: Core, blank: Blank) -> Result<Core, Refusal>
+fn in_order<L: Ledger>(
+    alloc: Global,
+    tree: &Tree,
+    core: Core,
+    blank: Blank,
+) -> Result<Core, Refusal>
     requires name { blank.name ≡ L.name }
     requires parts { blank.parts ≡ L.parts }
     requires cut { 0 < L.parts }
-    ensures { Prepares (IsOrdered core) (λ c. c) result }
+    ensures { Prepares (IsOrdered tree.now core) (λ c. c) result }
 {
     let mut steps = Steps::<L>::new(blank);
     match check_order(alloc, &core, &mut steps) {
         Ok(_) => Ok(core),
         Err(OrderError::NoOrder { decl, cycle }) => {
             let line = line_of(&core, decl);
-            let cycle = names(alloc, &core, cycle.as_slice())?;
+            let cycle = names(alloc, tree, &core, decl, cycle.as_slice())?;
             Err(Refusal::NoOrder { decl, line, cycle })
         }
         Err(OrderError::Memory) => Err(Refusal::Memory),
@@ -103,25 +130,68 @@ fn handler_line(handlers: &[HandlerDef], decl: u32) -> Option<u32>
     None
 }
 
-// The names of arrays of the program.
-fn names(alloc: Global, core: &Core, arrays: &[ArrayName]) -> Result<Vec<Id>, Memory>
-    ensures { IfOk result (λ names. names.items ≡ map (array_name core.now) arrays.now) }
+// The names of these arrays, as the declaration has them.
+fn names(
+    alloc: Global,
+    tree: &Tree,
+    core: &Core,
+    decl: u32,
+    arrays: &[ArrayName],
+) -> Result<Vec<Id>, Memory>
+    ensures { IfOk result (λ names. names.items ≡ map (array_name tree.now core.now decl) arrays.now) }
 {
     let mut names = Vec::new(alloc);
     for array in arrays {
-        names.push(name_of(alloc, core, *array)?)?;
+        names.push(name_of(alloc, tree, core, decl, *array)?)?;
     }
     Ok(names)
 }
 
-fn name_of(alloc: Global, core: &Core, array: ArrayName) -> Result<Id, Memory>
-    ensures { IfOk result (λ name. name ≡ array_name core.now array) }
+fn name_of(
+    alloc: Global,
+    tree: &Tree,
+    core: &Core,
+    decl: u32,
+    array: ArrayName,
+) -> Result<Id, Memory>
+    ensures { IfOk result (λ name. name ≡ array_name tree.now core.now decl array) }
 {
     match array {
         ArrayName::Global(i) => match core.arrays().get(i as usize) {
             Some(declared) => declared.name.copy(alloc),
             None => Id::new(alloc, b""),
         },
-        ArrayName::Param(_) => Id::new(alloc, b""),
+        ArrayName::Param(i) => match tree.decls.as_slice().get((decl as usize).saturating_sub(1)) {
+            Some(declared) => param_name(alloc, declared, i),
+            None => Id::new(alloc, b""),
+        },
     }
+}
+
+// The name of array parameter `i` of the declaration.
+fn param_name(alloc: Global, declared: &Decl, i: u32) -> Result<Id, Memory>
+    ensures { IfOk result (λ name. name ≡ unwrap_or (param_of i declared.now.kind) []) }
+{
+    match &declared.kind {
+        DeclKind::Fun { params, .. } => match array_param(params.as_slice(), i) {
+            Some(name) => name.copy(alloc),
+            None => Id::new(alloc, b""),
+        },
+        _ => Id::new(alloc, b""),
+    }
+}
+
+fn array_param(params: &[P], i: u32) -> Option<&Id>
+    ensures { option_map (λ name. name.now) result ≡ array_param_of i params.now }
+{
+    let mut before = i;
+    for param in params {
+        if let P::Array { name, .. } = param {
+            if before == 0 {
+                return Some(name);
+            }
+            before -= 1;
+        }
+    }
+    None
 }

@@ -2,7 +2,7 @@
 ghost use Rattle.std.specs.Prelude.{◌≡◌, ◌++◌, OnOk, OnErr, codes, map, string_bytes};
 ghost use Rattle.lucid_io.specs.Puts.{PutsAll, PutsPart};
 ghost use Rattle.lucid_top.specs.Files.{of_take};
-ghost use Rattle.lucid_top.specs.Refusal.{status_of, line_of, names_text, order_line};
+ghost use Rattle.lucid_top.specs.Refusal.{status_of, line_of, limit_of, names_text, order_line, types_line};
 ghost use Rattle.lucid_top.specs.Words.{word_at};
 ghost use Rattle.lucid_top.specs.Writing.{Said};
 
@@ -11,6 +11,9 @@ use lucid_base::{Id, Memory as WantOfMemory};
 use lucid_io::{Sink, Take, WriteFault, put_all};
 use lucid_lex::LexError;
 use lucid_log::{Piece, put_pieces};
+use lucid_parse::ParseError;
+use lucid_rules::What;
+use lucid_types::TypeError;
 use std::alloc::AllocError;
 
 /// Why there is no output, or only a part of it, with what its line tells.
@@ -24,8 +27,22 @@ pub enum Refusal {
     TooLong(usize),
     /// No token begins at this byte of the text, from 0.
     NoToken(usize),
-    /// The tokens are no program.
-    NoProgram,
+    /// A count of nesting passes its limit at this token, from 1.
+    TooDeep(usize),
+    /// The declaration that begins at this token, from 1, is the first that has no tree.
+    NoTree(usize),
+    /// This declaration, from 1, which begins on this line, is the first that is refused, and no typing rule gives it anything.
+    NoRule {
+        decl: u32,
+        line: u32,
+    },
+    /// This declaration is the first that is refused, and passes a limit.
+    PassesLimit {
+        /// The limit that it passes first.
+        what: What,
+        decl: u32,
+        line: u32,
+    },
     /// A declaration doesn't touch arrays in order.
     NoOrder {
         /// Its number among all declarations, from 1: the first that isn't in order.
@@ -88,6 +105,36 @@ impl From<LexError> for Refusal {
     }
 }
 
+impl From<ParseError> for Refusal {
+    ghost use Rattle.std.specs.Prelude.{◌≡◌};
+    ghost use Rattle.lucid_top.specs.Refusal.{of_parse};
+
+    ghost from_gives = { λ e r. r ≡ of_parse e };
+
+    fn from(error: ParseError) -> Refusal {
+        match error {
+            ParseError::NoTree(n) => Refusal::NoTree(n),
+            ParseError::TooDeep(n) => Refusal::TooDeep(n),
+            ParseError::Memory => Refusal::Memory,
+        }
+    }
+}
+
+impl From<TypeError> for Refusal {
+    ghost use Rattle.std.specs.Prelude.{◌≡◌};
+    ghost use Rattle.lucid_top.specs.Refusal.{of_types};
+
+    ghost from_gives = { λ e r. r ≡ of_types e };
+
+    fn from(error: TypeError) -> Refusal {
+        match error {
+            TypeError::NoRule { decl, line } => Refusal::NoRule { decl, line },
+            TypeError::Limit { what, decl, line } => Refusal::PassesLimit { what, decl, line },
+            TypeError::Memory => Refusal::Memory,
+        }
+    }
+}
+
 impl Refusal {
     /// Why the file that the word of this number names was not taken.
     pub fn of_take(word: usize, take: Take) -> Refusal
@@ -107,7 +154,8 @@ impl Refusal {
             Refusal::Usage => Status::Usage,
             Refusal::ReadFault(_) => Status::ReadFault,
             Refusal::TooLong(_) => Status::TooLong,
-            Refusal::NoToken(_) | Refusal::NoProgram => Status::Syntax,
+            Refusal::NoToken(_) | Refusal::TooDeep(_) | Refusal::NoTree(_) => Status::Syntax,
+            Refusal::NoRule { .. } | Refusal::PassesLimit { .. } => Status::Types,
             Refusal::NoOrder { .. } => Status::Order,
             Refusal::WriteFault => Status::WriteFault,
             Refusal::Memory => Status::Memory,
@@ -153,7 +201,26 @@ fn put_line<E: Sink>(err: &mut E, words: &[String], refusal: &Refusal) -> Result
                 Piece::Text(b"\n"),
             ],
         ),
-        Refusal::NoProgram => put_all(err, b"syntax\n"),
+        Refusal::TooDeep(n) => put_pieces(
+            err,
+            &[
+                Piece::Text(b"syntax: nesting at token "),
+                Piece::Number(*n as u64),
+                Piece::Text(b"\n"),
+            ],
+        ),
+        Refusal::NoTree(n) => put_pieces(
+            err,
+            &[
+                Piece::Text(b"syntax: token "),
+                Piece::Number(*n as u64),
+                Piece::Text(b"\n"),
+            ],
+        ),
+        Refusal::NoRule { decl, line } => put_types(err, *decl, *line, b""),
+        Refusal::PassesLimit { what, decl, line } => {
+            put_types(err, *decl, *line, limit_text(*what))
+        }
         Refusal::NoOrder { decl, line, cycle } => put_order(err, *decl, *line, cycle.as_slice()),
         Refusal::WriteFault => put_all(err, b"write fault\n"),
         Refusal::Memory => put_all(err, b"memory\n"),
@@ -180,6 +247,43 @@ fn put_file<'a, E: Sink>(
             Piece::Text(b"\n"),
         ],
     )
+}
+
+// The line that tells a declaration that the typing rules refuse, and then the limit.
+fn put_types<'a, E: Sink>(
+    err: &mut E,
+    decl: u32,
+    line: u32,
+    limit: &'a [u8],
+) -> Result<(), WriteFault>
+    ensures all { OnOk result (PutsAll E.written E.faults err.old err.new (types_line decl line limit.now)) }
+    ensures part { OnErr result (PutsPart E.written E.faults err.old err.new (types_line decl line limit.now)) }
+{
+    put_pieces(
+        err,
+        &[
+            Piece::Text(b"types: declaration "),
+            Piece::Number(decl as u64),
+            Piece::Text(b" line "),
+            Piece::Number(line as u64),
+            Piece::Text(limit),
+            Piece::Text(b"\n"),
+        ],
+    )
+}
+
+// A limit, as the line tells it.
+fn limit_text(what: What) -> &'static [u8]
+    ensures { result.now ≡ limit_of what }
+{
+    match what {
+        What::Arrays => b" limit arrays",
+        What::ArrayParameters => b" limit array parameters",
+        What::ValueParameters => b" limit value parameters",
+        What::Arguments => b" limit arguments",
+        What::Outs => b" limit outs",
+        What::Cases => b" limit cases",
+    }
 }
 
 // The line that tells a declaration that isn't in order.

@@ -1,10 +1,15 @@
-use Rattle.std.proofs.Common.{rules}
-use Rattle.lucid_top.specs.Program.{IsSpelled}
+use Rattle.std.proofs.Common.{◌≡◌, List, rules, subst}
+use Rattle.lucid_core.specs.Parts.{Parts}
+use Rattle.lucid_lex.specs.declared.token.Token.{Token}
+use Rattle.lucid_top.specs.Outcome.{Prepares}
+use Rattle.lucid_top.specs.Program.{AreTokens, IsProgramFrom}
 use Rattle.lucid_top.proofs.Parts.{Prepares-err, Prepares-ok}
 use Rattle.lucid_top.proofs.program.accepted.Goals as goal
 
-pub returns-in_err-core : goal.returns-in_err-core
-returns-in_err-core c = Prepares-err (IsSpelled c.args.text.now) _ _ c.in_err-core.field-0.0 c.from_residual.result (search rules) c.in_err-core.ensures
+pub returns-in_err-tokens : goal.returns-in_err-tokens
+returns-in_err-tokens c = Prepares-err (AreTokens c.args.text.now) _ _ c.in_err-tokens.field-0.0 c.from_residual.result (search rules) c.in_err-tokens.ensures.tokens
 
 pub returns : goal.returns
-returns c = Prepares-ok (IsSpelled c.args.text.now) _ _ c.in_ok-core.core c.in_order.result c.in_ok-core.ensures c.in_order.ensures
+returns c =
+    Prepares-ok (AreTokens c.args.text.now) _ _ c.in_ok-tokens.tokens.items c.accepted_tokens.result c.in_ok-tokens.ensures.tokens
+    (subst (λ (ts : List Token). Prepares (IsProgramFrom c.args.text.now ts) (λ (core : Parts). core) c.accepted_tokens.result) c.as_slice.ensures.value c.accepted_tokens.ensures)

@@ -1,9 +1,0 @@
-pub mod Declaration
-pub mod Line
-pub mod Names
-pub mod Outcome
-pub mod Program
-pub mod Small
-pub mod Spelled
-pub mod Statement
-pub mod Tokens
