@@ -1,0 +1,5 @@
+pub mod Adding
+pub mod Fields
+pub mod Forms
+pub mod JoinedLocals
+pub mod Noted

@@ -1,0 +1,20 @@
+// The normal form of a flat core, built: guarded operations that do what its handlers do (lucid_translate's specs/Translate.antt).
+// A body is walked once, and what holds a local before it is written is noted, so that a call and a branch give back what they found.
+// Stands on lucid_base, lucid_core, lucid_order, lucid_code, lucid_translate and lucid_normal_laws.
+#![tactic(auto)]
+
+mod bodies;
+mod branches;
+mod calls;
+mod handlers;
+mod inputs;
+mod joining;
+mod locals;
+mod notes;
+mod operations;
+mod program;
+mod site;
+mod statements;
+mod work;
+
+pub use program::normal;
