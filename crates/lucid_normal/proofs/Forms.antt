@@ -1,5 +1,5 @@
 -- What the forms that hold lists and branches become, from what their parts are.
-use Rattle.std.proofs.Common.{◌≡◌, ◌+◌, ℕ, List, [], ◌∷◌, ◌++◌, Bool, true, false, Option, None, Some, map, refl, ap, ap₂, sym, ◌∙◌}
+use Rattle.std.proofs.Common.{◌≡◌, ◌+◌, ℕ, List, [], ◌++◌, Bool, Option, None, Some, map, ap, ap₂, sym, ◌∙◌}
 use Rattle.std.specs.Prelude.{⊤}
 use Rattle.std.specs.Option.{option_map}
 use Rattle.lucid_code.specs.declared.op.Act.TheVariants as act
@@ -104,10 +104,10 @@ branch_ops guard c ss ts ops2 ops3 ops4 env2 env3 env4 env5 first held e3 ef eh 
     let firsts = map (guarded (is c 1)) a.ops in
     let seconds = map (guarded (is c 0)) b.ops in
     let g4 : ops4 ≡ added guard (added guard ops2 firsts) seconds =
-        o4 ∙ ap (λ (x : Env). added guard ops3 (map (guarded (is c 0)) (ts x).ops)) f4 ∙ ap (λ z. added guard z seconds) o3 in
+    o4 ∙ ap (λ (x : Env). added guard ops3 (map (guarded (is c 0)) (ts x).ops)) f4 ∙ ap (λ z. added guard z seconds) o3 in
     let ends = ops_of c env2.held (ends_of a.env) b.env in
     let same_ends : ops_of c held first env5 ≡ ends =
-        ap (λ h. ops_of c h first env5) eh ∙ ap (λ f. ops_of c env2.held f env5) ff ∙ ap (λ (x : Env). ops_of c env2.held (ends_of a.env) x) f5 in
+    ap (λ h. ops_of c h first env5) eh ∙ ap (λ f. ops_of c env2.held f env5) ff ∙ ap (λ (x : Env). ops_of c env2.held (ends_of a.env) x) f5 in
     ap₂ (λ z r. added guard z r) g4 same_ends
     ∙ added_more guard (added guard ops2 firsts) seconds ends ∙ added_more guard ops2 firsts (seconds ++ ends)
 

@@ -30,7 +30,7 @@ split_at level c ws (Some o) (Some a) (Some b) rest = split_by (same a b) level 
 
 steps_at : (level c : ℕ) (os xs ys : List (Option Typed)) (i : ℕ) (ws : List ℕ) (d dx dy : Option Typed) → i < length os → i < length xs → i < length ys →
     Split (joins level c (drop i os) (drop i xs) (drop i ys) ws) (met level c ws (get_or os i d) (get_or xs i dx) (get_or ys i dy))
-      (joins level c (drop (suc i) os) (drop (suc i) xs) (drop (suc i) ys) (met level c ws (get_or os i d) (get_or xs i dx) (get_or ys i dy)).widths)
+    (joins level c (drop (suc i) os) (drop (suc i) xs) (drop (suc i) ys) (met level c ws (get_or os i d) (get_or xs i dx) (get_or ys i dy)).widths)
 steps_at level c [] xs ys i ws d dx dy a b e = absurd (omega arith)
 steps_at level c (o ∷ os) [] ys i ws d dx dy a b e = absurd (omega arith)
 steps_at level c (o ∷ os) (x ∷ xs) [] i ws d dx dy a b e = absurd (omega arith)
@@ -72,14 +72,14 @@ joins_more level c i ws ws' os xs ys held held' o a b h guard ops ops' base tota
     let n : suc i ≡ i + 1 = omega arith in
     let first = steps_at level c os xs ys i ws o a b (omega (arith, lt)) (omega (arith, lt)) (omega (arith, lt)) in
     let at = λ (z : Option Typed) (x : Option Typed) (y : Option Typed). Split (joins level c (drop i os) (drop i xs) (drop i ys) ws) (met level c ws z x y)
-        (joins level c (drop (suc i) os) (drop (suc i) xs) (drop (suc i) ys) (met level c ws z x y).widths) in
+    (joins level c (drop (suc i) os) (drop (suc i) xs) (drop (suc i) ys) (met level c ws z x y).widths) in
     let one = subst (λ z. at z (get_or xs i a) (get_or ys i b)) (sym is_o) first in
     let two = subst (λ z. at o z (get_or ys i b)) (sym is_a) one in
     let m = met level c ws o a b in
     let third : at o a b = subst (λ z. at o a z) (sym is_b) two in
     let rest = joins level c (drop (suc i) os) (drop (suc i) xs) (drop (suc i) ys) m.widths in
     let same_rest : joins level c (drop (i + 1) os) (drop (i + 1) xs) (drop (i + 1) ys) ws' ≡ rest =
-        ap₂ (λ (k : ℕ) (z : List ℕ). joins level c (drop k os) (drop k xs) (drop k ys) z) (sym n) are_ws in
+    ap₂ (λ (k : ℕ) (z : List ℕ). joins level c (drop k os) (drop k xs) (drop k ys) z) (sym n) are_ws in
     subst (λ r. Joins guard held' ops' base r total) (sym same_rest) (record {
       held_is = ap (λ z. z ++ rest.held) (is_held ∙ ap (λ z. held ++ z) is_h) ∙ append_assoc held _ _ ∙ ap (λ z. held ++ z) (sym third.held) ∙ j.held_is;
       widths_are = sym third.widths ∙ j.widths_are;
@@ -91,7 +91,8 @@ pub joins_over : (level c n : ℕ) (ws : List ℕ) (os xs ys held : List (Option
     Joins guard held ops base (joins level c (drop n os) (drop n xs) (drop n ys) ws) total →
     (held ≡ total.held) × (ws ≡ total.widths) × (ops ≡ added guard base total.ops)
 joins_over level c n ws os xs ys held guard ops base total le j =
-    let e = joins_end level c os xs ys n ws le in
-    (sym (append-nil held) ∙ sym (ap (λ r. held ++ r.held) e) ∙ j.held_is,
-    sym (ap (λ r. r.widths) e) ∙ j.widths_are,
-    sym (append-nil ops) ∙ sym (ap (λ r. added guard ops r.ops) e) ∙ j.ops_are)
+    let e = joins_end level c os xs ys n ws le in (
+      sym (append-nil held) ∙ sym (ap (λ r. held ++ r.held) e) ∙ j.held_is,
+      sym (ap (λ r. r.widths) e) ∙ j.widths_are,
+      sym (append-nil ops) ∙ sym (ap (λ r. added guard ops r.ops) e) ∙ j.ops_are,
+    )

@@ -84,7 +84,12 @@ fn touch(site: Site, work: &mut Work, env: &mut Env, t: &Touch) -> Result<Option
 /// The operands of these, from left to right.
 #[cycle(walk)]
 #[tactic(auto, using(crate::proofs::Adding::adding, std::proofs::lemmas::Grind::common_steps))]
-fn operands(site: Site, work: &mut Work, env: &mut Env, es: &[Expr]) -> Result<Items<Operand>, Memory>
+fn operands(
+    site: Site,
+    work: &mut Work,
+    env: &mut Env,
+    es: &[Expr],
+) -> Result<Items<Operand>, Memory>
     ensures value { IfOk result (λ xs. xs ≡ operands_of (each_made (map expr_code es.now) env.old).value) }
     ensures env { OnOk result (env.new ≡ (each_made (map expr_code es.now) env.old).env) }
     ensures ops { OnOk result (work.new.ops.items
@@ -140,7 +145,12 @@ fn delay(site: Site, work: &mut Work, env: &mut Env, e: &Option<Expr>) -> Result
 
 #[cycle(walk)]
 #[tactic(auto, using(crate::proofs::Adding::adding, std::proofs::lemmas::Grind::common_steps))]
-fn target(site: Site, work: &mut Work, env: &mut Env, e: &Option<Expr>) -> Result<Option<Operand>, Memory>
+fn target(
+    site: Site,
+    work: &mut Work,
+    env: &mut Env,
+    e: &Option<Expr>,
+) -> Result<Option<Operand>, Memory>
     ensures value { IfOk result (λ o. o ≡ (target_made (option_map expr_code e.now) env.old).value) }
     ensures env { OnOk result (env.new ≡ (target_made (option_map expr_code e.now) env.old).env) }
     ensures ops { OnOk result (work.new.ops.items

@@ -47,7 +47,14 @@ pub fn unary(
         ≡ added site.entry.guard.now ops.old.items (emit a.width (act.Un o a.width a.operand) env.old).ops) }
 {
     let k = next(&env.widths)?;
-    write(site, ops, env, a.width, k, Act::Un(o, a.width, a.operand, k))
+    write(
+        site,
+        ops,
+        env,
+        a.width,
+        k,
+        Act::Un(o, a.width, a.operand, k),
+    )
 }
 
 /// The binary operation, by the width of its first operand.

@@ -1,5 +1,5 @@
 -- Bodies that are put in, ifs, events and prints.
-use Rattle.std.proofs.Common.{rules, ◌≡◌, ap, sym, ◌∙◌}
+use Rattle.std.proofs.Common.{ap, sym, ◌∙◌}
 use Rattle.std.proofs.lemmas.Result.{on_ok_weaker}
 use Rattle.lucid_translate.specs.declared.env.Env.{Env}
 use Rattle.lucid_translate.specs.Translate.{held_by}

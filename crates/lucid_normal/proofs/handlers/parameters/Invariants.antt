@@ -1,4 +1,4 @@
-use Rattle.std.proofs.Common.{◌≡◌, ◌+◌, ◌++◌, drop}
+use Rattle.std.proofs.Common.{◌≡◌, ◌++◌, drop}
 use Rattle.lucid_translate.specs.Program.{held_from}
 use Rattle.lucid_normal.proofs.handlers.parameters.Given as goal
 

@@ -1,4 +1,4 @@
-use Rattle.std.proofs.Common.{◌≡◌, ◌≤◌, ◌∙◌, arith, length}
+use Rattle.std.proofs.Common.{◌≤◌, ◌∙◌, arith, length}
 use Rattle.lucid_normal.proofs.Fields.{first_left}
 use Rattle.lucid_normal.proofs.inputs.rest.Goals as goal
 
