@@ -17,4 +17,8 @@ mod site;
 mod statements;
 mod work;
 
+pub use bodies::block;
+pub use notes::Note;
 pub use program::normal;
+pub use site::Site;
+pub use work::Work;
