@@ -1,2 +1,3 @@
 mod ExampleProofs
 mod InOrder
+mod Numbers
