@@ -6,3 +6,5 @@
 mod bodies;
 #[cfg(test)]
 mod print;
+#[cfg(test)]
+mod whole;
