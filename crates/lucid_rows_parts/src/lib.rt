@@ -1,5 +1,5 @@
-// Tests of the crates from which others are made, by their public calls: numbers and names, copies, pairs of arrays, code, what waits, the
-// texts of a run. It has no other code, and nothing stands on it. Each file has the cases of one crate, worked by hand.
+// Tests of the crates from which others are made, by their public calls: numbers and names, copies, pairs of arrays, code, the texts of a
+// run. It has no other code, and nothing stands on it. Each file has the cases of one crate, worked by hand.
 #![tactic(auto)]
 
 #[cfg(test)]
@@ -10,7 +10,5 @@ mod codes;
 mod constraints;
 #[cfg(test)]
 mod copies;
-#[cfg(test)]
-mod queue;
 #[cfg(test)]
 mod texts;
