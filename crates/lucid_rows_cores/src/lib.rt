@@ -1,0 +1,10 @@
+// Tests of what is done with the core of a program: its order of arrays, and its flat form. The cores are those of texts.
+// It has no other code, and nothing stands on it. Stands on what reads programs, and on lucid_schemes, lucid_effects and lucid_inline.
+#![tactic(auto)]
+
+#[cfg(test)]
+mod cores;
+#[cfg(test)]
+mod inlining;
+#[cfg(test)]
+mod order_rows;
