@@ -1,6 +1,5 @@
-// The machine's files. No content is told, and every error is counted.
+// The machine's files. Of the begun one is told to be left what its reader tells, of names nothing, and every error is counted.
 ghost use Rattle.std.specs.Prelude.{◌≡◌, ℕ, List};
-ghost use Rattle.std.specs.Io.{ReadsAtMost};
 ghost use Rattle.lucid_io.specs.Counts.{raised};
 
 use crate::counts::raise;
@@ -33,8 +32,9 @@ impl<R: fs::Files + Drop> RealFiles<R> {
 
     // Counts a fault.
     fn fail(&mut self) -> Failed
-        ensures faults { self.new.faults ≡ raised self.old.faults }
+        ensures file { self.new.file ≡ self.old.file }
         ensures given { self.new.given ≡ self.old.given }
+        ensures faults { self.new.faults ≡ raised self.old.faults }
     {
         raise(&mut self.faults);
         Failed
@@ -43,12 +43,13 @@ impl<R: fs::Files + Drop> RealFiles<R> {
 
 impl<R: fs::Files + Drop> Files for RealFiles<R> {
     ghost use Rattle.std.specs.Prelude.{None};
+    ghost use Rattle.std.specs.Option.{option_and_then};
 
     ghost held = { λ _ name. None };
 
     ghost begun = { λ _ name. Unit {0} };
 
-    ghost left = { λ _. None };
+    ghost left = { λ s. option_and_then ⟦<R::File as Read>⟧.remaining s.file };
 
     ghost given = { λ s. s.given };
 
@@ -69,26 +70,13 @@ impl<R: fs::Files + Drop> Files for RealFiles<R> {
 
     /// Reads on. It fails with no file open.
     fn read(&mut self, room: &mut [u8]) -> Result<usize, Failed> {
-        match read_some(&mut self.file, room) {
-            Ok(count) => {
-                self.given = self.given.saturating_add(count as u64);
-                Ok(count)
-            }
-            Err(_) => Err(self.fail()),
+        if let Some(file) = &mut self.file
+            && let Ok(count) = file.read(room)
+        {
+            self.given = self.given.saturating_add(count as u64);
+            return Ok(count);
         }
-    }
-}
-
-// A read of the open file, if there is one.
-fn read_some<F: Read>(file: &mut Option<F>, room: &mut [u8]) -> Result<usize, Failed>
-    ensures { ReadsAtMost result room.new }
-{
-    match file {
-        Some(file) => match file.read(room) {
-            Ok(count) => Ok(count),
-            Err(_) => Err(Failed),
-        },
-        None => Err(Failed),
+        Err(self.fail())
     }
 }
 
