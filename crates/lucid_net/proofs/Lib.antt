@@ -1,0 +1,7 @@
+mod Keeping
+mod Outgoing
+mod Running
+mod Standing
+mod Telling
+mod Turning
+mod Waiting

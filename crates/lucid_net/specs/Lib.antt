@@ -1,0 +1,7 @@
+pub mod Entering
+pub mod Kept
+pub mod Pieces
+pub mod Seen
+pub mod Sent
+pub mod Ways
+pub mod Writes
