@@ -3,6 +3,7 @@ ghost use Rattle.std.specs.Prelude.{◌≡◌, IfErr, IfOk};
 ghost use Rattle.lucid_flat.specs.Flat.{flat_of};
 ghost use Rattle.lucid_flat.specs.Laws.{KeepsOrder, KeepsSteps};
 ghost use Rattle.lucid_inline.specs.Refusals.{Fits, Refused, largest};
+ghost use Rattle.lucid_order.specs.Order.{IsAccepted};
 
 use crate::error::InlineError;
 use lucid_core::{Core, Flat};
@@ -20,13 +21,15 @@ fn most() -> u64
 
 /// The flat form of a core. Both counts are found first, in proportion to the core, and nothing is built where one passes its bound:
 /// `TooMany` where the normal form has more than `room` ops, else `TooLarge` where the flat form has more than 262,144 statements and
-/// calls. The flat form does at each event what the core does, calls the same arrays in the same order, and is in order where the core is.
+/// calls. The flat form does at each event what the core does, calls the same arrays in the same order, and is in order where the core is;
+/// that of an accepted core is accepted.
 pub fn inline(alloc: Global, core: &Core, room: usize) -> Result<Flat, InlineError>
     ensures flat { IfOk result (λ flat. flat ≡ flat_of core.now) }
     ensures fits { IfOk result (λ flat. Fits core.now room) }
     ensures refused { IfErr result (Refused core.now room) }
     ensures steps { KeepsSteps core.now }
     ensures order { KeepsOrder core.now }
+    ensures accepted { IsAccepted core.now → IfOk result (λ flat. IsAccepted flat) }
 {
     keeps_steps(core);
     keeps_order(core);
