@@ -9,11 +9,12 @@ use Rattle.lucid_base.specs.declared.event.Event.{Event}
 use Rattle.lucid_conf.specs.declared.scene.FileEvent.{FileEvent}
 use Rattle.lucid_core.specs.Fits.{event_fits}
 use Rattle.lucid_core.specs.Parts.{Parts}
+use Rattle.lucid_network.specs.Log.{file_event}
 use Rattle.lucid_queue.specs.Order.{has_place, is_before}
 use Rattle.lucid_queue.specs.Waiting.{put_in, without_first}
 use Rattle.lucid_queue.specs.declared.pending.PendKey.{PendKey}
 use Rattle.lucid_queue.specs.declared.pending.Pending.{Pending}
-use Rattle.lucid_net.specs.Kept.{IsNew, file_event, is_kept, is_of_file, is_older}
+use Rattle.lucid_net.specs.Kept.{IsNew, is_kept, is_of_file, is_older}
 
 pub both : (a b : Bool) → a ≡ true → b ≡ true → (a && b) ≡ true
 both a b here there = ap (λ (c : Bool). c && b) here ∙ there

@@ -1,14 +1,13 @@
 // How a network begins: all cells are 0, and the events of the file wait.
-ghost use Rattle.std.specs.Prelude.{◌≡◌, ◌<◌, [], All, IfOk, IsTrue, OnOk, true, false, replicate};
+ghost use Rattle.std.specs.Prelude.{◌≡◌, ◌+◌, ◌<◌, [], All, IfOk, IsTrue, OnOk, true, false, replicate};
 ghost use Rattle.std.specs.List.{list_all};
 ghost use Rattle.lucid_base.specs.Cells.{zero_cells};
 ghost use Rattle.lucid_conf.specs.Kept.{IsFileEvent};
 ghost use Rattle.lucid_core.specs.Fits.{event_fits};
-ghost use Rattle.lucid_network.specs.Log.{file_events, put_all};
+ghost use Rattle.lucid_network.specs.Log.{file_event, file_events, put_all};
 ghost use Rattle.lucid_queue.specs.Order.{is_before};
 ghost use Rattle.lucid_queue.specs.Waiting.{put_in};
-ghost use Rattle.lucid_net.specs.Kept.{file_event, is_kept, is_of_file};
-ghost use Rattle.std.specs.Prelude.{◌+◌};
+ghost use Rattle.lucid_net.specs.Kept.{is_kept, is_of_file};
 
 use crate::sending::push;
 use lucid_base::Memory;
