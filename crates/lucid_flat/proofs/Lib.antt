@@ -22,3 +22,4 @@ pub mod Owning
 pub mod OwningNodes
 pub mod Valid
 pub mod ExampleProofs
+pub mod FewLocals

@@ -1,7 +1,7 @@
 // Laws of the flat form, each on a function that does nothing.
 ghost use Rattle.lucid_core.specs.Valid.{IsValidFlat};
 ghost use Rattle.lucid_flat.specs.Flat.{flat_of};
-ghost use Rattle.lucid_flat.specs.Laws.{KeepsCounts, KeepsOrder, KeepsSteps};
+ghost use Rattle.lucid_flat.specs.Laws.{HasFewLocals, KeepsCounts, KeepsOrder, KeepsSteps};
 
 use lucid_core::Core;
 
@@ -30,6 +30,13 @@ pub fn keeps_counts(core: &Core)
 /// The flat form of a core is a valid flat core.
 pub fn flat_is_valid(core: &Core)
     ensures { IsValidFlat (flat_of core.now) }
+{
+    let _valid = core.arrays();
+}
+
+/// The locals of each handler of the flat form are at most 8, and 8 times the size that is counted over the core's handler.
+pub fn has_few_locals(core: &Core)
+    ensures { HasFewLocals core.now }
 {
     let _valid = core.arrays();
 }

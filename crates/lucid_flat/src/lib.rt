@@ -8,4 +8,4 @@
 mod examples;
 mod laws;
 
-pub use laws::{flat_is_valid, keeps_counts, keeps_order, keeps_steps};
+pub use laws::{flat_is_valid, has_few_locals, keeps_counts, keeps_order, keeps_steps};
