@@ -1,3 +1,4 @@
+mod Free
 mod Keeping
 mod Outgoing
 mod Running

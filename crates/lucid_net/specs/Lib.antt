@@ -1,5 +1,6 @@
 pub mod Entering
 pub mod Kept
+pub mod Laws
 pub mod Pieces
 pub mod Seen
 pub mod Sent

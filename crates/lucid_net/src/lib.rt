@@ -6,6 +6,7 @@
 
 mod ending;
 mod error;
+mod laws;
 mod net;
 mod sending;
 mod starting;
@@ -15,4 +16,5 @@ mod ways;
 mod world;
 
 pub use error::NetError;
+pub use laws::places_are_free;
 pub use net::Net;
