@@ -21,8 +21,8 @@ use lucid_io::Sink;
 use std::alloc::Global;
 use std::marker::Model;
 
-/// A network that runs the handlers of a program whole. Contracts see what it runs, how many ticks are done, whether one failed, and the state
-/// after them: the definition's, until a tick fails.
+/// A network that runs the handlers of a program whole. Contracts see what it runs, how many ticks are done, whether one failed, and the
+/// state after them: the definition's, until a tick fails.
 #[derive(Drop)]
 pub struct Net<'a> {
     world: World<'a>,
@@ -104,8 +104,8 @@ impl<'a> Net<'a> {
         0
     }
 
-    /// One tick, the turn of each switch in order (`tick_text` is what it writes). After an error a part was written, a proper one where a
-    /// write failed, and the network has failed.
+    /// One tick, the turn of each switch in order (`tick_text` is what it writes). After an error a part of that was written, a proper one
+    /// where a write failed, and the network has failed.
     pub fn tick<S: Sink>(&mut self, sink: &mut S) -> Result<(), NetError>
         requires before { self.old.at < self.old.scene.stop }
         requires sound { self.old.failed ≡ false }
