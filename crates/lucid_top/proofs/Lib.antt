@@ -1,9 +1,11 @@
 pub mod Cycles
+pub mod JsonFiles
 pub mod Laws
 pub mod Numbers
 pub mod Ordering
 pub mod Parts
 pub mod Reading
 pub mod Readings
+pub mod Stopping
 pub mod Tokens
 pub mod Trees

@@ -1,13 +1,12 @@
 -- What the order check answered is whether a program is in order, and if not, which declaration is the first that isn't.
-use Rattle.std.proofs.Common.{◌≡◌, ℕ, ◌<◌, ◌⊎◌, inl, inr, List, [], ◌∷◌, Result, Ok, Err, length, map, sym, ap, ◌∙◌, subst, refl}
+use Rattle.std.proofs.Common.{◌≡◌, ℕ, ◌<◌, inl, inr, List, [], ◌∷◌, Result, Ok, Err, length, map, sym, ap, ◌∙◌, subst}
 use Rattle.std.specs.Global.{Vec}
-use Rattle.std.specs.declared.alloc.Global.{Global}
 use Rattle.std.proofs.lemmas.Bool.{cases_order}
 use Rattle.std.proofs.lemmas.List.Elements.{All-contains}
 use Rattle.lucid_base.specs.declared.array.ArrayName.{ArrayName}
 use Rattle.lucid_core.specs.Parts.{Parts}
 use Rattle.lucid_order.specs.Order.{Body, InOrder, IsAccepted, bodies}
-use Rattle.lucid_order.specs.Refused.{IsFirstOf, IsFirstRefused}
+use Rattle.lucid_order.specs.Refused.{IsFirstRefused}
 use Rattle.lucid_effects.specs.First.{IsRefusedFirst}
 use Rattle.lucid_tree.specs.declared.tree.Tree.{Tree}
 use Rattle.lucid_top.specs.declared.refusal.Refusal.{Refusal}

@@ -8,17 +8,20 @@ use Rattle.lucid_top.specs.Command.{command_of, files_of}
 use Rattle.lucid_top.specs.Files.{Held, Texts, contents}
 use Rattle.lucid_top.specs.Once.{OnceAnswers}
 use Rattle.lucid_top.specs.Outcome.{Outcome}
+use Rattle.lucid_top.specs.RunWhole.{RunWholeAnswers}
 use Rattle.lucid_top.specs.Words.{Bytes, word_at}
 
 -- what a command of these words answers over the texts of its files
 abbrev pub CommandAnswers : Command → List Bytes → List Bytes → Outcome → Type 0
 CommandAnswers command.Check words texts o = CheckAnswers (word_at texts 0) o
 CommandAnswers (command.Once arguments) words texts o = OnceAnswers (word_at texts 0) (word_at words 2) arguments o
+CommandAnswers command.RunWhole words texts o = RunWholeAnswers (word_at texts 0) (word_at texts 1) (word_at texts 2) o
 
 -- where a command may run out of memory after it began to write
 abbrev pub MayStop : Command → List Bytes → Type 0
 MayStop command.Check texts = ⊥
 MayStop (command.Once arguments) texts = ⊥
+MayStop command.RunWhole texts = Unit {0}
 
 -- nothing is an answer where a file doesn't tell what it holds; a file that is too long is the answer
 abbrev pub OverTexts : Option Texts → (List Bytes → Outcome → Type 0) → Outcome → Type 0

@@ -7,6 +7,8 @@ pub mod Once
 pub mod Outcome
 pub mod Program
 pub mod Refusal
+pub mod RunWhole
+pub mod Settings
 pub mod Status
 pub mod Words
 pub mod Writing

@@ -13,7 +13,6 @@ use Rattle.lucid_order.specs.Refused.{IsFirstRefused}
 use Rattle.lucid_parse.specs.Nesting.{too_deep}
 use Rattle.lucid_parse.specs.Program.{IsFault, IsTreeOf, kinds_of}
 use Rattle.lucid_rules.specs.Makes.{IsTyped, IsRefused}
-use Rattle.lucid_tree.specs.declared.tree.Decl.{Decl}
 use Rattle.lucid_tree.specs.declared.tree.DeclKind.{DeclKind}
 use Rattle.lucid_tree.specs.declared.tree.DeclKind.TheVariants as kind
 use Rattle.lucid_tree.specs.declared.tree.P.{P}

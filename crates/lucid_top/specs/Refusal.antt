@@ -1,8 +1,14 @@
 -- Why there is no output, and the error line that says so: a line a refusal in each table.
-use Rattle.std.specs.Prelude.{ℕ, List, [], ◌++◌, codes, decimal}
+use Rattle.std.specs.Prelude.{ℕ, List, [], ◌++◌, Option, None, Some, codes, decimal}
 use Rattle.std.specs.List.{flat_map}
+use Rattle.lucid_conf.specs.Keys.{name_of}
+use Rattle.lucid_conf.specs.declared.error.ConfError.{ConfError}
+use Rattle.lucid_conf.specs.declared.error.ConfError.TheVariants as conf
+use Rattle.lucid_conf.specs.declared.key.Key.{Key}
 use Rattle.lucid_lex.specs.declared.token.LexError.{LexError}
 use Rattle.lucid_lex.specs.declared.token.LexError.TheVariants as lex
+use Rattle.lucid_net.specs.declared.error.NetError.{NetError}
+use Rattle.lucid_net.specs.declared.error.NetError.TheVariants as net
 use Rattle.lucid_parse.specs.declared.error.ParseError.{ParseError}
 use Rattle.lucid_parse.specs.declared.error.ParseError.TheVariants as parse
 use Rattle.lucid_rules.specs.declared.limit.What.{What}
@@ -32,6 +38,23 @@ of_types (types.NoRule decl line) = refusal.NoRule decl line
 of_types (types.Limit what decl line) = refusal.PassesLimit what decl line
 of_types types.Memory = refusal.Memory
 
+-- why a limits file gives nothing
+abbrev pub of_limits : ConfError → Refusal
+of_limits conf.NotJson = refusal.LimitsNotJson
+of_limits (conf.BadField key place) = refusal.LimitsKey key
+of_limits conf.Memory = refusal.Memory
+
+-- why a scenario gives nothing
+abbrev pub of_scene : ConfError → Refusal
+of_scene conf.NotJson = refusal.SceneNotJson
+of_scene (conf.BadField key place) = refusal.SceneKey key place
+of_scene conf.Memory = refusal.Memory
+
+-- why a network stops
+abbrev pub of_net : NetError → Refusal
+of_net net.WriteFault = refusal.WriteFault
+of_net net.Memory = refusal.Memory
+
 abbrev pub status_of : Refusal → Status
 status_of refusal.Usage = status.Usage
 status_of (refusal.ReadFault word) = status.ReadFault
@@ -42,6 +65,10 @@ status_of (refusal.NoTree n) = status.Syntax
 status_of (refusal.NoRule decl line) = status.Types
 status_of (refusal.PassesLimit what decl line) = status.Types
 status_of (refusal.NoOrder decl line cycle) = status.Order
+status_of refusal.LimitsNotJson = status.BadLimits
+status_of (refusal.LimitsKey key) = status.BadLimits
+status_of refusal.SceneNotJson = status.BadScene
+status_of (refusal.SceneKey key place) = status.BadScene
 status_of refusal.WriteFault = status.WriteFault
 status_of refusal.Memory = status.Memory
 
@@ -67,6 +94,11 @@ abbrev pub order_line : ℕ → ℕ → List Bytes → Bytes
 order_line decl line cycle =
     (codes "order: declaration " ++ decimal decl ++ codes " line " ++ decimal line ++ codes " cycle") ++ (names_text cycle ++ codes "\n")
 
+-- the key of a scenario that fails, and of a list the number of the bad item
+abbrev pub scene_line : Key → Option ℕ → Bytes
+scene_line key None = codes "scene: " ++ name_of key ++ codes "\n"
+scene_line key (Some place) = codes "scene: " ++ name_of key ++ codes " " ++ decimal place ++ codes "\n"
+
 -- the line on the error stream, with its line feed; a file is told by the word that names it
 abbrev pub line_of : List Bytes → Refusal → Bytes
 line_of words refusal.Usage = codes "usage\n"
@@ -78,5 +110,9 @@ line_of words (refusal.NoTree n) = codes "syntax: token " ++ decimal n ++ codes 
 line_of words (refusal.NoRule decl line) = types_line decl line []
 line_of words (refusal.PassesLimit what decl line) = types_line decl line (limit_of what)
 line_of words (refusal.NoOrder decl line cycle) = order_line decl line cycle.items
+line_of words refusal.LimitsNotJson = codes "limits: not JSON\n"
+line_of words (refusal.LimitsKey key) = codes "limits: " ++ name_of key ++ codes "\n"
+line_of words refusal.SceneNotJson = codes "scene: not JSON\n"
+line_of words (refusal.SceneKey key place) = scene_line key place
 line_of words refusal.WriteFault = codes "write fault\n"
 line_of words refusal.Memory = codes "memory\n"

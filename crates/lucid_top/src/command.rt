@@ -1,6 +1,6 @@
 // What the words of a call ask for, read by place.
 ghost use Rattle.std.specs.Prelude.{◌≡◌, ◌+◌, ◌<◌, ◌^◌, All, IfSome, length, map, string_bytes};
-ghost use Rattle.lucid_top.specs.Command.{command_of, check_words, once_words, files_of};
+ghost use Rattle.lucid_top.specs.Command.{command_of, check_words, once_words, run_mode as mode_of, run_words, files_of};
 
 use crate::number::arguments;
 use lucid_base::Args;
@@ -15,6 +15,8 @@ pub enum Command {
         /// The numbers that ARG.. write; None where there are more than any event has.
         arguments: Option<Args>,
     },
+    /// `run whole P L T`
+    RunWhole,
 }
 
 /// A word that names a file.
@@ -28,6 +30,12 @@ pub struct NamedFile {
 /// The most bytes that a program file may have.
 const PROGRAM_BYTES: usize = 1_048_576;
 
+/// The most bytes that a limits file may have.
+const LIMITS_BYTES: usize = 1_048_576;
+
+/// The most bytes that a scenario may have.
+const SCENARIO_BYTES: usize = 8_388_608;
+
 const CHECK_FILES: [NamedFile; 1] = [NamedFile {
     word: 1,
     limit: PROGRAM_BYTES,
@@ -37,6 +45,21 @@ const ONCE_FILES: [NamedFile; 1] = [NamedFile {
     word: 1,
     limit: PROGRAM_BYTES,
 }];
+
+const RUN_FILES: [NamedFile; 3] = [
+    NamedFile {
+        word: 2,
+        limit: PROGRAM_BYTES,
+    },
+    NamedFile {
+        word: 3,
+        limit: LIMITS_BYTES,
+    },
+    NamedFile {
+        word: 4,
+        limit: SCENARIO_BYTES,
+    },
+];
 
 impl Command {
     /// What the words ask for; None where they are none of the forms. Each word that names a file is there.
@@ -48,6 +71,7 @@ impl Command {
             [verb, rest @ ..] => match verb.as_str() {
                 "check" => read_check(rest),
                 "once" => read_once(rest),
+                "run" => read_run(rest),
                 _ => None,
             },
             [] => None,
@@ -62,6 +86,7 @@ impl Command {
         match self {
             Command::Check => &CHECK_FILES,
             Command::Once { .. } => &ONCE_FILES,
+            Command::RunWhole => &RUN_FILES,
         }
     }
 }
@@ -84,6 +109,27 @@ fn read_once(words: &[String]) -> Option<Command>
         [_, _, rest @ ..] => Some(Command::Once {
             arguments: arguments(rest)?,
         }),
+        _ => None,
+    }
+}
+
+fn read_run(words: &[String]) -> Option<Command>
+    ensures command { result ≡ run_words (map string_bytes words.now) }
+    ensures there { IfSome result (λ c. All (λ file. file.word < 1 + length words.now) (files_of c)) }
+{
+    match words {
+        [mode, _, _, _] => run_mode(mode.as_str()),
+        _ => None,
+    }
+}
+
+// How a network of a program, limits and a scenario runs.
+fn run_mode(mode: &str) -> Option<Command>
+    ensures command { result ≡ mode_of mode.now }
+    ensures there { IfSome result (λ c. All (λ file. file.word < 5) (files_of c)) }
+{
+    match mode {
+        "whole" => Some(Command::RunWhole),
         _ => None,
     }
 }

@@ -7,12 +7,14 @@ ghost use Rattle.lucid_top.specs.Writing.{Performs};
 
 mod check;
 mod once;
+mod run_whole;
 
 use crate::command::Command;
 use crate::refusal::Refusal;
 use check::check;
 use lucid_io::Sink;
 use once::once;
+use run_whole::run_whole;
 use std::alloc::Global;
 
 /// Performs a command of these words over the texts of its files, in word order.
@@ -30,5 +32,6 @@ pub fn perform<W: Sink>(
     match command {
         Command::Check => check(alloc, texts, out),
         Command::Once { arguments } => once(alloc, words, texts, arguments, out),
+        Command::RunWhole => run_whole(alloc, texts, out),
     }
 }

@@ -9,6 +9,7 @@ mod files;
 mod number;
 mod program;
 mod refusal;
+mod settings;
 mod status;
 mod top;
 

@@ -1,16 +1,19 @@
 // Why there is no output, and the one place that writes the error line. An error of a lower crate becomes a refusal by one `From`.
 ghost use Rattle.std.specs.Prelude.{◌≡◌, ◌++◌, OnOk, OnErr, codes, map, string_bytes};
+ghost use Rattle.lucid_conf.specs.Keys.{name_of};
 ghost use Rattle.lucid_io.specs.Puts.{PutsAll, PutsPart};
 ghost use Rattle.lucid_top.specs.Files.{of_take};
-ghost use Rattle.lucid_top.specs.Refusal.{status_of, line_of, limit_of, names_text, order_line, types_line};
+ghost use Rattle.lucid_top.specs.Refusal.{status_of, line_of, limit_of, names_text, of_limits, of_scene, order_line, scene_line, types_line};
 ghost use Rattle.lucid_top.specs.Words.{word_at};
 ghost use Rattle.lucid_top.specs.Writing.{Said};
 
 use crate::status::Status;
 use lucid_base::{Id, Memory as WantOfMemory};
+use lucid_conf::{ConfError, Key};
 use lucid_io::{Sink, Take, WriteFault, put_all};
 use lucid_lex::LexError;
 use lucid_log::{Piece, put_pieces};
+use lucid_net::NetError;
 use lucid_parse::ParseError;
 use lucid_rules::What;
 use lucid_types::TypeError;
@@ -51,6 +54,19 @@ pub enum Refusal {
         line: u32,
         /// The names of a cycle, each of which is needed before the next and the last before the first.
         cycle: Vec<Id>,
+    },
+    /// The limits file is no JSON.
+    LimitsNotJson,
+    /// This key of the limits file is the first that fails.
+    LimitsKey(Key),
+    /// The scenario is no JSON.
+    SceneNotJson,
+    /// A key of the scenario fails.
+    SceneKey {
+        /// The first that fails.
+        key: Key,
+        /// Where it is a list with a bad item, the number of the first such item, from 0.
+        place: Option<u32>,
     },
     /// A write of the output failed.
     WriteFault,
@@ -135,6 +151,20 @@ impl From<TypeError> for Refusal {
     }
 }
 
+impl From<NetError> for Refusal {
+    ghost use Rattle.std.specs.Prelude.{◌≡◌};
+    ghost use Rattle.lucid_top.specs.Refusal.{of_net};
+
+    ghost from_gives = { λ e r. r ≡ of_net e };
+
+    fn from(error: NetError) -> Refusal {
+        match error {
+            NetError::WriteFault => Refusal::WriteFault,
+            NetError::Memory => Refusal::Memory,
+        }
+    }
+}
+
 impl Refusal {
     /// Why the file that the word of this number names was not taken.
     pub fn of_take(word: usize, take: Take) -> Refusal
@@ -144,6 +174,28 @@ impl Refusal {
             Take::ReadFault => Refusal::ReadFault(word),
             Take::TooLong => Refusal::TooLong(word),
             Take::Memory => Refusal::Memory,
+        }
+    }
+
+    /// Why a limits file gives nothing.
+    pub fn of_limits(error: ConfError) -> Refusal
+        ensures { result ≡ of_limits error }
+    {
+        match error {
+            ConfError::NotJson => Refusal::LimitsNotJson,
+            ConfError::BadField { key, .. } => Refusal::LimitsKey(key),
+            ConfError::Memory => Refusal::Memory,
+        }
+    }
+
+    /// Why a scenario gives nothing.
+    pub fn of_scene(error: ConfError) -> Refusal
+        ensures { result ≡ of_scene error }
+    {
+        match error {
+            ConfError::NotJson => Refusal::SceneNotJson,
+            ConfError::BadField { key, place } => Refusal::SceneKey { key, place },
+            ConfError::Memory => Refusal::Memory,
         }
     }
 
@@ -157,6 +209,8 @@ impl Refusal {
             Refusal::NoToken(_) | Refusal::TooDeep(_) | Refusal::NoTree(_) => Status::Syntax,
             Refusal::NoRule { .. } | Refusal::PassesLimit { .. } => Status::Types,
             Refusal::NoOrder { .. } => Status::Order,
+            Refusal::LimitsNotJson | Refusal::LimitsKey(_) => Status::BadLimits,
+            Refusal::SceneNotJson | Refusal::SceneKey { .. } => Status::BadScene,
             Refusal::WriteFault => Status::WriteFault,
             Refusal::Memory => Status::Memory,
         }
@@ -222,6 +276,10 @@ fn put_line<E: Sink>(err: &mut E, words: &[String], refusal: &Refusal) -> Result
             put_types(err, *decl, *line, limit_text(*what))
         }
         Refusal::NoOrder { decl, line, cycle } => put_order(err, *decl, *line, cycle.as_slice()),
+        Refusal::LimitsNotJson => put_all(err, b"limits: not JSON\n"),
+        Refusal::LimitsKey(key) => put_key(err, b"limits: ", key.name().as_bytes()),
+        Refusal::SceneNotJson => put_all(err, b"scene: not JSON\n"),
+        Refusal::SceneKey { key, place } => put_scene_key(err, *key, *place),
         Refusal::WriteFault => put_all(err, b"write fault\n"),
         Refusal::Memory => put_all(err, b"memory\n"),
     }
@@ -247,6 +305,37 @@ fn put_file<'a, E: Sink>(
             Piece::Text(b"\n"),
         ],
     )
+}
+
+// A line that tells the key of this name.
+fn put_key<'a, E: Sink>(err: &mut E, head: &'a [u8], name: &'a [u8]) -> Result<(), WriteFault>
+    ensures all { OnOk result (PutsAll E.written E.faults err.old err.new (head.now ++ name.now ++ codes "\n")) }
+    ensures part { OnErr result (PutsPart E.written E.faults err.old err.new (head.now ++ name.now ++ codes "\n")) }
+{
+    put_pieces(
+        err,
+        &[Piece::Text(head), Piece::Text(name), Piece::Text(b"\n")],
+    )
+}
+
+// The line that tells a key of a scenario, and of a list the bad item.
+fn put_scene_key<E: Sink>(err: &mut E, key: Key, place: Option<u32>) -> Result<(), WriteFault>
+    ensures all { OnOk result (PutsAll E.written E.faults err.old err.new (scene_line key place)) }
+    ensures part { OnErr result (PutsPart E.written E.faults err.old err.new (scene_line key place)) }
+{
+    match place {
+        None => put_key(err, b"scene: ", key.name().as_bytes()),
+        Some(place) => put_pieces(
+            err,
+            &[
+                Piece::Text(b"scene: "),
+                Piece::Text(key.name().as_bytes()),
+                Piece::Text(b" "),
+                Piece::Number(place as u64),
+                Piece::Text(b"\n"),
+            ],
+        ),
+    }
 }
 
 // The line that tells a declaration that the typing rules refuse, and then the limit.

@@ -1,4 +1,4 @@
-use Rattle.std.proofs.Common.{◌≡◌, List, rules, subst}
+use Rattle.std.proofs.Common.{List, rules, subst}
 use Rattle.lucid_core.specs.Parts.{Parts}
 use Rattle.lucid_lex.specs.declared.token.Token.{Token}
 use Rattle.lucid_top.specs.Outcome.{Prepares}

@@ -1,4 +1,4 @@
-use Rattle.std.proofs.Common.{◌≡◌, Err, sym, ap, subst, rules}
+use Rattle.std.proofs.Common.{◌≡◌, sym, subst, rules}
 use Rattle.lucid_top.specs.Outcome.{Declines}
 use Rattle.lucid_top.specs.Program.{IsParsed}
 use Rattle.lucid_top.specs.Refusal.{of_parse}

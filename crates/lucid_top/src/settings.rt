@@ -1,0 +1,31 @@
+// From the text of a limits file to the limits, and from that of a scenario to the scenario.
+ghost use Rattle.std.specs.Prelude.{IfOk};
+ghost use Rattle.lucid_conf.specs.Kept.{IsScene};
+ghost use Rattle.lucid_top.specs.Outcome.{Prepares};
+ghost use Rattle.lucid_top.specs.Settings.{IsLimits, IsScenario};
+
+use crate::refusal::Refusal;
+use lucid_conf::{Limits, Scene, limits_of, scene_of};
+use lucid_core::Core;
+use std::alloc::Global;
+
+/// The limits that the text writes, or the reason why it writes none.
+pub fn limits(alloc: Global, text: &[u8]) -> Result<Limits, Refusal>
+    ensures { Prepares (IsLimits text.now) (λ limits. limits) result }
+{
+    match limits_of(alloc, text) {
+        Ok(limits) => Ok(limits),
+        Err(error) => Err(Refusal::of_limits(error)),
+    }
+}
+
+/// The scenario that the text writes for this program, or the reason why it writes none.
+pub fn scenario(alloc: Global, text: &[u8], core: &Core) -> Result<Scene, Refusal>
+    ensures scene { Prepares (IsScenario core.now text.now) (λ scene. scene) result }
+    ensures keeps { IfOk result (IsScene core.now) }
+{
+    match scene_of(alloc, text, core) {
+        Ok(scene) => Ok(scene),
+        Err(error) => Err(Refusal::of_scene(error)),
+    }
+}
