@@ -1,5 +1,5 @@
--- What the forms that hold lists and branches become, from what their parts are.
-use Rattle.std.proofs.Common.{◌≡◌, ◌+◌, ℕ, List, [], ◌++◌, Bool, Option, None, Some, map, ap, ap₂, sym, ◌∙◌}
+-- What the forms that hold lists become, from what their parts are.
+use Rattle.std.proofs.Common.{◌≡◌, ◌+◌, ℕ, List, ◌++◌, Bool, Option, None, Some, map, ap, ap₂, sym, ◌∙◌}
 use Rattle.std.specs.Prelude.{⊤}
 use Rattle.std.specs.Option.{option_map}
 use Rattle.lucid_code.specs.declared.op.Act.TheVariants as act
@@ -12,13 +12,12 @@ use Rattle.lucid_core.specs.declared.body.Expr.TheOpen.{Expr-F, Stmt-F}
 use Rattle.lucid_core.specs.declared.body.Expr.TheFolds.{fold-roll-Expr, fold-roll-Stmt}
 use Rattle.lucid_core.specs.declared.body.Expr.TheVariants as e
 use Rattle.lucid_core.specs.declared.body.Stmt.TheVariants as s
-use Rattle.lucid_normal.specs.declared.branches.Ends.{Ends}
-use Rattle.lucid_normal.specs.Added.{added, given_codes}
-use Rattle.lucid_normal.specs.Ends.{ends_of, ops_of}
-use Rattle.lucid_normal.proofs.Adding.{added_more, added_none}
+use Rattle.lucid_normal.specs.Given.{given_codes}
+use Rattle.lucid_normal_parts.specs.Added.{added}
+use Rattle.lucid_normal_parts.proofs.Adding.{added_more}
 use Rattle.lucid_translate.specs.declared.env.Env.{Env}
 use Rattle.lucid_translate.specs.declared.env.Typed.{Typed}
-use Rattle.lucid_translate.specs.Translate.{Expressed, Translation, bit_field, branch, condition, delay_made, each_made, expr_code, expr_step, given_made, guarded, held_by, holding, is, operands, ordered_made, out_made, seq, stmt_code, stmt_step, target_made, touch_step}
+use Rattle.lucid_translate.specs.Translate.{Expressed, Translation, delay_made, each_made, expr_code, expr_step, given_made, holding, is, operands, ordered_made, out_made, seq, stmt_code, stmt_step, target_made, touch_step}
 
 -- ---- prints and events
 
@@ -67,66 +66,6 @@ gen_ops event xs d u b guard ops0 ops1 ops2 env env1 env2 args given v at1 o1 g 
     ∙ ap (λ h. added guard ops0 (a.ops ++ t.ops ++ sent (operands a.value) h env2)) (g ∙ ap (λ (x : Env). (times b d u x).value) at1)
     ∙ ap (λ x. added guard ops0 (a.ops ++ t.ops ++ sent (operands a.value) t.value x)) (at2 ∙ ap (λ (x : Env). (times b d u x).env) at1)
     ∙ sym (ap (λ (w : Translation ⊤). added guard ops0 (w env).ops) (gen_is event xs d u b))
-
--- ---- ifs
-
-if_is : (x : Expr) (ss ts : List Stmt) → stmt_code (s.If x ss ts) ≡ stmt_step (Stmt-F.If (expr_code x) (map stmt_code ss) (map stmt_code ts))
-if_is x ss ts = ap stmt_code (sym (s.rolls-If x ss ts)) ∙ fold-roll-Stmt Expressed (Translation ⊤) Expressed expr_step stmt_step touch_step (Stmt-F.If x ss ts)
-
--- The field of the condition.
-pub bit_is : (x : Expr) (env env1 : Env) (t : Typed) (plain : Bool) → t ≡ held_by ((expr_code x).made env).value → env1 ≡ ((expr_code x).made env).env → plain ≡ (expr_code x).plain →
-    bit_field plain t.operand t env1 ≡ (let a = (expr_code x).made env in bit_field (expr_code x).plain (held_by a.value).operand (held_by a.value) a.env)
-bit_is x env env1 t plain is_t is_env is_plain =
-    let a = (expr_code x).made env in
-    ap (λ b. bit_field b t.operand t env1) is_plain
-    ∙ ap (λ (u : Typed). bit_field (expr_code x).plain u.operand u env1) is_t
-    ∙ ap (λ (y : Env). bit_field (expr_code x).plain (held_by a.value).operand (held_by a.value) y) is_env
-
-condition_ops : (x : Expr) (guard : List Literal) (ops0 ops1 ops2 : List Op) (env env1 : Env) (t : Typed) (plain : Bool) →
-    t ≡ held_by ((expr_code x).made env).value → env1 ≡ ((expr_code x).made env).env → ops1 ≡ added guard ops0 ((expr_code x).made env).ops → plain ≡ (expr_code x).plain →
-    ops2 ≡ added guard ops1 (bit_field plain t.operand t env1).ops → ops2 ≡ added guard ops0 (condition (expr_code x) env).ops
-condition_ops x guard ops0 ops1 ops2 env env1 t plain is_t is_env o1 is_plain o2 =
-    let a = (expr_code x).made env in
-    let m = bit_field plain t.operand t env1 in
-    o2 ∙ ap (λ z. added guard z m.ops) (o1 ∙ sym (added_none guard ops0 a.ops)) ∙ added_more guard ops0 (a.ops ++ []) m.ops
-    ∙ ap (λ n. added guard ops0 (a.ops ++ [] ++ n.ops)) (bit_is x env env1 t plain is_t is_env is_plain)
-
-branch_ops : (guard : List Literal) (c : ℕ) (ss ts : Translation ⊤) (ops2 ops3 ops4 : List Op) (env2 env3 env4 env5 : Env) (first : Ends) (held : List (Option Typed)) →
-    env3 ≡ (ss env2).env → first ≡ ends_of env3 → held ≡ env2.held → env4 ≡ record env2 { widths = env3.widths } → env5 ≡ (ts env4).env →
-    ops3 ≡ added guard ops2 (map (guarded (is c 1)) (ss env2).ops) → ops4 ≡ added guard ops3 (map (guarded (is c 0)) (ts env4).ops) →
-    added guard ops4 (ops_of c held first env5) ≡ added guard ops2 (branch ss ts c env2).ops
-branch_ops guard c ss ts ops2 ops3 ops4 env2 env3 env4 env5 first held e3 ef eh e4 e5 o3 o4 =
-    let a = ss env2 in
-    let f4 : env4 ≡ record env2 { widths = a.env.widths } = e4 ∙ ap (λ (x : Env). record env2 { widths = x.widths }) e3 in
-    let b = ts (record env2 { widths = a.env.widths }) in
-    let f5 : env5 ≡ b.env = e5 ∙ ap (λ (x : Env). (ts x).env) f4 in
-    let ff : first ≡ ends_of a.env = ef ∙ ap ends_of e3 in
-    let firsts = map (guarded (is c 1)) a.ops in
-    let seconds = map (guarded (is c 0)) b.ops in
-    let g4 : ops4 ≡ added guard (added guard ops2 firsts) seconds =
-    o4 ∙ ap (λ (x : Env). added guard ops3 (map (guarded (is c 0)) (ts x).ops)) f4 ∙ ap (λ z. added guard z seconds) o3 in
-    let ends = ops_of c env2.held (ends_of a.env) b.env in
-    let same_ends : ops_of c held first env5 ≡ ends =
-    ap (λ h. ops_of c h first env5) eh ∙ ap (λ f. ops_of c env2.held f env5) ff ∙ ap (λ (x : Env). ops_of c env2.held (ends_of a.env) x) f5 in
-    ap₂ (λ z r. added guard z r) g4 same_ends
-    ∙ added_more guard (added guard ops2 firsts) seconds ends ∙ added_more guard ops2 firsts (seconds ++ ends)
-
-pub if_ops : (x : Expr) (ss ts : List Stmt) (guard : List Literal) (c : ℕ) (ops0 ops1 ops2 ops3 ops4 : List Op) (env env1 env2 env3 env4 env5 : Env) (t : Typed) (plain : Bool) (first : Ends) (held : List (Option Typed)) →
-    t ≡ held_by ((expr_code x).made env).value → env1 ≡ ((expr_code x).made env).env → ops1 ≡ added guard ops0 ((expr_code x).made env).ops → plain ≡ (expr_code x).plain →
-    c ≡ (bit_field plain t.operand t env1).value → env2 ≡ (bit_field plain t.operand t env1).env → ops2 ≡ added guard ops1 (bit_field plain t.operand t env1).ops →
-    env3 ≡ (seq (map stmt_code ss) env2).env → first ≡ ends_of env3 → held ≡ env2.held → env4 ≡ record env2 { widths = env3.widths } → env5 ≡ (seq (map stmt_code ts) env4).env →
-    ops3 ≡ added guard ops2 (map (guarded (is c 1)) (seq (map stmt_code ss) env2).ops) → ops4 ≡ added guard ops3 (map (guarded (is c 0)) (seq (map stmt_code ts) env4).ops) →
-    added guard ops4 (ops_of c held first env5) ≡ added guard ops0 (stmt_code (s.If x ss ts) env).ops
-if_ops x ss ts guard c ops0 ops1 ops2 ops3 ops4 env env1 env2 env3 env4 env5 t plain first held is_t is_env o1 is_plain is_c is_env2 o2 e3 ef eh e4 e5 o3 o4 =
-    let y = seq (map stmt_code ss) in
-    let n = seq (map stmt_code ts) in
-    let k = condition (expr_code x) env in
-    let bit = bit_is x env env1 t plain is_t is_env is_plain in
-    branch_ops guard c y n ops2 ops3 ops4 env2 env3 env4 env5 first held e3 ef eh e4 e5 o3 o4
-    ∙ ap (λ z. added guard z (branch y n c env2).ops) (condition_ops x guard ops0 ops1 ops2 env env1 t plain is_t is_env o1 is_plain o2)
-    ∙ added_more guard ops0 k.ops (branch y n c env2).ops
-    ∙ ap₂ (λ (i : ℕ) (z : Env). added guard ops0 (k.ops ++ (branch y n i z).ops)) (is_c ∙ ap (λ m. m.value) bit) (is_env2 ∙ ap (λ m. m.env) bit)
-    ∙ sym (ap (λ (w : Translation ⊤). added guard ops0 (w env).ops) (if_is x ss ts))
 
 -- ---- bodies that are put in
 

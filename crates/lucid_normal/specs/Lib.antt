@@ -1,3 +1,1 @@
-pub mod Added
-pub mod Ends
-pub mod Notes
+pub mod Given

@@ -1,25 +1,22 @@
 // Bodies as operations: a function a form.
 ghost use Rattle.std.specs.Prelude.{◌≡◌, IfOk, OnOk, map, option_map};
 ghost use Rattle.lucid_translate.specs.Translate.{delay_made, each_made, expr_code, given_made, guarded, is, operands as operands_of, ordered_made, seq, stmt_code, target_made, touch_code};
-ghost use Rattle.lucid_normal.specs.Added.{added, given_codes};
-ghost use Rattle.lucid_normal.specs.Notes.{before};
+ghost use Rattle.lucid_normal_parts.specs.Added.{added};
+ghost use Rattle.lucid_normal_parts.specs.Notes.{before};
+ghost use Rattle.lucid_normal.specs.Given.{given_codes};
 
-use crate::branches::{begin, turn};
-use crate::calls::{enter, leave};
-use crate::joining::join;
-use crate::locals::{held_at, input, is_plain, needed};
-use crate::operations::{binary, bit, call_array, cast, compare, hash, unary};
-use crate::site::{Site, within};
-use crate::statements::{answer, answer_nothing, assign, say, send};
-use crate::work::Work;
 use lucid_base::{Items, Memory};
 use lucid_code::Operand;
 use lucid_core::{Expr, Stmt, Touch};
+use lucid_normal_parts::{
+    Site, Work, answer, answer_nothing, assign, begin, binary, bit, call_array, cast, compare,
+    enter, hash, held_at, input, is_plain, join, leave, needed, say, send, turn, unary, within,
+};
 use lucid_translate::{Env, Typed};
 
 /// What holds the value of the expression, if it gives one.
 #[cycle(walk)]
-#[tactic(auto, using(crate::proofs::Adding::adding, std::proofs::lemmas::Grind::common_steps))]
+#[tactic(auto, using(lucid_normal_parts::proofs::Adding::adding, std::proofs::lemmas::Grind::common_steps))]
 fn expr(site: Site, work: &mut Work, env: &mut Env, e: &Expr) -> Result<Option<Typed>, Memory>
     ensures value { IfOk result (λ t. t ≡ ((expr_code e.now).made env.old).value) }
     ensures env { OnOk result (env.new ≡ ((expr_code e.now).made env.old).env) }
@@ -68,7 +65,7 @@ fn expr(site: Site, work: &mut Work, env: &mut Env, e: &Expr) -> Result<Option<T
 }
 
 #[cycle(walk)]
-#[tactic(auto, using(crate::proofs::Adding::adding, std::proofs::lemmas::Grind::common_steps))]
+#[tactic(auto, using(lucid_normal_parts::proofs::Adding::adding, std::proofs::lemmas::Grind::common_steps))]
 fn touch(site: Site, work: &mut Work, env: &mut Env, t: &Touch) -> Result<Option<Typed>, Memory>
     ensures value { IfOk result (λ x. x ≡ ((touch_code t.now).made env.old).value) }
     ensures env { OnOk result (env.new ≡ ((touch_code t.now).made env.old).env) }
@@ -83,7 +80,7 @@ fn touch(site: Site, work: &mut Work, env: &mut Env, t: &Touch) -> Result<Option
 
 /// The operands of these, from left to right.
 #[cycle(walk)]
-#[tactic(auto, using(crate::proofs::Adding::adding, std::proofs::lemmas::Grind::common_steps))]
+#[tactic(auto, using(lucid_normal_parts::proofs::Adding::adding, std::proofs::lemmas::Grind::common_steps))]
 fn operands(
     site: Site,
     work: &mut Work,
@@ -106,7 +103,7 @@ fn operands(
 
 /// Arguments, each with the local that is to hold it.
 #[cycle(walk)]
-#[tactic(auto, using(crate::proofs::Adding::adding, std::proofs::lemmas::Grind::common_steps))]
+#[tactic(auto, using(lucid_normal_parts::proofs::Adding::adding, std::proofs::lemmas::Grind::common_steps))]
 fn arguments(
     site: Site,
     work: &mut Work,
@@ -129,7 +126,7 @@ fn arguments(
 
 /// A delay, or none, which is 0.
 #[cycle(walk)]
-#[tactic(auto, using(crate::proofs::Adding::adding, std::proofs::lemmas::Grind::common_steps))]
+#[tactic(auto, using(lucid_normal_parts::proofs::Adding::adding, std::proofs::lemmas::Grind::common_steps))]
 fn delay(site: Site, work: &mut Work, env: &mut Env, e: &Option<Expr>) -> Result<Operand, Memory>
     ensures value { IfOk result (λ o. o ≡ (delay_made (option_map expr_code e.now) env.old).value) }
     ensures env { OnOk result (env.new ≡ (delay_made (option_map expr_code e.now) env.old).env) }
@@ -144,7 +141,7 @@ fn delay(site: Site, work: &mut Work, env: &mut Env, e: &Option<Expr>) -> Result
 }
 
 #[cycle(walk)]
-#[tactic(auto, using(crate::proofs::Adding::adding, std::proofs::lemmas::Grind::common_steps))]
+#[tactic(auto, using(lucid_normal_parts::proofs::Adding::adding, std::proofs::lemmas::Grind::common_steps))]
 fn target(
     site: Site,
     work: &mut Work,
@@ -165,7 +162,7 @@ fn target(
 
 /// A delay and a target, the delay first where the test holds.
 #[cycle(walk)]
-#[tactic(auto, using(crate::proofs::Adding::adding, std::proofs::lemmas::Grind::common_steps))]
+#[tactic(auto, using(lucid_normal_parts::proofs::Adding::adding, std::proofs::lemmas::Grind::common_steps))]
 fn delay_and_target(
     site: Site,
     work: &mut Work,
@@ -194,7 +191,7 @@ fn delay_and_target(
 }
 
 #[cycle(walk)]
-#[tactic(auto, using(crate::proofs::Adding::adding, std::proofs::lemmas::Grind::common_steps))]
+#[tactic(auto, using(lucid_normal_parts::proofs::Adding::adding, std::proofs::lemmas::Grind::common_steps))]
 fn stmt(site: Site, work: &mut Work, env: &mut Env, s: &Stmt) -> Result<(), Memory>
     ensures env { OnOk result (env.new ≡ (stmt_code s.now env.old).env) }
     ensures ops { OnOk result (work.new.ops.items ≡ added site.entry.guard.now work.old.ops.items (stmt_code s.now env.old).ops) }
@@ -212,7 +209,7 @@ fn stmt(site: Site, work: &mut Work, env: &mut Env, s: &Stmt) -> Result<(), Memo
         Stmt::If(e, yes, no) => {
             let t = needed(expr(site, work, env, e)?);
             let condition = bit(site, &mut work.ops, env, is_plain(e), t)?;
-            let begun = begin(site.alloc, work, env)?;
+            let begun = begin(site.alloc, work, env);
             branch(site, work, env, condition, 1, yes.as_slice())?;
             let turned = turn(site.alloc, work, env, begun)?;
             branch(site, work, env, condition, 0, no.as_slice())?;
@@ -251,7 +248,7 @@ fn stmt(site: Site, work: &mut Work, env: &mut Env, s: &Stmt) -> Result<(), Memo
 
 /// A branch, where the field of the condition has this value.
 #[cycle(walk)]
-#[tactic(auto, using(crate::proofs::Adding::adding, std::proofs::lemmas::Grind::common_steps))]
+#[tactic(auto, using(lucid_normal_parts::proofs::Adding::adding, std::proofs::lemmas::Grind::common_steps))]
 fn branch(
     site: Site,
     work: &mut Work,
@@ -275,7 +272,7 @@ fn branch(
 
 /// Statements, each behind those before it.
 #[cycle(walk)]
-#[tactic(auto, using(crate::proofs::Adding::adding, std::proofs::lemmas::Grind::common_steps))]
+#[tactic(auto, using(lucid_normal_parts::proofs::Adding::adding, std::proofs::lemmas::Grind::common_steps))]
 pub fn block(site: Site, work: &mut Work, env: &mut Env, stmts: &[Stmt]) -> Result<(), Memory>
     ensures env { OnOk result (env.new ≡ (seq (map stmt_code stmts.now) env.old).env) }
     ensures ops { OnOk result (work.new.ops.items

@@ -6,11 +6,10 @@ ghost use Rattle.lucid_translate.specs.Program.{codes_of, held_from, start};
 ghost use Rattle.lucid_translate.specs.Translate.{body_code, guarded, is};
 
 use crate::bodies::block;
-use crate::site::Site;
-use crate::work::Work;
 use lucid_base::{Items, Memory, Width};
 use lucid_code::{Literal, Op, Operand};
 use lucid_core::{EventDef, Flat, HandlerDef};
+use lucid_normal_parts::{Site, Work};
 use lucid_translate::{Env, Typed};
 use std::alloc::Global;
 

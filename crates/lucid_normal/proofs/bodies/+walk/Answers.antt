@@ -1,9 +1,7 @@
--- Bodies that are put in, ifs, events and prints.
-use Rattle.std.proofs.Common.{ap, sym, ◌∙◌}
+-- Bodies that are put in, events and prints.
+use Rattle.std.proofs.Common.{◌∙◌}
 use Rattle.std.proofs.lemmas.Result.{on_ok_weaker}
-use Rattle.lucid_translate.specs.declared.env.Env.{Env}
-use Rattle.lucid_translate.specs.Translate.{held_by}
-use Rattle.lucid_normal.proofs.Forms.{gen_env, gen_ops, if_ops, inlined_env, inlined_ops, inlined_value, say_ops}
+use Rattle.lucid_normal.proofs.Forms.{gen_env, gen_ops, inlined_env, inlined_ops, inlined_value, say_ops}
 use Rattle.lucid_normal.proofs.bodies.+walk.Goals as goal
 
 pub expr-returns-in_ok-block-in-Inlined-clause-value : goal.expr-returns-in_ok-block-in-Inlined-clause-value
@@ -30,20 +28,6 @@ expr-returns-in_ok-block-in-Inlined-clause-ops t c =
     let o3 = rw c.as_slice-in-Inlined-2.ensures at c.in_ok-block-in-Inlined.ensures.ops in
     rw c.in-Inlined.is (inlined_ops c.in-Inlined.given c.in-Inlined.body c.args.site.guard.now c.args.work.now.ops.items c.arguments.new.work.ops.items c.enter.new.work.ops.items c.leave.new.work.ops.items
     c.args.env.now c.arguments.new.env c.enter.new.env c.in_ok-given-in-Inlined.given v e1 c.in_ok-caller-in-Inlined.ensures.env o1 c.in_ok-caller-in-Inlined.ensures.ops (c.leave.ensures.ops ∙ o3))
-
-pub stmt-returns-in_ok-branch-in-If-2-clause-ops : goal.stmt-returns-in_ok-branch-in-If-2-clause-ops
-stmt-returns-in_ok-branch-in-If-2-clause-ops t c =
-    let begun = c.in_ok-begun-in-If.ensures.env in
-    let e3 = rw c.as_slice.ensures at c.in_ok-branch-in-If.ensures.env in
-    let o3 = rw (c.as_slice.ensures, c.in_ok-begun-in-If.ensures.ops) at c.in_ok-branch-in-If.ensures.ops in
-    let e5 = rw c.as_slice-in-If.ensures at c.in_ok-branch-in-If-2.ensures.env in
-    let o4 = rw (c.as_slice-in-If.ensures, c.in_ok-turned-in-If.ensures.ops) at c.in_ok-branch-in-If-2.ensures.ops in
-    let value = c.needed-t-in-If.ensures ∙ ap held_by c.in_ok-expr-in-If.ensures.value in
-    rw c.in-If.is (on_ok_weaker c.join.result (λ h. h ∙ if_ops c.in-If.e c.in-If.yes c.in-If.no c.args.site.guard.now c.in_ok-condition-in-If.condition c.args.work.now.ops.items c.expr-in-If.new.work.ops.items c.bit.new.ops.items
-    c.branch-site.new.work.ops.items c.branch-site-in-If.new.work.ops.items c.args.env.now c.expr-in-If.new.env c.bit.new.env c.branch-site.new.env c.turn.new.env c.branch-site-in-If.new.env c.needed-t-in-If.result c.is_plain.result
-    c.in_ok-turned-in-If.turned.first c.in_ok-turned-in-If.turned.held value c.in_ok-expr-in-If.ensures.env c.in_ok-expr-in-If.ensures.ops c.is_plain.ensures c.in_ok-condition-in-If.ensures.value c.in_ok-condition-in-If.ensures.env c.in_ok-condition-in-If.ensures.ops
-    e3 c.in_ok-turned-in-If.ensures.first (c.in_ok-turned-in-If.ensures.held ∙ sym (ap (λ (x : Env). x.held) begun))
-    (c.in_ok-turned-in-If.ensures.env ∙ sym (ap (λ (x : Env). record x { widths = c.branch-site.new.env.widths }) begun)) e5 o3 o4) c.join.ensures.ops)
 
 pub stmt-returns-in_ok-given-in-Gen-clause-env : goal.stmt-returns-in_ok-given-in-Gen-clause-env
 stmt-returns-in_ok-given-in-Gen-clause-env t c =

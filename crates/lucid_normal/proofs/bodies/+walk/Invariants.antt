@@ -1,8 +1,9 @@
 -- Measures: four times the depth of what is left, and a rank among the functions. Invariants: what a loop has made and what is left make the whole,
 -- and what is noted leads back to what held the locals before.
 use Rattle.std.proofs.Common.{◌≡◌, ◌+◌, ◌*◌, ◌++◌, max, drop, map}
-use Rattle.lucid_normal.specs.Added.{added, given_codes}
-use Rattle.lucid_normal.specs.Notes.{before}
+use Rattle.lucid_normal.specs.Given.{given_codes}
+use Rattle.lucid_normal_parts.specs.Added.{added}
+use Rattle.lucid_normal_parts.specs.Notes.{before}
 use Rattle.lucid_translate.specs.Translate.{each_made, expr_code, given_made, operands, seq, stmt_code}
 use Rattle.lucid_normal.proofs.bodies.+walk.Given as goal
 

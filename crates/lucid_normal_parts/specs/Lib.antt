@@ -1,0 +1,4 @@
+pub mod Added
+pub mod Changes
+pub mod Ends
+pub mod Notes
