@@ -1,1 +1,4 @@
 pub mod Puts
+mod Fewer
+mod SmallCores
+mod Sizes

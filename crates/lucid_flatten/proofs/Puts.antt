@@ -79,7 +79,7 @@ none_locals fs k arrays args ws is = rw (puts_of-at fs k, is) refl
 
 -- ---- a group
 
-each_last : (ts : List (Flatten Expr)) (t : Flatten Expr) (p : Site) (ws : List ℕ) → each (ts ++ t ∷ []) p ws ≡
+pub each_last : (ts : List (Flatten Expr)) (t : Flatten Expr) (p : Site) (ws : List ℕ) → each (ts ++ t ∷ []) p ws ≡
     (let one = each ts p ws in let last = t p one.locals in record { value = one.value ++ last.value ∷ []; locals = last.locals })
 each_last [] t p ws = refl
 each_last (x ∷ ts) t p ws = let first = x p ws in ap (λ (m : Made (List Expr)). record { value = first.value ∷ m.value; locals = m.locals }) (each_last ts t p first.locals)
@@ -94,16 +94,16 @@ made_of event b n delayed held members =
     map-append roll-Stmt (map (λ (g : ℕ × Expr). Stmt-F.Assign g.0 g.1) (enumerate_from b held)) (map (to_member event b n delayed) members)
     ∙ ap₂ (λ (xs ys : List Stmt). xs ++ ys) (map-map (λ (g : ℕ × Expr). Stmt-F.Assign g.0 g.1) roll-Stmt (enumerate_from b held)) (map-map (to_member event b n delayed) roll-Stmt members)
 
-abbrev grouped : ℕ → ℕ → Bool → List ℕ → List (Flatten Expr) → Flatten (List Stmt)
+abbrev pub grouped : ℕ → ℕ → Bool → List ℕ → List (Flatten Expr) → Flatten (List Stmt)
 grouped event n delayed members held = λ p ws. let first = each held p ws in record {
   value = map roll-Stmt (map (λ (g : ℕ × Expr). Stmt-F.Assign g.0 g.1) (enumerate_from (length first.locals) first.value) ++ map (to_member event (length first.locals) n delayed) members);
   locals = first.locals ++ map (width_in first.locals) first.value;
 }
 
-flat_of-multi : (event : ℕ) (xs : List Expr) (members : List ℕ) → flat_stmt (s.Multi event xs None members) ≡ grouped event (length (map flat_expr xs)) false members (map flat_expr xs ++ [])
+pub flat_of-multi : (event : ℕ) (xs : List Expr) (members : List ℕ) → flat_stmt (s.Multi event xs None members) ≡ grouped event (length (map flat_expr xs)) false members (map flat_expr xs ++ [])
 flat_of-multi event xs members = ap flat_stmt (sym (s.rolls-Multi event xs None members)) ∙ fold-roll-Stmt (Flatten Expr) (Flatten (List Stmt)) (Flatten Touch) expr_step stmt_step touch_step (Stmt-F.Multi event xs None members)
 
-flat_of-delayed : (event : ℕ) (xs : List Expr) (d : Expr) (members : List ℕ) → flat_stmt (s.Multi event xs (Some d) members) ≡ grouped event (length (map flat_expr xs)) true members (map flat_expr xs ++ flat_expr d ∷ [])
+pub flat_of-delayed : (event : ℕ) (xs : List Expr) (d : Expr) (members : List ℕ) → flat_stmt (s.Multi event xs (Some d) members) ≡ grouped event (length (map flat_expr xs)) true members (map flat_expr xs ++ flat_expr d ∷ [])
 flat_of-delayed event xs d members = ap flat_stmt (sym (s.rolls-Multi event xs (Some d) members)) ∙ fold-roll-Stmt (Flatten Expr) (Flatten (List Stmt)) (Flatten Touch) expr_step stmt_step touch_step (Stmt-F.Multi event xs (Some d) members)
 
 group_is : (event n m : ℕ) (delayed : Bool) (members held_locals : List ℕ) (ts : List (Flatten Expr)) (p : Site) (ws : List ℕ) (held : List Expr) → n ≡ m → held ≡ (each ts p ws).value → held_locals ≡ (each ts p ws).locals →
@@ -168,3 +168,10 @@ gen_value event xs d u b p ws args mid given r v l g made =
 pub gen_locals : (event : ℕ) (xs : List Expr) (d u : Option Expr) (b : Bool) (p : Site) (ws mid us : List ℕ) → mid ≡ (each (map flat_expr xs) p ws).locals → us ≡ (both b (operand d) (operand u) p mid).locals → us ≡ (flat_stmt (s.Gen event xs d u b) p ws).locals
 gen_locals event xs d u b p ws mid us l g =
     g ∙ ap (λ (q : List ℕ). (both b (operand d) (operand u) p q).locals) l ∙ sym (ap (λ (t : Flatten (List Stmt)). (t p ws).locals) (flat_of-gen event xs d u b))
+
+flat_of-if : (x : Expr) (ss ts : List Stmt) → flat_stmt (s.If x ss ts) ≡ stmt_step (Stmt-F.If (flat_expr x) (map flat_stmt ss) (map flat_stmt ts))
+flat_of-if x ss ts = ap flat_stmt (sym (s.rolls-If x ss ts)) ∙ fold-roll-Stmt (Flatten Expr) (Flatten (List Stmt)) (Flatten Touch) expr_step stmt_step touch_step (Stmt-F.If x ss ts)
+
+pub if_locals : (x : Expr) (ss ts : List Stmt) (p : Site) (ws mid left right : List ℕ) → mid ≡ (flat_expr x p ws).locals → left ≡ (block (map flat_stmt ss) p mid).locals → right ≡ (block (map flat_stmt ts) p left).locals → right ≡ (flat_stmt (s.If x ss ts) p ws).locals
+if_locals x ss ts p ws mid left right a b c =
+    c ∙ ap (λ (q : List ℕ). (block (map flat_stmt ts) p q).locals) (b ∙ ap (λ (q : List ℕ). (block (map flat_stmt ss) p q).locals) a) ∙ sym (ap (λ (t : Flatten (List Stmt)). (t p ws).locals) (flat_of-if x ss ts))

@@ -3,22 +3,24 @@ ghost use Rattle.std.specs.Prelude.{◌≡◌, IfOk, OnOk, map, option_map, slic
 ghost use Rattle.lucid_core.specs.declared.body.Expr.TheViews.{roll-Expr};
 ghost use Rattle.lucid_flat.specs.Flat.{block as block_of, both, each, flat_expr, flat_stmt, flat_touch, optional as optional_of};
 ghost use Rattle.lucid_flat.specs.Flat.{put_in, puts_of};
-ghost use Rattle.lucid_flatten.specs.Sites.{place};
+ghost use Rattle.lucid_flatten.specs.Numbers.{FewBoth, FewExpr, FewExprs, FewOptional, FewStmts, FewTouch};
+ghost use Rattle.lucid_flatten.specs.Sites.{called, place};
 
 use crate::group::{alone, group, numbered};
-use crate::site::{Site, array_at, arrays_at, count, earlier, sum};
+use crate::site::{Site, array_at, arrays_at, earlier, number};
 use lucid_base::{ArrayName, Boxed, Items, Memory, Width};
 use lucid_core::{Expr, Stmt, Touch};
 
 /// An expression of the body, behind these locals of the handler.
 #[cycle(flatten)]
 fn expr(site: Site, locals: &mut Items<Width>, e: &Expr) -> Result<Expr, Memory>
+    requires { FewExpr (flat_expr e.now (place site) locals.now) }
     ensures value { IfOk result (λ x. x ≡ (flat_expr e.now (place site.entry) locals.old).value) }
     ensures locals { OnOk result (locals.new ≡ (flat_expr e.now (place site.entry) locals.old).locals) }
 {
     match e {
         Expr::Fixed(n) => Ok(Expr::Fixed(*n)),
-        Expr::Local(i) => Ok(Expr::Local(sum(site.first, *i)?)),
+        Expr::Local(i) => Ok(Expr::Local(site.first + *i)),
         Expr::Now => Ok(Expr::Now),
         Expr::Me => Ok(Expr::Me),
         Expr::Un(op, a) => {
@@ -58,6 +60,7 @@ fn expr(site: Site, locals: &mut Items<Width>, e: &Expr) -> Result<Expr, Memory>
 
 #[cycle(flatten)]
 fn touch(site: Site, locals: &mut Items<Width>, t: &Touch) -> Result<Touch, Memory>
+    requires { FewTouch (flat_touch t.now (place site) locals.now) }
     ensures value { IfOk result (λ x. x ≡ (flat_touch t.now (place site.entry) locals.old).value) }
     ensures locals { OnOk result (locals.new ≡ (flat_touch t.now (place site.entry) locals.old).locals) }
 {
@@ -77,6 +80,7 @@ fn touch(site: Site, locals: &mut Items<Width>, t: &Touch) -> Result<Touch, Memo
 
 #[cycle(flatten)]
 fn exprs(site: Site, locals: &mut Items<Width>, es: &[Expr]) -> Result<Vec<Expr>, Memory>
+    requires { FewExprs (each (map flat_expr es.now) (place site) locals.now) }
     ensures value { IfOk result (λ xs. xs.items ≡ (each (map flat_expr es.now) (place site.entry) locals.old).value) }
     ensures locals { OnOk result (locals.new ≡ (each (map flat_expr es.now) (place site.entry) locals.old).locals) }
 {
@@ -90,6 +94,7 @@ fn exprs(site: Site, locals: &mut Items<Width>, es: &[Expr]) -> Result<Vec<Expr>
 /// An operand that may be left out.
 #[cycle(flatten)]
 fn optional(site: Site, locals: &mut Items<Width>, e: &Option<Expr>) -> Result<Option<Expr>, Memory>
+    requires { FewOptional (optional_of (option_map flat_expr e.now) (place site) locals.now) }
     ensures value { IfOk result (λ x. x ≡ (optional_of (option_map flat_expr e.now) (place site.entry) locals.old).value) }
     ensures locals { OnOk result (locals.new ≡ (optional_of (option_map flat_expr e.now) (place site.entry) locals.old).locals) }
 {
@@ -111,6 +116,7 @@ fn delay_and_target(
     to: &Option<Expr>,
     delay_first: bool,
 ) -> Result<(Option<Expr>, Option<Expr>), Memory>
+    requires { FewBoth (both delay_first (optional_of (option_map flat_expr delay.now)) (optional_of (option_map flat_expr to.now)) (place site) locals.now) }
     ensures value { IfOk result (λ x. x ≡ (both delay_first
         (optional_of (option_map flat_expr delay.now)) (optional_of (option_map flat_expr to.now)) (place site.entry) locals.old).value) }
     ensures locals { OnOk result (locals.new ≡ (both delay_first
@@ -130,6 +136,7 @@ fn delay_and_target(
 /// Statements of the body, behind these locals of the handler.
 #[cycle(flatten)]
 pub fn block(site: Site, locals: &mut Items<Width>, stmts: &[Stmt]) -> Result<Items<Stmt>, Memory>
+    requires { FewStmts (block_of (map flat_stmt stmts.now) (place site) locals.now) }
     ensures value { IfOk result (λ ss. ss ≡ (block_of (map flat_stmt stmts.now) (place site.entry) locals.old).value) }
     ensures locals { OnOk result (locals.new ≡ (block_of (map flat_stmt stmts.now) (place site.entry) locals.old).locals) }
 {
@@ -142,13 +149,14 @@ pub fn block(site: Site, locals: &mut Items<Width>, stmts: &[Stmt]) -> Result<It
 
 #[cycle(flatten)]
 fn stmt(site: Site, locals: &mut Items<Width>, s: &Stmt) -> Result<Items<Stmt>, Memory>
+    requires { FewStmts (flat_stmt s.now (place site) locals.now) }
     ensures value { IfOk result (λ ss. ss ≡ (flat_stmt s.now (place site.entry) locals.old).value) }
     ensures locals { OnOk result (locals.new ≡ (flat_stmt s.now (place site.entry) locals.old).locals) }
 {
     match s {
         Stmt::Assign(i, e) => {
             let e = expr(site, locals, e)?;
-            alone(site.alloc, Stmt::Assign(sum(site.first, *i)?, e))
+            alone(site.alloc, Stmt::Assign(site.first + *i, e))
         }
         Stmt::Drop(e) => {
             let e = expr(site, locals, e)?;
@@ -235,12 +243,13 @@ fn put(
     arrays: &[u32],
     args: Vec<Expr>,
 ) -> Result<Expr, Memory>
+    requires { FewExpr (called (slice_get (puts_of site.funs.now) k) arrays.now args.items locals.now) }
     ensures value { IfOk result (λ x. x
         ≡ roll-Expr (put_in (slice_get (puts_of site.entry.funs.now) k) arrays.now args.items locals.old).value) }
     ensures locals { OnOk result (locals.new
         ≡ (put_in (slice_get (puts_of site.entry.funs.now) k) arrays.now args.items locals.old).locals) }
 {
-    let first = count(locals.len())?;
+    let first = number(locals.len());
     let given = numbered(site.alloc, first, args)?;
     match earlier(site.funs, k) {
         None => Ok(Expr::Inlined(given, Items::new(site.alloc))),

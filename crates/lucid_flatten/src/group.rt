@@ -1,11 +1,12 @@
 // Statements that the flat form makes: what a group becomes once its calls are taken.
-ghost use Rattle.std.specs.Prelude.{◌≡◌, [], ◌∷◌, ◌++◌, IfOk, OnOk, map, length};
+ghost use Rattle.std.specs.Prelude.{◌≡◌, ◌≤◌, ◌+◌, [], ◌∷◌, ◌++◌, IfOk, OnOk, map, length};
 ghost use Rattle.std.specs.List.{enumerate_from};
 ghost use Rattle.lucid_core.specs.declared.body.Expr.TheViews.{roll-Stmt};
 ghost use Rattle.lucid_flat.specs.Flat.{locals_from, to_member, width_in};
+ghost use Rattle.lucid_flatten.specs.Numbers.{most};
 ghost use Rattle.lucid_flatten.specs.Sites.{assigned, sent};
 
-use crate::site::{count, sum};
+use crate::site::number;
 use lucid_base::{Bits, Items, Memory, Width};
 use lucid_core::{Expr, Stmt, width_of};
 use std::alloc::Global;
@@ -21,14 +22,14 @@ pub fn alone(alloc: Global, s: Stmt) -> Result<Items<Stmt>, Memory>
 
 /// Arguments with the locals that hold them, from `first` on.
 pub fn numbered(alloc: Global, first: u32, args: Vec<Expr>) -> Result<Items<(u32, Expr)>, Memory>
+    requires { first + length args.items ≤ most }
     ensures { IfOk result (λ given. given ≡ enumerate_from first args.items) }
 {
     let mut given = Items::new(alloc);
     let mut next = first;
     for arg in args {
-        let i = next;
-        next = sum(next, 1)?;
-        given.push((i, arg))?;
+        given.push((next, arg))?;
+        next += 1;
     }
     Ok(given)
 }
@@ -55,13 +56,14 @@ fn width_held(locals: &[Width], e: &Expr) -> Width
 
 /// So many locals, from `first` on.
 fn locals_read(alloc: Global, first: u32, n: usize) -> Result<Items<Expr>, Memory>
+    requires { first + n ≤ most }
     ensures { IfOk result (λ xs. xs ≡ locals_from first n) }
 {
     let mut xs = Items::new(alloc);
     let mut next = first;
     for _i in 0..n {
         xs.push(Expr::Local(next))?;
-        next = sum(next, 1)?;
+        next += 1;
     }
     Ok(xs)
 }
@@ -75,11 +77,12 @@ fn to_one(
     delayed: bool,
     member: u32,
 ) -> Result<Stmt, Memory>
+    requires { first + n ≤ most }
     ensures { IfOk result (λ s. s ≡ roll-Stmt (to_member event first n delayed member)) }
 {
     let args = locals_read(alloc, first, n)?;
     let delay = if delayed {
-        Some(Expr::Local(sum(first, count(n)?)?))
+        Some(Expr::Local(first + number(n)))
     } else {
         None
     };
@@ -94,14 +97,14 @@ fn to_one(
 
 /// An assignment of each to the next local.
 pub fn hold(alloc: Global, first: u32, held: Vec<Expr>) -> Result<Items<Stmt>, Memory>
+    requires { first + length held.items ≤ most }
     ensures { IfOk result (λ ss. ss ≡ assigned first held.items) }
 {
     let mut ss = Items::new(alloc);
     let mut next = first;
     for e in held {
-        let i = next;
-        next = sum(next, 1)?;
-        ss.push(Stmt::Assign(i, e))?;
+        ss.push(Stmt::Assign(next, e))?;
+        next += 1;
     }
     Ok(ss)
 }
@@ -115,6 +118,7 @@ pub fn send(
     delayed: bool,
     members: &[u32],
 ) -> Result<Items<Stmt>, Memory>
+    requires { first + n ≤ most }
     ensures { IfOk result (λ ss. ss ≡ sent event first n delayed members.now) }
 {
     let mut ss = Items::new(alloc);
@@ -134,11 +138,13 @@ pub fn group(
     delayed: bool,
     members: &[u32],
 ) -> Result<Items<Stmt>, Memory>
+    requires room { length locals.now + length held.items ≤ most }
+    requires held { n ≤ length held.items }
     ensures value { IfOk result (λ ss. ss
         ≡ assigned (length locals.old) held.items ++ sent event (length locals.old) n delayed members.now) }
     ensures locals { OnOk result (locals.new ≡ locals.old ++ map (width_in locals.old) held.items) }
 {
-    let first = count(locals.len())?;
+    let first = number(locals.len());
     let added = widths(alloc, locals.as_slice(), held.as_slice())?;
     let mut ss = hold(alloc, first, held)?;
     ss.append(send(alloc, event, first, n, delayed, members)?)?;

@@ -1,5 +1,6 @@
 // The flat form of a core, built: each call has its body put in (lucid_flat's specs/Flat.antt), and the result is valid by its type. It
-// counts nothing, so a caller pays for the whole size of what it asks for; lucid_inline counts first.
+// counts nothing, so a caller pays for the whole size of what it asks for, and answers for its bound (specs/Numbers.antt), within which the
+// numbers of locals have 32 bits; lucid_inline counts first.
 // Stands on lucid_base, lucid_core, lucid_copy and lucid_flat.
 #![tactic(auto)]
 
@@ -8,6 +9,4 @@ mod group;
 mod program;
 mod site;
 
-pub use bodies::block;
 pub use program::flatten;
-pub use site::Site;

@@ -1,25 +1,30 @@
 // The flat form of a whole core.
-ghost use Rattle.std.specs.Prelude.{◌≡◌, IfOk, map};
-ghost use Rattle.lucid_flat.specs.Flat.{flat_handler, flat_of};
+ghost use Rattle.std.specs.Prelude.{◌≡◌, ◌≤◌, All, IfOk, map, sum};
+ghost use Rattle.lucid_flat.specs.Counts.{handler_sizes};
+ghost use Rattle.lucid_flat.specs.Flat.{flat_body, flat_handler, flat_of};
+ghost use Rattle.lucid_flatten.specs.Numbers.{FewStmts, most_size};
 
 use crate::bodies::block;
 use crate::site::Site;
 use lucid_base::{ArrayDef, Id, Items, Memory};
 use lucid_copy::{copy_event, copy_memop};
 use lucid_core::{Core, EventDef, Flat, FunDef, HandlerDef, MemopDef};
-use lucid_flat::flat_is_valid;
+use lucid_flat::{flat_is_valid, has_few_locals};
 use std::alloc::Global;
 
-/// The flat form of a core. Its size may be exponential in the core's, and the call works and takes memory in proportion to it.
+/// The flat form of a core whose size is so small that its locals have numbers of 32 bits. The size may be exponential in the core's, and
+/// the call works and takes memory in proportion to it.
 pub fn flatten(alloc: Global, core: &Core) -> Result<Flat, Memory>
+    requires { sum (handler_sizes core.now) ≤ most_size }
     ensures { IfOk result (λ flat. flat ≡ flat_of core.now) }
 {
+    flat_is_valid(core);
+    has_few_locals(core);
     let arrays = copy_arrays(alloc, core.arrays())?;
     let memops = copy_memops(alloc, core.memops())?;
     let events = copy_events(alloc, core.events())?;
     let handlers = flat_handlers(alloc, core.funs(), core.handlers())?;
     let forms = copy_forms(alloc, core.forms())?;
-    flat_is_valid(core);
     Ok(Flat::new(arrays, memops, events, handlers, forms))
 }
 
@@ -68,6 +73,7 @@ fn flat_handlers(
     funs: &[FunDef],
     handlers: &[HandlerDef],
 ) -> Result<Vec<HandlerDef>, Memory>
+    requires { All (λ h. FewStmts (flat_body funs.now h)) handlers.now }
     ensures { IfOk result (λ made. made.items ≡ map (flat_handler funs.now) handlers.now) }
 {
     let mut made = Vec::new(alloc);
@@ -79,6 +85,7 @@ fn flat_handlers(
 
 /// A handler with its calls put in.
 fn put_in_calls(alloc: Global, funs: &[FunDef], handler: &HandlerDef) -> Result<HandlerDef, Memory>
+    requires { FewStmts (flat_body funs.now handler.now) }
     ensures { IfOk result (λ made. made ≡ flat_handler funs.now handler.now) }
 {
     let mut locals = Items::from_slice(alloc, handler.locals.as_slice())?;

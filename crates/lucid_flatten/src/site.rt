@@ -1,7 +1,8 @@
 // Where a body is put in.
-ghost use Rattle.std.specs.Prelude.{◌≡◌, ◌+◌, IfOk, IfSome, map, slice_get, take};
+ghost use Rattle.std.specs.Prelude.{◌≡◌, ◌≤◌, IfOk, IfSome, map, slice_get, take};
 ghost use Rattle.std.specs.Option.{option_map};
 ghost use Rattle.lucid_core.specs.Acts.{array_of};
+ghost use Rattle.lucid_flatten.specs.Numbers.{most};
 
 use lucid_base::{ArrayName, Items, Memory};
 use lucid_core::FunDef;
@@ -16,24 +17,12 @@ pub struct Site<'a> {
     pub funs: &'a [FunDef],
 }
 
-/// The number of the handler's local for a local of the body.
-pub fn sum(first: u32, i: u32) -> Result<u32, Memory>
-    ensures { IfOk result (λ n. n ≡ first + i) }
-{
-    match first.checked_add(i) {
-        None => Err(Memory),
-        Some(n) => Ok(n),
-    }
-}
-
 /// A number of locals as the number of the next one.
-pub fn count(n: usize) -> Result<u32, Memory>
-    ensures { IfOk result (λ m. m ≡ n) }
+pub fn number(n: usize) -> u32
+    requires { n ≤ most }
+    ensures { result ≡ n }
 {
-    match u32::try_from(n) {
-        Err(_) => Err(Memory),
-        Ok(n) => Ok(n),
-    }
+    n as u32
 }
 
 /// Function `k` with the functions before it, where it is there.
