@@ -1,91 +1,19 @@
-// Bodies with their calls put in: each call of lucid_flatten and lucid_inline once, with every form in what it puts in. Which flat form they make, their
-// contracts say; what is asserted here was worked by hand.
+// Programs with their calls put in, with every form in what is put in. Which flat form they have, the contract of `inline` says; what is
+// asserted here was worked by hand.
 use crate::cores::core_of;
-use lucid_base::{
-    ArrayName, BinOp, Bits, Boxed, CmpOp, Id, Items, MemAlu, MemArg, MemSide, Memory, UnOp, Width,
-};
-use lucid_core::{Core, Expr, FunDef, Stmt, Touch};
-use lucid_flatten::{Site, block};
+use lucid_core::{Core, Expr, Stmt};
 use lucid_inline::{InlineError, inline};
 use std::alloc::Global;
 use std::test::Fail;
 
-fn one() -> Expr {
-    Expr::Fixed(Bits::low(Width::int(), 1))
-}
-
-fn keep() -> MemAlu {
-    MemAlu {
-        width: Width::int(),
-        test: None,
-        yes: MemSide::One(MemArg::Stored),
-        no: MemSide::One(MemArg::Stored),
+/// How many statements the first handler of the flat form has at its top, and how many locals.
+fn first_handler(alloc: Global, text: &[u8]) -> Result<[usize; 2], Fail> {
+    let core = core_of(alloc, text)?;
+    let flat = inline(alloc, &core, 100)?;
+    match flat.handlers().get(0) {
+        Some(handler) => Ok([handler.body.len(), handler.locals.len()]),
+        None => Ok([0, 0]),
     }
-}
-
-/// A call of the array that the first array parameter stands for.
-fn touch(alloc: Global) -> Result<Expr, Memory> {
-    let touch = Touch {
-        array: ArrayName::Param(0),
-        index: Expr::Local(0),
-        get: keep(),
-        get_arg: one(),
-        set: keep(),
-        set_arg: one(),
-        answers: true,
-    };
-    Ok(Expr::Array(Boxed::new(alloc, touch)?))
-}
-
-fn ints(alloc: Global, n: usize) -> Result<Items<Width>, Memory> {
-    let mut widths = Items::new(alloc);
-    for _ in 0..n {
-        widths.push(Width::int())?;
-    }
-    Ok(widths)
-}
-
-/// fun int f(Array<<32>> a, int x) { int n = Array.update(a, x, ..); return n; }
-fn function(alloc: Global) -> Result<FunDef, Memory> {
-    let mut arrays = Items::new(alloc);
-    arrays.push(Width::int())?;
-    let mut body = Items::new(alloc);
-    body.push(Stmt::Assign(1, touch(alloc)?))?;
-    body.push(Stmt::Return(Some(Expr::Local(1))))?;
-    Ok(FunDef {
-        name: Id::new(alloc, b"f")?,
-        arrays,
-        params: 1,
-        locals: ints(alloc, 2)?,
-        answer: Some(Width::int()),
-        body,
-        decl: 1,
-        line: 1,
-    })
-}
-
-/// f(g, x), where g is array 3
-fn call(alloc: Global, x: Expr) -> Result<Expr, Memory> {
-    let mut arrays = Items::new(alloc);
-    arrays.push(ArrayName::Global(3))?;
-    let mut args = Items::new(alloc);
-    args.push(x)?;
-    Ok(Expr::Fun(0, arrays, args))
-}
-
-/// What statements of a handler with three locals become, behind `f`, and how many locals it then has.
-fn becomes(alloc: Global, stmts: &[Stmt]) -> Result<(Items<Stmt>, usize), Memory> {
-    let mut funs = Vec::new(alloc);
-    funs.push(function(alloc)?)?;
-    let site = Site {
-        alloc,
-        arrays: &[],
-        first: 0,
-        funs: funs.as_slice(),
-    };
-    let mut locals = ints(alloc, 3)?;
-    let made = block(site, &mut locals, stmts)?;
-    Ok((made, locals.len()))
 }
 
 /// The local that holds the first argument of a call with its body put in, and that argument.
@@ -99,114 +27,55 @@ fn first_given(e: &Expr) -> Option<(u32, &Expr)> {
     }
 }
 
+/// The first argument of the event that a body sends first.
+fn first_sent(body: &[Stmt]) -> Option<&Expr> {
+    match body.get(0) {
+        Some(Stmt::Gen { args, .. }) => args.as_slice().get(0),
+        _ => None,
+    }
+}
+
 #[test]
 fn a_call_in_an_argument_is_taken_first(rt: HostRuntime) -> Result<(), Fail> {
     let alloc = rt.alloc();
-    let mut stmts = Items::new(alloc);
-    stmts.push(Stmt::Drop(call(alloc, call(alloc, Expr::Local(0))?)?))?;
-    let (made, locals) = becomes(alloc, stmts.as_slice())?;
-    assert_eq!(rt; locals, 7);
+    let core = core_of(alloc, NESTED)?;
+    let flat = inline(alloc, &core, 100)?;
     let mut holders = [0u32; 2];
-    if let Some(Stmt::Drop(outer)) = made.as_slice().get(0) {
-        if let Some((i, inner)) = first_given(outer) {
-            holders[0] = i;
-            if let Some((j, _)) = first_given(inner) {
-                holders[1] = j;
+    if let Some(handler) = flat.handlers().get(0) {
+        if let Some(outer) = first_sent(handler.body.as_slice()) {
+            if let Some((i, inner)) = first_given(outer) {
+                holders[0] = i;
+                if let Some((j, _)) = first_given(inner) {
+                    holders[1] = j;
+                }
             }
         }
     }
-    assert_eq!(rt; holders, [5, 3]);
+    assert_eq!(rt; holders, [3, 1]);
     Ok(())
 }
 
-/// An event with a delay and a target.
-fn sent(alloc: Global) -> Result<Stmt, Memory> {
-    let mut args = Items::new(alloc);
-    args.push(Expr::Local(0))?;
-    Ok(Stmt::Gen {
-        event: 0,
-        args,
-        delay: Some(one()),
-        to: Some(call(alloc, one())?),
-        delay_first: false,
-    })
-}
-
-/// An event to three switches, with a delay where it is so.
-fn group(alloc: Global, delayed: bool) -> Result<Stmt, Memory> {
-    let mut args = Items::new(alloc);
-    args.push(call(alloc, Expr::Local(0))?)?;
-    let mut members = Items::new(alloc);
-    members.push(4)?;
-    members.push(2)?;
-    members.push(7)?;
-    let delay = if delayed { Some(one()) } else { None };
-    Ok(Stmt::Multi {
-        event: 0,
-        args,
-        delay,
-        members,
-    })
-}
+/// The same event to three switches twice, later with a delay.
+const GROUPS: &[u8] =
+    b"group g = { 4, 2, 7 }; event e(int i); fun int f(int x) { return x + 1; } handle e(int i) { generate Event.locate(e(f(i)), g); generate Event.delay(Event.locate(e(f(i)), g), 3); }";
 
 #[test]
 fn a_group_becomes_assignments_and_events(rt: HostRuntime) -> Result<(), Fail> {
     let alloc = rt.alloc();
-    let mut stmts = Items::new(alloc);
-    stmts.push(group(alloc, false)?)?;
-    stmts.push(group(alloc, true)?)?;
-    let (made, locals) = becomes(alloc, stmts.as_slice())?;
-    // three locals, two of the first call and one that holds its value, two of the second, its value and the delay
-    assert_eq!(rt; locals, 10);
-    assert_eq!(rt; made.len(), 4 + 5);
+    // The handler's local, one of the first call and one that holds its value, one of the second, its value and the delay.
+    assert_eq!(rt; first_handler(alloc, GROUPS)?, [4 + 5, 6]);
     Ok(())
 }
 
-/// Each form of an expression that a core has, and a call of a function that isn't there.
-fn every_expr(alloc: Global) -> Result<Items<Expr>, Memory> {
-    let mut forms = Items::new(alloc);
-    forms.push(one())?;
-    forms.push(Expr::Local(1))?;
-    forms.push(Expr::Now)?;
-    forms.push(Expr::Me)?;
-    forms.push(Expr::Un(UnOp::Neg, Boxed::new(alloc, one())?))?;
-    forms.push(Expr::Bin(
-        BinOp::Add,
-        Boxed::new(alloc, one())?,
-        Boxed::new(alloc, one())?,
-    ))?;
-    forms.push(Expr::Cmp(
-        CmpOp::Lt,
-        Boxed::new(alloc, one())?,
-        Boxed::new(alloc, one())?,
-    ))?;
-    forms.push(Expr::Cast(Width::bool(), Boxed::new(alloc, one())?))?;
-    let mut operands = Items::new(alloc);
-    operands.push(one())?;
-    forms.push(Expr::Hash(Width::int(), operands))?;
-    forms.push(touch(alloc)?)?;
-    forms.push(call(alloc, one())?)?;
-    forms.push(Expr::Fun(9, Items::new(alloc), Items::new(alloc)))?;
-    forms.push(Expr::Inlined(Items::new(alloc), Items::new(alloc)))?;
-    Ok(forms)
-}
+/// Each form of a statement and of an expression.
+const FORMS: &[u8] =
+    b"global Array.t<<32>> a = Array.create(4); memop plus(int x, int y) { return x + y; } event e(int i); fun int f(Array.t<<32>> t, int x) { int n = Array.update(t, x, plus, 1, plus, 1); return n; } fun void g(bool b) { if (b) { return; } printf(\"no\"); } handle e(int i) { int n = f(a, i); g(n < 3); bool small = ((int<<8>>) ~n) == 7; printf(\"%d %d %d\", hash<<32>>(1, n), SELF, Sys.time()); if (small) { generate Event.delay(Event.locate(e(n + 1), f(a, 3)), 4); } else { n = Array.get(a, 2); } Array.set(a, 1, n); return; }";
 
 #[test]
 fn every_form_is_put_in(rt: HostRuntime) -> Result<(), Fail> {
     let alloc = rt.alloc();
-    let args = every_expr(alloc)?;
-    let mut stmts = Items::new(alloc);
-    stmts.push(Stmt::Say { form: 0, args })?;
-    stmts.push(Stmt::Assign(1, one()))?;
-    stmts.push(sent(alloc)?)?;
-    let mut yes = Items::new(alloc);
-    yes.push(Stmt::Return(None))?;
-    let mut no = Items::new(alloc);
-    no.push(Stmt::Return(Some(one())))?;
-    stmts.push(Stmt::If(one(), yes, no))?;
-    let (made, locals) = becomes(alloc, stmts.as_slice())?;
-    assert_eq!(rt; made.len(), 4);
-    assert_eq!(rt; locals, 7);
+    // The handler's three locals, two of each call of `f`, and one of `g`.
+    assert_eq!(rt; first_handler(alloc, FORMS)?, [7, 3 + 2 + 1 + 2]);
     Ok(())
 }
 
@@ -263,5 +132,22 @@ fn functions_are_put_in_where_there_is_room(rt: HostRuntime) -> Result<(), Fail>
     for (room, wanted) in rows {
         assert_eq!(rt; inlined(alloc, &core, room), wanted, "room for {room}");
     }
+    Ok(())
+}
+
+/// Two handlers that each call the last of nine functions, of which each but the first calls the one before four times. A function's size is
+/// 5 and four times that of the one before, from 1 on: 174,761 for the last, and 2 more for each handler.
+const TOWERS: &[u8] =
+    b"event e(int i); event f(int i); fun int a(int x) { return x + 1; } fun int b(int x) { return a(x) + a(x) + a(x) + a(x); } fun int c(int x) { return b(x) + b(x) + b(x) + b(x); } fun int d(int x) { return c(x) + c(x) + c(x) + c(x); } fun int g(int x) { return d(x) + d(x) + d(x) + d(x); } fun int h(int x) { return g(x) + g(x) + g(x) + g(x); } fun int j(int x) { return h(x) + h(x) + h(x) + h(x); } fun int k(int x) { return j(x) + j(x) + j(x) + j(x); } fun int l(int x) { return k(x) + k(x) + k(x) + k(x); } handle e(int i) { generate e(l(i)); } handle f(int i) { generate f(l(i)); }";
+
+#[test]
+fn a_flat_form_that_is_too_large_is_refused(rt: HostRuntime) -> Result<(), Fail> {
+    let alloc = rt.alloc();
+    let core = core_of(alloc, TOWERS)?;
+    let wanted = Err(InlineError::TooLarge {
+        handler: 1,
+        size: 2 * 174_763,
+    });
+    assert_eq!(rt; inlined(alloc, &core, usize::MAX), wanted);
     Ok(())
 }
