@@ -1,11 +1,11 @@
 // The locals that the branches of an if write, each with what holds it at the ends of the two.
-ghost use Rattle.std.specs.Prelude.{◌≡◌, ◌++◌, ℕ, Contains, IfOk, None, OnOk, map, slice_index_or};
+ghost use Rattle.std.specs.Prelude.{◌≡◌, ◌<◌, ◌++◌, ℕ, Contains, IfOk, None, OnOk, length, map, slice_index_or};
 ghost use Rattle.std.specs.List.Sorted.{IsStrictlyIncreasing};
 ghost use Rattle.lucid_normal_parts.specs.Changes.{AreChanges};
 ghost use Rattle.lucid_normal_parts.specs.Notes.{noted};
 
 use crate::locals::held_at;
-use crate::notes::{Note, lead, take_back};
+use crate::notes::{Note, put_back, swap_back};
 use lucid_base::{Items, Memory};
 use lucid_translate::Typed;
 use std::alloc::Global;
@@ -25,16 +25,17 @@ pub fn changes_of(
     first: Items<Note>,
     second: Items<Note>,
 ) -> Result<Vec<Change>, Memory>
+    requires { 0 < length held.old }
     ensures held { OnOk result (held.new ≡ held.old) }
     ensures changes { IfOk result (λ changes. AreChanges held.old first second changes.items) }
 {
     let locals = written(alloc, first.as_slice(), second.as_slice())?;
-    let back = take_back(alloc, held, first)?;
+    let back = swap_back(alloc, held, first)?;
     let firsts = at_first(alloc, held.as_slice(), locals.as_slice())?;
-    lead(alloc, held, back);
-    let back = take_back(alloc, held, second)?;
+    put_back(held, back);
+    let back = swap_back(alloc, held, second)?;
     let both = at_both(alloc, held.as_slice(), firsts.as_slice())?;
-    lead(alloc, held, back);
+    put_back(held, back);
     Ok(both)
 }
 

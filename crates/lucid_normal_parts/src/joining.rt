@@ -1,5 +1,5 @@
 // The end of an if: what holds a local or the answer behind it, whichever branch was taken.
-ghost use Rattle.std.specs.Prelude.{◌≡◌, [], ◌∷◌, ◌++◌, IfOk, OnOk, length, slice_index_or};
+ghost use Rattle.std.specs.Prelude.{◌≡◌, ◌<◌, [], ◌∷◌, ◌++◌, IfOk, OnOk, OnSome, length, slice_index_or};
 ghost use Rattle.lucid_code.specs.declared.op.Operand.TheVariants.{Field};
 ghost use Rattle.lucid_translate.specs.Translate.{join_answer as answer_of, joins, moves, same_operand, same as same_of};
 ghost use Rattle.lucid_normal_parts.specs.Added.{added};
@@ -67,6 +67,7 @@ fn join_locals(
     first: Option<Items<Note>>,
     second: Option<Items<Note>>,
 ) -> Result<(), Memory>
+    requires { OnSome second (0 < length env.old.held) }
     ensures env { OnOk result (env.new ≡ with_locals env.old
         (joins at.level at.condition env.old.held (end_of first env.old.held) (end_of second env.old.held) env.old.widths)) }
     ensures ops { OnOk result (work.new.ops.items ≡ added site.entry.guard.now work.old.ops.items
@@ -91,6 +92,7 @@ fn join_written(
     first: Items<Note>,
     second: Items<Note>,
 ) -> Result<(), Memory>
+    requires { 0 < length env.old.held }
     ensures env { OnOk result (env.new ≡ with_locals env.old
         (joins at.level at.condition env.old.held (before first env.old.held) (before second env.old.held) env.old.widths)) }
     ensures ops { OnOk result (work.new.ops.items ≡ added site.entry.guard.now work.old.ops.items

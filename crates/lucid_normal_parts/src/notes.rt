@@ -1,5 +1,5 @@
 // What held the locals before something was written, so that it can be given back.
-ghost use Rattle.std.specs.Prelude.{◌≡◌, ◌<◌, [], IfOk, OnOk, length, slice_set};
+ghost use Rattle.std.specs.Prelude.{◌≡◌, ◌<◌, [], IfOk, OnOk, OnSome, length, slice_set};
 ghost use Rattle.lucid_normal_parts.specs.Notes.{before, end_of, put_one as one_before};
 
 use crate::locals::held_at;
@@ -83,6 +83,7 @@ pub fn take_back(
 ) -> Result<Option<Items<Note>>, Memory>
     ensures held { OnOk result (held.new ≡ before notes held.old) }
     ensures end { IfOk result (λ end. end_of end held.new ≡ held.old) }
+    ensures some { IfOk result (λ end. OnSome end (0 < length held.new)) }
 {
     if held.len() == 0 {
         put_back(held, notes);
@@ -91,9 +92,9 @@ pub fn take_back(
     Ok(Some(swap_back(alloc, held, notes)?))
 }
 
-/// Where something holds locals, each note is of one of them.
+/// Where locals are held, each note is of one of them, and so is each of those that lead again to what holds them now.
 #[tactic(auto, using(crate::proofs::Noted::before_last, std::proofs::lemmas::Grind::common_steps))]
-fn swap_back(
+pub fn swap_back(
     alloc: Global,
     held: &mut Items<Option<Typed>>,
     notes: Items<Note>,
@@ -101,6 +102,7 @@ fn swap_back(
     requires { 0 < length held.old }
     ensures held { OnOk result (held.new ≡ before notes held.old) }
     ensures end { IfOk result (λ end. before end held.new ≡ held.old) }
+    ensures some { OnOk result (0 < length held.new) }
 {
     let mut left = notes;
     let mut end = Vec::new(alloc);
@@ -119,15 +121,5 @@ fn swap_one(held: &mut Items<Option<Typed>>, end: &mut Vec<Note>, note: Note) ->
     match note {
         Note::One(i, was) => hold(held, end, i, was),
         Note::All(_all) => Ok(()),
-    }
-}
-
-/// Leads to the end of a branch, from where it began.
-pub fn lead(alloc: Global, held: &mut Items<Option<Typed>>, end: Option<Items<Note>>)
-    ensures { held.new ≡ end_of end held.old }
-{
-    match end {
-        None => *held = Items::new(alloc),
-        Some(notes) => put_back(held, notes),
     }
 }
