@@ -186,36 +186,11 @@ module _ (site : code.Site) where
   operand_longer None ws = omega arith
   operand_longer (Some x) ws = expr_longer x ws
 
-  pub local_few : (i : ℕ) (ws : List ℕ) → FewExpr (flat_expr (e.Local i) p ws) → site.first + i ≤ most
-  local_few i ws few =
-      let node = opened_expr p (Expr-F.Local i) (e.Local i) (e.rolls-Local i) ws few in
-      let a = node.few in
-      let b = ltb-true (site.first + i) (length node.scope.locals) node.names in
-      omega arith
-
-  pub un_few : (op : _) (x : Expr) (ws : List ℕ) → FewExpr (flat_expr (e.Un op x) p ws) → FewExpr (flat_expr x p ws)
-  un_few op x ws few = few_part (omega arith) (λ scope h. (and_parts _ _ h).0) (opened_expr p (Expr-F.Un op x) (e.Un op x) (e.rolls-Un op x) ws few)
-
-  pub cast_few : (w : ℕ) (x : Expr) (ws : List ℕ) → FewExpr (flat_expr (e.Cast w x) p ws) → FewExpr (flat_expr x p ws)
-  cast_few w x ws few = few_part (omega arith) (λ scope h. (and_parts _ _ h).0) (opened_expr p (Expr-F.Cast w x) (e.Cast w x) (e.rolls-Cast w x) ws few)
-
   pub bin_first : (op : _) (x y : Expr) (ws : List ℕ) → FewExpr (flat_expr (e.Bin op x y) p ws) → FewExpr (flat_expr x p ws)
   bin_first op x y ws few = few_part (expr_longer y (flat_expr x p ws).locals) (λ scope h. (and_parts _ _ h).0) (opened_expr p (Expr-F.Bin op x y) (e.Bin op x y) (e.rolls-Bin op x y) ws few)
 
-  pub bin_second : (op : _) (x y : Expr) (ws mid : List ℕ) → mid ≡ (flat_expr x p ws).locals → FewExpr (flat_expr (e.Bin op x y) p ws) → FewExpr (flat_expr y p mid)
-  bin_second op x y ws mid l few = rw l (few_part (omega arith) (λ scope h. (and_parts _ _ (and_parts _ _ h).1).0) (opened_expr p (Expr-F.Bin op x y) (e.Bin op x y) (e.rolls-Bin op x y) ws few))
-
   pub cmp_first : (op : _) (x y : Expr) (ws : List ℕ) → FewExpr (flat_expr (e.Cmp op x y) p ws) → FewExpr (flat_expr x p ws)
   cmp_first op x y ws few = few_part (expr_longer y (flat_expr x p ws).locals) (λ scope h. (and_parts _ _ h).0) (opened_expr p (Expr-F.Cmp op x y) (e.Cmp op x y) (e.rolls-Cmp op x y) ws few)
-
-  pub cmp_second : (op : _) (x y : Expr) (ws mid : List ℕ) → mid ≡ (flat_expr x p ws).locals → FewExpr (flat_expr (e.Cmp op x y) p ws) → FewExpr (flat_expr y p mid)
-  cmp_second op x y ws mid l few = rw l (few_part (omega arith) (λ scope h. (and_parts _ _ (and_parts _ _ h).1).0) (opened_expr p (Expr-F.Cmp op x y) (e.Cmp op x y) (e.rolls-Cmp op x y) ws few))
-
-  pub hash_few : (w : ℕ) (xs : List Expr) (ws : List ℕ) → FewExpr (flat_expr (e.Hash w xs) p ws) → FewExprs (f.each (map flat_expr xs) p ws)
-  hash_few w xs ws few = few_part (omega arith) (λ scope h. h) (opened_expr p (Expr-F.Hash w xs) (e.Hash w xs) (e.rolls-Hash w xs) ws few)
-
-  pub array_few : (t : Touch) (ws : List ℕ) → FewExpr (flat_expr (e.Array t) p ws) → FewTouch (flat_touch t p ws)
-  array_few t ws few = few_part (omega arith) (λ scope h. (and_parts _ _ h).0) (opened_expr p (Expr-F.Array t) (e.Array t) (e.rolls-Array t) ws few)
 
   pub fun_args : (k : ℕ) (names : List _) (xs : List Expr) (ws : List ℕ) → FewExpr (flat_expr (e.Fun k names xs) p ws) → FewExprs (f.each (map flat_expr xs) p ws)
   fun_args k names xs ws few =
@@ -223,13 +198,6 @@ module _ (site : code.Site) where
       let grown = begins_length args.locals (f.put_in (slice_get p.funs k) (map (array_of p.arrays) names) args.value args.locals).locals (put_grows p.funs grow k (map (array_of p.arrays) names) args.value args.locals) in
       few_part grown (λ scope h. put_args (slice_get p.funs k) (map (array_of p.arrays) names) args.value args.locals scope h)
       (opened_expr p (Expr-F.Fun k names xs) (e.Fun k names xs) (e.rolls-Fun k names xs) ws few)
-
-  pub fun_put : (k : ℕ) (names : List _) (xs : List Expr) (ws mid arrays : List ℕ) (args : List Expr) → args ≡ (f.each (map flat_expr xs) p ws).value → mid ≡ (f.each (map flat_expr xs) p ws).locals → arrays ≡ map (array_of p.arrays) names →
-      FewExpr (flat_expr (e.Fun k names xs) p ws) → FewExpr (called (slice_get p.funs k) arrays args mid)
-  fun_put k names xs ws mid arrays args a l i few =
-      let made = f.each (map flat_expr xs) p ws in
-      let call = f.put_in (slice_get p.funs k) (map (array_of p.arrays) names) made.value made.locals in
-      rw (a, l, i) (few_part (omega arith) (λ scope h. subst (λ (t : Test). t scope ≡ true) (sym (names_roll call.value)) h) (opened_expr p (Expr-F.Fun k names xs) (e.Fun k names xs) (e.rolls-Fun k names xs) ws few))
 
   touch_parts : (y : Touch-F Test Test Test) (scope : Scope) → n.touch_step y scope ≡ true → (y.index scope ≡ true) × (y.get_arg scope ≡ true) × (y.set_arg scope ≡ true)
   touch_parts y scope h =
@@ -278,33 +246,11 @@ module _ (site : code.Site) where
       let longer : length first.locals ≤ length (f.block (map flat_stmt es) p ws).locals = subst (λ (q : List ℕ). length first.locals ≤ length q) l2 (stmts_longer tl first.locals) in
       few_part longer (λ scope h. done_before first.value rest.value scope (done_behind xs (first.value ++ rest.value) scope (subst (λ (q : List Stmt). each (map stmt_names q) scope ≡ true) (sym v2) h))) few
 
-  pub some_few : (x : Expr) (ws : List ℕ) → FewOptional (operand (Some x) p ws) → FewExpr (flat_expr x p ws)
-  some_few x ws few = few_part (omega arith) (λ scope h. (and_parts _ _ h).0) few
-
   pub both_first : (d u : Option Expr) (ws : List ℕ) → FewBoth (f.both true (operand d) (operand u) p ws) → FewOptional (operand d p ws)
   both_first d u ws few = few_part (operand_longer u (operand d p ws).locals) (λ scope h. (and_parts _ _ h).0) few
 
-  pub both_then : (d u : Option Expr) (ws mid : List ℕ) → mid ≡ (operand d p ws).locals → FewBoth (f.both true (operand d) (operand u) p ws) → FewOptional (operand u p mid)
-  both_then d u ws mid l few = rw l (few_part (omega arith) (λ scope h. (and_parts _ _ h).1) few)
-
   pub turned_first : (d u : Option Expr) (ws : List ℕ) → FewBoth (f.both false (operand d) (operand u) p ws) → FewOptional (operand u p ws)
   turned_first d u ws few = few_part (operand_longer d (operand u p ws).locals) (λ scope h. (and_parts _ _ h).1) few
-
-  pub turned_then : (d u : Option Expr) (ws mid : List ℕ) → mid ≡ (operand u p ws).locals → FewBoth (f.both false (operand d) (operand u) p ws) → FewOptional (operand d p mid)
-  turned_then d u ws mid l few = rw l (few_part (omega arith) (λ scope h. (and_parts _ _ h).0) few)
-
-  pub assign_few : (i : ℕ) (x : Expr) (ws : List ℕ) → FewStmts (flat_stmt (s.Assign i x) p ws) → FewExpr (flat_expr x p ws)
-  assign_few i x ws few = few_part (omega arith) (λ scope h. (and_parts _ _ (and_parts _ _ h).0).1) (opened_stmt p (Stmt-F.Assign i x) (s.Assign i x) (s.rolls-Assign i x) ws few)
-
-  pub assign_local : (i : ℕ) (x : Expr) (ws : List ℕ) → FewStmts (flat_stmt (s.Assign i x) p ws) → site.first + i ≤ most
-  assign_local i x ws few =
-      let node = opened_stmt p (Stmt-F.Assign i x) (s.Assign i x) (s.rolls-Assign i x) ws few in
-      let a = node.few in
-      let b = ltb-true (site.first + i) (length node.scope.locals) (and_parts _ _ (and_parts _ _ node.names).0).0 in
-      omega arith
-
-  pub drop_few : (x : Expr) (ws : List ℕ) → FewStmts (flat_stmt (s.Drop x) p ws) → FewExpr (flat_expr x p ws)
-  drop_few x ws few = few_part (omega arith) (λ scope h. (and_parts _ _ (and_parts _ _ h).0).0) (opened_stmt p (Stmt-F.Drop x) (s.Drop x) (s.rolls-Drop x) ws few)
 
   pub if_test : (x : Expr) (ss ts : List Stmt) (ws : List ℕ) → FewStmts (flat_stmt (s.If x ss ts) p ws) → FewExpr (flat_expr x p ws)
   if_test x ss ts ws few =
@@ -331,13 +277,6 @@ module _ (site : code.Site) where
       let left = f.block (map flat_stmt ss) p test.locals in
       let right = f.block (map flat_stmt ts) p left.locals in
       rw (m, l) (few_part (omega arith) (λ scope h. (branches left.value right.value scope (expr_names test.value scope) h).1) (opened_stmt p (Stmt-F.If x ss ts) (s.If x ss ts) (s.rolls-If x ss ts) ws few))
-
-  pub say_few : (form : ℕ) (xs : List Expr) (ws : List ℕ) → FewStmts (flat_stmt (s.Say form xs) p ws) → FewExprs (f.each (map flat_expr xs) p ws)
-  say_few form xs ws few = few_part (omega arith) (λ scope h. (and_parts _ _ (and_parts _ _ h).0).1) (opened_stmt p (Stmt-F.Say form xs) (s.Say form xs) (s.rolls-Say form xs) ws few)
-
-  pub return_few : (o : Option Expr) (ws : List ℕ) → FewStmts (flat_stmt (s.Return o) p ws) → FewOptional (operand o p ws)
-  return_few None ws few = few_part (omega arith) (λ scope h. refl) (opened_stmt p (Stmt-F.Return None) (s.Return None) (s.rolls-Return None) ws few)
-  return_few (Some x) ws few = few_part (omega arith) (λ scope h. (and_parts _ _ h).0) (opened_stmt p (Stmt-F.Return (Some x)) (s.Return (Some x)) (s.rolls-Return (Some x)) ws few)
 
   -- What an event is sent with.
   abbrev sent_of : ℕ → List Expr → Option Expr → Option Expr → Bool → Flatten (List Step)
