@@ -71,6 +71,7 @@ fn bin_word(op: BinOp) -> &'static str {
 
 fn cmp_word(op: CmpOp) -> &'static str {
     match op {
+        CmpOp::Eq => "equal",
         CmpOp::Lt => "less",
         _ => "another",
     }
