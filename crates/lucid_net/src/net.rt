@@ -46,7 +46,8 @@ impl<'a> Model for Net<'a> {
 }
 
 impl<'a> Net<'a> {
-    /// The network before tick 0, all of whose cells are 0.
+    /// The network before tick 0 (`IsStart`): all cells are 0, and the events of the scenario wait. Memory is its one error; it also stands for
+    /// more events than 32 bits can number.
     pub fn whole(
         alloc: Global,
         core: &'a Core,

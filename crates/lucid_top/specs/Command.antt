@@ -16,10 +16,11 @@ abbrev pub once_words : List Bytes → Option Command
 once_words (program ∷ name ∷ arguments) = option_map (λ ns. command.Once (arguments_of ns)) (numbers_of arguments)
 once_words words = None
 
--- `run whole P L T`
+-- what `run` does in this mode
 abbrev pub run_mode : Bytes → Option Command
 run_mode mode = if bytes_eq mode (codes "whole") then Some command.RunWhole else None
 
+-- `run whole P L T`
 abbrev pub run_words : List Bytes → Option Command
 run_words (mode ∷ program ∷ limits ∷ scenario ∷ []) = run_mode mode
 run_words words = None
@@ -37,7 +38,7 @@ command_of (verb ∷ words) =
 abbrev pub program_file : ℕ → NamedFile
 program_file word = record { word = word; limit = 1048576 }
 
--- a limits file: as much
+-- a limits file: at most one mebibyte
 abbrev pub limits_file : ℕ → NamedFile
 limits_file word = record { word = word; limit = 1048576 }
 

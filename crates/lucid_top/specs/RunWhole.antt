@@ -8,10 +8,11 @@ use Rattle.lucid_top.specs.Program.{IsProgram}
 use Rattle.lucid_top.specs.Settings.{IsLimits, IsScenario}
 use Rattle.lucid_top.specs.Words.{Bytes}
 
--- the log of the network that this text of a scenario sets up
+-- the log of the network that the text of a scenario sets up, or why it sets up none
 abbrev pub RunsUnder : Parts → Limits → Bytes → Outcome → Type 0
 RunsUnder core limits scenario o = FollowedBy (IsScenario core scenario) (λ scene p. p ≡ Ok (log (whole core scene limits))) o
 
+-- the same under the limits that a text writes
 abbrev pub RunsProgram : Parts → Bytes → Bytes → Outcome → Type 0
 RunsProgram core limits scenario o = FollowedBy (IsLimits limits) (λ l. RunsUnder core l scenario) o
 

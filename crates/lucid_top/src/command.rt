@@ -123,7 +123,7 @@ fn read_run(words: &[String]) -> Option<Command>
     }
 }
 
-// How a network of a program, limits and a scenario runs.
+// What `run` does in this mode.
 fn run_mode(mode: &str) -> Option<Command>
     ensures command { result ≡ mode_of mode.now }
     ensures there { IfSome result (λ c. All (λ file. file.word < 5) (files_of c)) }
