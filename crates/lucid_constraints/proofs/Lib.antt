@@ -7,4 +7,5 @@ pub mod MemberLemmas
 pub mod NamesLemmas
 pub mod NumberingLemmas
 pub mod SameLemmas
+pub mod SettleLemmas
 pub mod StepLemmas

@@ -1,5 +1,6 @@
 -- Which name must come before which, the numberings that keep to it, and the cycles that leave none.
-use Rattle.std.specs.Prelude.{ℕ, ◌<◌, ◌≢◌, ◌⊎◌, List, [], ◌∷◌, All, AllPairs, Contains, slice_index_or}
+use Rattle.std.specs.Prelude.{◌≡◌, ◌↔◌, ℕ, ◌<◌, ◌≢◌, ◌⊎◌, List, [], ◌∷◌, Option, None, All, AllPairs, Contains, IfSome, slice_index_or}
+use Rattle.std.specs.Global.{Vec}
 use Rattle.lucid_base.specs.declared.array.ArrayName.{ArrayName}
 use Rattle.lucid_base.specs.declared.array.ArrayName.TheVariants.{Global, Param}
 use Rattle.lucid_constraints.specs.declared.pair.Atom.TheVariants.{After}
@@ -44,3 +45,8 @@ pub record IsCycle (needed : ArrayName → ArrayName → Type 0) (first : ArrayN
 abbrev pub FormsCycle : (ArrayName → ArrayName → Type 0) → List ArrayName → Type 0
 FormsCycle needed [] = ⊥
 FormsCycle needed (first ∷ others) = IsCycle needed first others
+
+-- The answer is None exactly where there is a numbering, and else a cycle.
+pub record FindsCycle (needed : ArrayName → ArrayName → Type 0) (answer : Option (Vec ArrayName)) : Type 0 where
+  pub none : (answer ≡ None) ↔ HasNumbering needed
+  pub cycle : IfSome answer (λ names. FormsCycle needed names.items)

@@ -1,9 +1,10 @@
 // Cycles of names.
-ghost use Rattle.std.specs.Prelude.{◌≡◌, ◌↔◌, ◌<◌, None, IfOk, IfSome, length, false};
+ghost use Rattle.std.specs.Prelude.{◌≡◌, ◌<◌, IfOk, length};
 ghost use Rattle.lucid_constraints.specs.Circle.{comes_first as is_first, IsEarliest, Turned};
-ghost use Rattle.lucid_constraints.specs.Cycle.{Needed, HasNumbering, FormsCycle};
+ghost use Rattle.lucid_constraints.specs.Cycle.{FindsCycle, Needed};
 
 use crate::names::gather;
+use crate::numbers::settle;
 use crate::order::Order;
 use crate::search::circle;
 use lucid_base::{ArrayName, Memory};
@@ -49,11 +50,9 @@ fn turn(names: &mut Vec<ArrayName>)
 }
 
 impl Order {
-    /// A cycle among the names of the pairs and the first `arrays` declared arrays. A pair with `Start` asks nothing here.
-    /// The work is in proportion to the names times the pairs and names. Memory is the one error.
-    pub fn cycle(&self, alloc: Global, arrays: u32) -> Result<Option<Vec<ArrayName>>, Memory>
-        ensures none { IfOk result (λ r. (r ≡ None) ↔ HasNumbering (Needed arrays self.now)) }
-        ensures cycle { IfOk result (λ r. IfSome r (λ c. FormsCycle (Needed arrays self.now) c.items)) }
+    /// The same by a search.
+    fn search(&self, alloc: Global, arrays: u32) -> Result<Option<Vec<ArrayName>>, Memory>
+        ensures { IfOk result (FindsCycle (Needed arrays self.now)) }
     {
         let names = gather(alloc, self.pairs(), arrays)?;
         let pairs = self.pairs().to_vec(alloc)?;
@@ -63,6 +62,18 @@ impl Order {
                 turn(&mut found);
                 Ok(Some(found))
             }
+        }
+    }
+
+    /// A cycle among the names of the pairs and the first `arrays` declared arrays. A pair with `Start` asks nothing here.
+    /// The work is in proportion to the names times the pairs and names. Memory is the one error.
+    pub fn cycle(&self, alloc: Global, arrays: u32) -> Result<Option<Vec<ArrayName>>, Memory>
+        ensures { IfOk result (FindsCycle (Needed arrays self.now)) }
+    {
+        if settle(self.pairs(), arrays) {
+            Ok(None)
+        } else {
+            self.search(alloc, arrays)
         }
     }
 }

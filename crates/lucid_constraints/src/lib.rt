@@ -9,6 +9,7 @@ mod laws;
 mod look;
 mod marks;
 mod names;
+mod numbers;
 mod order;
 mod pair;
 mod search;

@@ -13,7 +13,8 @@ use std::alloc::Global;
 /// The places of the table: 73 atoms before 72 names.
 const PLACES: usize = 5256;
 
-fn name_number(name: ArrayName) -> Option<usize>
+/// The place of the name among the first 8 array parameters and 64 declared arrays.
+pub fn name_number(name: ArrayName) -> Option<usize>
     ensures { result ≡ name_number_of name }
 {
     match name {

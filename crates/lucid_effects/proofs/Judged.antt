@@ -1,16 +1,16 @@
 -- One more body is judged.
-use Rattle.std.proofs.Common.{◌≡◌, ◌↔◌, ℕ, ◌<◌, Bool, true, false, if◌then◌else◌, nat_lt, List, [], ◌∷◌, ◌++◌, Option, None, Some, refl, arith}
-use Rattle.std.specs.Prelude.{All, IfSome}
+use Rattle.std.proofs.Common.{◌≡◌, ℕ, ◌<◌, true, false, List, [], ◌∷◌, ◌++◌, Option, None, Some, refl, arith}
+use Rattle.std.specs.Prelude.{All}
 use Rattle.std.specs.Global.{Vec}
 use Rattle.std.proofs.lemmas.Bool.{ltb-true, ltb-false}
 use Rattle.std.proofs.lemmas.List.Elements.{All-append, All-cons, All-nil, Contains-append_left, Contains-append_right}
 use Rattle.lucid_base.specs.declared.array.ArrayName.{ArrayName}
-use Rattle.lucid_constraints.specs.Cycle.{FormsCycle, HasNumbering, Needed}
+use Rattle.lucid_constraints.specs.Cycle.{FindsCycle, FormsCycle, Needed}
 use Rattle.lucid_order.specs.Order.{Body, InOrder}
 use Rattle.lucid_order.proofs.Cycles.{cycles_refuse}
 use Rattle.lucid_effects.specs.declared.first.Refused.{Refused}
 use Rattle.lucid_schemes.specs.declared.scheme.Scheme.{Scheme}
-use Rattle.lucid_effects.specs.First.{IsFirst, IsRefusedFirst, kept}
+use Rattle.lucid_effects.specs.First.{IsFirst, IsRefusedFirst, comes_first, kept}
 use Rattle.lucid_schemes.specs.Schemes.{scheme_of, schemes_of}
 use Rattle.lucid_schemes.proofs.CyclesTell.{cycles_tell}
 
@@ -20,7 +20,7 @@ abbrev Fine : ℕ → Body → Type 0
 Fine n b = InOrder n b.funs b.body
 
 abbrev pub Told : ℕ → Scheme → Option (Vec ArrayName) → Type 0
-Told n s r = ((r ≡ None) ↔ HasNumbering (Needed n s.needs)) × IfSome r (λ xs. FormsCycle (Needed n s.needs) xs.items)
+Told n s r = FindsCycle (Needed n s.needs) r
 
 one : {A : Type 0} (P : A → Type 0) (xs : List A) (x : A) → All P xs → P x → All P (xs ++ x ∷ [])
 one P xs x all last = All-append P xs (x ∷ []) all (All-cons P x [] last (All-nil P))
@@ -58,11 +58,11 @@ module _ (n : ℕ) (bs : List Body) (b : Body) where
   fine_still None h last = one (Fine n) bs b h last
   fine_still (Some r) h last = still_first r.decl r.cycle.items h (λ l. last)
 
-  pub judged : (first : Option Refused) (r : Option (Vec ArrayName)) → IsFirst n bs first → Told n (scheme_of (schemes_of b.funs) b.body) r → IsFirst n (bs ++ b ∷ []) (kept first b.decl r)
-  judged first None h told = fine_still first h ((cycles_tell n b.funs b.body).0 (told.0.0 refl))
-  judged None (Some xs) h told = now_first xs.items told.1 (λ k d m l. h k d m)
-  judged (Some r) (Some xs) h told = of (nat_lt b.decl r.decl) refl
-    where
-      of : (t : Bool) → nat_lt b.decl r.decl ≡ t → IsFirst n (bs ++ b ∷ []) (if t then Some (record { decl = b.decl; cycle = xs }) else Some r)
-      of true e = now_first xs.items told.1 (none_below r.decl b.decl r.cycle.items (ltb-true b.decl r.decl e) h)
-      of false e = let least = ltb-false b.decl r.decl e in still_first r.decl r.cycle.items h (λ l. absurd (omega arith))
+  pub judged : (first : Option Refused) (r : Option (Vec ArrayName)) → IsFirst n bs first → comes_first first b.decl ≡ true → Told n (scheme_of (schemes_of b.funs) b.body) r → IsFirst n (bs ++ b ∷ []) (kept first b.decl r)
+  judged first None h e told = fine_still first h ((cycles_tell n b.funs b.body).0 (told.none.0 refl))
+  judged None (Some xs) h e told = now_first xs.items told.cycle (λ k d m l. h k d m)
+  judged (Some r) (Some xs) h e told = now_first xs.items told.cycle (none_below r.decl b.decl r.cycle.items (ltb-true b.decl r.decl e) h)
+
+  pub passed_over : (first : Option Refused) → IsFirst n bs first → comes_first first b.decl ≡ false → IsFirst n (bs ++ b ∷ []) first
+  passed_over None h e = absurd (cc)
+  passed_over (Some r) h e = let least = ltb-false b.decl r.decl e in still_first r.decl r.cycle.items h (λ l. absurd (omega (arith, l, least)))

@@ -1,5 +1,5 @@
 -- Which of several bodies is the first that isn't in order.
-use Rattle.std.specs.Prelude.{◌≡◌, ℕ, List, [], ◌∷◌, ◌++◌, Option, None, Some, if◌then◌else◌, nat_lt, All}
+use Rattle.std.specs.Prelude.{◌≡◌, ℕ, List, [], ◌∷◌, ◌++◌, Option, None, Some, Bool, true, nat_lt, All}
 use Rattle.std.specs.Global.{Vec}
 use Rattle.lucid_base.specs.declared.array.ArrayName.{ArrayName}
 use Rattle.lucid_core.specs.declared.body.Stmt.{Stmt}
@@ -21,11 +21,15 @@ abbrev pub IsFirst : ℕ → List Body → Option Refused → Type 0
 IsFirst arrays bs None = All (λ b. InOrder arrays b.funs b.body) bs
 IsFirst arrays bs (Some r) = IsRefusedFirst arrays bs r.decl r.cycle.items
 
--- The first so far, and what is found of one more declaration.
+-- Whether a declaration would be the first, if it is refused.
+abbrev pub comes_first : Option Refused → ℕ → Bool
+comes_first None decl = true
+comes_first (Some r) decl = nat_lt decl r.decl
+
+-- The first so far, and what is found of a declaration that would be the first.
 abbrev pub kept : Option Refused → ℕ → Option (Vec ArrayName) → Option Refused
 kept first decl None = first
-kept None decl (Some cycle) = Some (record { decl = decl; cycle = cycle })
-kept (Some r) decl (Some cycle) = if nat_lt decl r.decl then Some (record { decl = decl; cycle = cycle }) else Some r
+kept first decl (Some cycle) = Some (record { decl = decl; cycle = cycle })
 
 -- One more declaration is judged, behind the functions of these schemes: the first of any bodies stays right with it.
 abbrev pub Judges : ℕ → List Scheme → ℕ → List Stmt → Option Refused → Option Refused → Type 0

@@ -3,7 +3,7 @@ ghost use Rattle.std.specs.Prelude.{◌≡◌, ◌≤◌, IfOk, OnOk};
 ghost use Rattle.lucid_schemes.specs.Schemes.{begun, body_found, scheme_of};
 ghost use Rattle.lucid_effects.specs.First.{Judges};
 
-use crate::first::{Refused, keep};
+use crate::first::{Refused, is_earlier, keep};
 use crate::walk::body;
 use lucid_base::{Items, Memory, Steps};
 use lucid_constraints::{Atom, Order};
@@ -34,7 +34,7 @@ fn scheme<L: Ledger>(
     Ok(at)
 }
 
-/// The scheme of declaration `decl`, and whether it is the first that isn't in order.
+/// The scheme of declaration `decl`, and whether it is the first that isn't in order. A cycle is looked for only where it could be.
 pub fn judge<L: Ledger>(
     alloc: Global,
     arrays: u32,
@@ -49,7 +49,9 @@ pub fn judge<L: Ledger>(
     ensures first { OnOk result (Judges arrays schemes.now decl stmts.now first.old first.new) }
 {
     let found = scheme(alloc, schemes, stmts, steps)?;
-    let cycle = found.needs.cycle(alloc, arrays)?;
-    keep(first, decl, cycle);
+    if is_earlier(first, decl) {
+        let cycle = found.needs.cycle(alloc, arrays)?;
+        keep(first, decl, cycle);
+    }
     Ok(found)
 }

@@ -1,7 +1,6 @@
 // The first declaration that isn't in order.
-ghost use Rattle.std.specs.Prelude.{◌≡◌, true, nat_lt};
-ghost use Rattle.std.specs.Option.{option_map_or};
-ghost use Rattle.lucid_effects.specs.First.{kept};
+ghost use Rattle.std.specs.Prelude.{◌≡◌};
+ghost use Rattle.lucid_effects.specs.First.{comes_first, kept};
 
 use lucid_base::ArrayName;
 
@@ -12,19 +11,18 @@ pub struct Refused {
     pub cycle: Vec<ArrayName>,
 }
 
-/// Of two refused declarations keeps the one with the smaller number.
+/// Keeps a declaration that was found to be refused, in place of the one that was the first so far.
 pub fn keep(first: &mut Option<Refused>, decl: u32, cycle: Option<Vec<ArrayName>>)
     ensures { first.new ≡ kept first.old decl cycle }
 {
     if let Some(cycle) = cycle {
-        if is_earlier(first, decl) {
-            *first = Some(Refused { decl, cycle });
-        }
+        *first = Some(Refused { decl, cycle });
     }
 }
 
-fn is_earlier(first: &Option<Refused>, decl: u32) -> bool
-    ensures { result ≡ option_map_or (λ r. nat_lt decl r.decl) first.now true }
+/// Whether the declaration would be the first, if it is refused.
+pub fn is_earlier(first: &Option<Refused>, decl: u32) -> bool
+    ensures { result ≡ comes_first first.now decl }
 {
     match first {
         None => true,
