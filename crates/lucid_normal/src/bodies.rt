@@ -1,6 +1,7 @@
 // Bodies as operations: a function a form.
 ghost use Rattle.std.specs.Prelude.{◌≡◌, IfOk, OnOk, map, option_map};
-ghost use Rattle.lucid_translate.specs.Translate.{delay_made, each_made, expr_code, given_made, guarded, is, operands as operands_of, ordered_made, seq, stmt_code, target_made, touch_code};
+ghost use Rattle.lucid_translate.specs.Translate.{delay_made, each_made, given_made, ordered_made, target_made};
+ghost use Rattle.lucid_translate.specs.Translate.{expr_code, guarded, is, operands as operands_of, seq, stmt_code, touch_code};
 ghost use Rattle.lucid_normal_parts.specs.Added.{added};
 ghost use Rattle.lucid_normal_parts.specs.Notes.{before};
 ghost use Rattle.lucid_normal.specs.Given.{given_codes};

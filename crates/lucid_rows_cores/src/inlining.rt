@@ -56,8 +56,12 @@ fn a_call_in_an_argument_is_taken_first(rt: HostRuntime) -> Result<(), Fail> {
 }
 
 /// The same event to three switches twice, later with a delay.
-const GROUPS: &[u8] =
-    b"group g = { 4, 2, 7 }; event e(int i); fun int f(int x) { return x + 1; } handle e(int i) { generate Event.locate(e(f(i)), g); generate Event.delay(Event.locate(e(f(i)), g), 3); }";
+const GROUPS: &[u8] = b"
+group g = { 4, 2, 7 };
+event e(int i);
+fun int f(int x) { return x + 1; }
+handle e(int i) { generate Event.locate(e(f(i)), g); generate Event.delay(Event.locate(e(f(i)), g), 3); }
+";
 
 #[test]
 fn a_group_becomes_assignments_and_events(rt: HostRuntime) -> Result<(), Fail> {
@@ -68,8 +72,22 @@ fn a_group_becomes_assignments_and_events(rt: HostRuntime) -> Result<(), Fail> {
 }
 
 /// Each form of a statement and of an expression.
-const FORMS: &[u8] =
-    b"global Array.t<<32>> a = Array.create(4); memop plus(int x, int y) { return x + y; } event e(int i); fun int f(Array.t<<32>> t, int x) { int n = Array.update(t, x, plus, 1, plus, 1); return n; } fun void g(bool b) { if (b) { return; } printf(\"no\"); } handle e(int i) { int n = f(a, i); g(n < 3); bool small = ((int<<8>>) ~n) == 7; printf(\"%d %d %d\", hash<<32>>(1, n), SELF, Sys.time()); if (small) { generate Event.delay(Event.locate(e(n + 1), f(a, 3)), 4); } else { n = Array.get(a, 2); } Array.set(a, 1, n); return; }";
+const FORMS: &[u8] = b"
+global Array.t<<32>> a = Array.create(4);
+memop plus(int x, int y) { return x + y; }
+event e(int i);
+fun int f(Array.t<<32>> t, int x) { int n = Array.update(t, x, plus, 1, plus, 1); return n; }
+fun void g(bool b) { if (b) { return; } printf(\"no\"); }
+handle e(int i) {
+    int n = f(a, i);
+    g(n < 3);
+    bool small = ((int<<8>>) ~n) == 7;
+    printf(\"%d %d %d\", hash<<32>>(1, n), SELF, Sys.time());
+    if (small) { generate Event.delay(Event.locate(e(n + 1), f(a, 3)), 4); } else { n = Array.get(a, 2); }
+    Array.set(a, 1, n);
+    return;
+}
+";
 
 #[test]
 fn every_form_is_put_in(rt: HostRuntime) -> Result<(), Fail> {
@@ -96,12 +114,20 @@ fn inlined(alloc: Global, core: &Core, room: usize) -> Result<[usize; 4], Inline
 }
 
 /// Two handlers, each with a call of the array and an event.
-const TWICE: &[u8] =
-    b"global Array.t<<32>> a = Array.create(4); event e(int i); event f(int i); handle e(int i) { Array.set(a, i, 7); generate f(i); } handle f(int i) { Array.set(a, i, 8); generate e(i); }";
+const TWICE: &[u8] = b"
+global Array.t<<32>> a = Array.create(4);
+event e(int i);
+event f(int i);
+handle e(int i) { Array.set(a, i, 7); generate f(i); }
+handle f(int i) { Array.set(a, i, 8); generate e(i); }
+";
 
 /// A call in the argument of a call. Each body is one sum, and the event one op more.
-const NESTED: &[u8] =
-    b"event e(int i); fun int f(int x) { int y = x; return y + 1; } handle e(int i) { generate e(f(f(i))); }";
+const NESTED: &[u8] = b"
+event e(int i);
+fun int f(int x) { int y = x; return y + 1; }
+handle e(int i) { generate e(f(f(i))); }
+";
 
 fn too_many(handler: u32, count: u64) -> Result<[usize; 4], InlineError> {
     Err(InlineError::TooMany { handler, count })
@@ -137,8 +163,21 @@ fn functions_are_put_in_where_there_is_room(rt: HostRuntime) -> Result<(), Fail>
 
 /// Two handlers that each call the last of nine functions, of which each but the first calls the one before four times. A function's size is
 /// 5 and four times that of the one before, from 1 on: 174,761 for the last, and 2 more for each handler.
-const TOWERS: &[u8] =
-    b"event e(int i); event f(int i); fun int a(int x) { return x + 1; } fun int b(int x) { return a(x) + a(x) + a(x) + a(x); } fun int c(int x) { return b(x) + b(x) + b(x) + b(x); } fun int d(int x) { return c(x) + c(x) + c(x) + c(x); } fun int g(int x) { return d(x) + d(x) + d(x) + d(x); } fun int h(int x) { return g(x) + g(x) + g(x) + g(x); } fun int j(int x) { return h(x) + h(x) + h(x) + h(x); } fun int k(int x) { return j(x) + j(x) + j(x) + j(x); } fun int l(int x) { return k(x) + k(x) + k(x) + k(x); } handle e(int i) { generate e(l(i)); } handle f(int i) { generate f(l(i)); }";
+const TOWERS: &[u8] = b"
+event e(int i);
+event f(int i);
+fun int a(int x) { return x + 1; }
+fun int b(int x) { return a(x) + a(x) + a(x) + a(x); }
+fun int c(int x) { return b(x) + b(x) + b(x) + b(x); }
+fun int d(int x) { return c(x) + c(x) + c(x) + c(x); }
+fun int g(int x) { return d(x) + d(x) + d(x) + d(x); }
+fun int h(int x) { return g(x) + g(x) + g(x) + g(x); }
+fun int j(int x) { return h(x) + h(x) + h(x) + h(x); }
+fun int k(int x) { return j(x) + j(x) + j(x) + j(x); }
+fun int l(int x) { return k(x) + k(x) + k(x) + k(x); }
+handle e(int i) { generate e(l(i)); }
+handle f(int i) { generate f(l(i)); }
+";
 
 #[test]
 fn a_flat_form_that_is_too_large_is_refused(rt: HostRuntime) -> Result<(), Fail> {
