@@ -1,5 +1,5 @@
 -- A table that tells of the pairs of few names whether they are there. Only contracts inside this crate cite this page.
-use Rattle.std.specs.Prelude.{◌≡◌, ℕ, ◌+◌, ◌*◌, ◌<◌, Bool, false, if◌then◌else◌, nat_lt, List, get_or, length, Option, None, Some}
+use Rattle.std.specs.Prelude.{◌≡◌, ℕ, ◌+◌, ◌*◌, ◌<◌, Bool, false, if◌then◌else◌, nat_lt, List, [], ◌∷◌, ◌++◌, get_or, length, Option, None, Some, IfSome}
 use Rattle.std.specs.List.{list_any}
 use Rattle.std.specs.Option.{option_and_then, option_map}
 use Rattle.lucid_base.specs.declared.array.ArrayName.{ArrayName}
@@ -25,3 +25,11 @@ pair_number p = option_and_then (λ a. option_map (λ n. a * 72 + n) (name_numbe
 -- of a pair for which the table has a place it says whether the pair is among these
 abbrev pub Marked : List Bool → List Pair → Type 0
 Marked marks pairs = (p : Pair) (n : ℕ) → pair_number p ≡ Some n → n < length marks → get_or marks n false ≡ list_any (same_pair p) pairs
+
+-- the table's answer to a pair's number is whether the pair is there
+abbrev pub Tells : List Bool → Option ℕ → Option Bool → Type 0
+Tells marks number answer = (p : Pair) (pairs : List Pair) → number ≡ pair_number p → Marked marks pairs → IfSome answer (λ there. there ≡ list_any (same_pair p) pairs)
+
+-- the new table has a pair of this number besides
+abbrev pub Notes : List Bool → Option ℕ → List Bool → Type 0
+Notes old number new = (p : Pair) (pairs : List Pair) → number ≡ pair_number p → Marked old pairs → Marked new (pairs ++ p ∷ [])

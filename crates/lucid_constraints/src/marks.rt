@@ -1,10 +1,7 @@
 // A table that tells of the pairs of few names whether they are there, so that none is searched for among many.
-ghost use Rattle.std.specs.Prelude.{◌≡◌, ◌<◌, ◌++◌, ◌∷◌, [], List, IfOk, IfSome};
-ghost use Rattle.std.specs.List.{list_any};
-ghost use Rattle.lucid_constraints.specs.Marks.{Marked};
+ghost use Rattle.std.specs.Prelude.{◌≡◌, ◌<◌, IfOk, IfSome};
+ghost use Rattle.lucid_constraints.specs.Marks.{Marked, Notes, Tells};
 ghost use Rattle.lucid_constraints.specs.Marks.{atom_number as atom_number_of, name_number as name_number_of, pair_number as pair_number_of};
-ghost use Rattle.lucid_constraints.specs.Same.{same_pair};
-ghost use Rattle.lucid_constraints.specs.declared.pair.Pair.{Pair as Asked};
 
 use crate::pair::{Atom, Pair};
 use lucid_base::{ArrayName, Memory};
@@ -36,7 +33,8 @@ fn atom_number(atom: Atom) -> Option<usize>
     }
 }
 
-fn pair_number(pair: Pair) -> Option<usize>
+/// The place of the pair in the table, if there is one.
+pub fn pair_number(pair: Pair) -> Option<usize>
     ensures { result ≡ pair_number_of pair }
 {
     match atom_number(pair.atom) {
@@ -48,11 +46,11 @@ fn pair_number(pair: Pair) -> Option<usize>
     }
 }
 
-/// What the table says of the pair, where it has a place for it.
-pub fn marked(marks: &[bool], pair: Pair) -> Option<bool>
-    ensures { (pairs : List Asked) → Marked marks.now pairs → IfSome result (λ b. b ≡ list_any (same_pair pair) pairs) }
+/// What the table says of the pair of this number, where it has a place for it.
+pub fn marked(marks: &[bool], number: Option<usize>) -> Option<bool>
+    ensures { Tells marks.now number result }
 {
-    match pair_number(pair) {
+    match number {
         Some(n) => {
             if n < marks.len() {
                 Some(marks[n])
@@ -64,11 +62,11 @@ pub fn marked(marks: &[bool], pair: Pair) -> Option<bool>
     }
 }
 
-/// Notes in the table that the pair is there.
-pub fn mark(marks: &mut Vec<bool>, pair: Pair)
-    ensures { (pairs : List Asked) → Marked marks.old.items pairs → Marked marks.new.items (pairs ++ pair ∷ []) }
+/// Notes in the table that the pair of this number is there.
+pub fn mark(marks: &mut Vec<bool>, number: Option<usize>)
+    ensures { Notes marks.old.items number marks.new.items }
 {
-    if let Some(n) = pair_number(pair) {
+    if let Some(n) = number {
         if n < marks.len() {
             marks[n] = true;
         }
@@ -81,7 +79,7 @@ pub fn table(alloc: Global, pairs: &[Pair]) -> Result<Vec<bool>, Memory>
 {
     let mut marks = vec![in alloc; false; PLACES]?;
     for pair in pairs {
-        mark(&mut marks, *pair);
+        mark(&mut marks, pair_number(*pair));
     }
     Ok(marks)
 }

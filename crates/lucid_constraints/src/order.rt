@@ -1,11 +1,12 @@
 // Pairs without repeats.
 ghost use Rattle.std.specs.Prelude.{◌≡◌, ◌≢◌, ◌+◌, ◌++◌, ◌∷◌, false, [], IfOk, OnOk, AllPairs, map};
 ghost use Rattle.std.specs.List.{list_any};
+ghost use Rattle.lucid_constraints.specs.Marks.{pair_number as pair_number_of};
 ghost use Rattle.lucid_constraints.specs.Same.{same_pair as are_same_pairs, joined, join_all};
 ghost use Rattle.lucid_constraints.specs.Substitution.{pair as pair_before, pairs_at, needs_from};
 
 use crate::ends::name_at;
-use crate::marks::{mark, marked, table};
+use crate::marks::{mark, marked, pair_number, table};
 use crate::pair::{Atom, Pair};
 use lucid_base::{ArrayName, Items, Memory, Steps};
 use std::alloc::Global;
@@ -65,22 +66,24 @@ impl Order {
         self.pairs.as_slice()
     }
 
-    fn has(&self, pair: Pair) -> bool
+    fn has(&self, number: Option<usize>, pair: Pair) -> bool
+        requires { number ≡ pair_number_of pair }
         ensures { result ≡ list_any (are_same_pairs pair) self.now }
     {
-        match marked(&self.marks, pair) {
+        match marked(&self.marks, number) {
             Some(there) => there,
             None => has(self.pairs.as_slice(), pair),
         }
     }
 
     /// Adds a pair that isn't there.
-    fn push(&mut self, pair: Pair) -> Result<(), Memory>
-        requires { list_any (are_same_pairs pair) self.old ≡ false }
+    fn push(&mut self, number: Option<usize>, pair: Pair) -> Result<(), Memory>
+        requires number { number ≡ pair_number_of pair }
+        requires isnt { list_any (are_same_pairs pair) self.old ≡ false }
         ensures { OnOk result (self.new ≡ self.old ++ pair ∷ []) }
     {
         self.pairs.push(pair)?;
-        mark(&mut self.marks, pair);
+        mark(&mut self.marks, number);
         Ok(())
     }
 
@@ -99,10 +102,11 @@ impl Order {
     fn join(&mut self, pair: Pair) -> Result<(), Memory>
         ensures { OnOk result (self.new ≡ joined are_same_pairs self.old pair) }
     {
-        if self.has(pair) {
+        let number = pair_number(pair);
+        if self.has(number, pair) {
             return Ok(());
         }
-        self.push(pair)?;
+        self.push(number, pair)?;
         self.tabulate()
     }
 

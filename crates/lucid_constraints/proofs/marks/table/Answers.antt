@@ -7,7 +7,7 @@ pub loop-pair-preserved : goal.loop-pair-preserved
 loop-pair-preserved c =
     let next : suc c.loop-pair.pair-index ≡ c.loop-pair.pair-index + 1 = omega arith in
     subst (λ k. Marked c.mark.new.marks.items (take k c.args.pairs.now)) next
-    (subst (λ ps. Marked c.mark.new.marks.items ps) (sym (take-suc c.args.pairs.now c.loop-pair.pair-index _ c.loop-pair-test.true)) (c.mark.ensures (take c.loop-pair.pair-index c.args.pairs.now) c.loop-pair.invariant))
+    (subst (λ ps. Marked c.mark.new.marks.items ps) (sym (take-suc c.args.pairs.now c.loop-pair.pair-index _ c.loop-pair-test.true)) (c.mark.ensures _ (take c.loop-pair.pair-index c.args.pairs.now) c.pair_number.ensures c.loop-pair.invariant))
 
 pub returns : goal.returns
 returns c =
