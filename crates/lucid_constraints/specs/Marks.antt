@@ -1,5 +1,5 @@
 -- A table that tells of the pairs of few names whether they are there. Only contracts inside this crate cite this page.
-use Rattle.std.specs.Prelude.{◌≡◌, ℕ, ◌+◌, ◌*◌, ◌<◌, Bool, false, if◌then◌else◌, nat_lt, List, [], ◌∷◌, ◌++◌, get_or, length, Option, None, Some, IfSome}
+use Rattle.std.specs.Prelude.{◌≡◌, ℕ, ◌+◌, ◌*◌, ◌<◌, Bool, false, if◌then◌else◌, ◌&&◌, nat_eq, nat_lt, List, [], ◌∷◌, ◌++◌, get_or, length, Option, None, Some, IfSome}
 use Rattle.std.specs.List.{list_any}
 use Rattle.std.specs.Option.{option_and_then, option_map}
 use Rattle.lucid_base.specs.declared.array.ArrayName.{ArrayName}
@@ -33,3 +33,7 @@ Tells marks number answer = (p : Pair) (pairs : List Pair) → number ≡ pair_n
 -- the new table has a pair of this number besides
 abbrev pub Notes : List Bool → Option ℕ → List Bool → Type 0
 Notes old number new = (p : Pair) (pairs : List Pair) → number ≡ pair_number p → Marked old pairs → Marked new (pairs ++ p ∷ [])
+
+-- how many places the table has: it is made once the pairs are more than 16
+abbrev pub places : List Bool → List Pair → ℕ
+places marks pairs = if nat_eq (length marks) 0 && nat_lt 16 (length pairs) then 5256 else length marks

@@ -1,11 +1,16 @@
 // A table that tells of the pairs of few names whether they are there, so that none is searched for among many.
-ghost use Rattle.std.specs.Prelude.{◌≡◌, ◌<◌, IfOk, IfSome};
-ghost use Rattle.lucid_constraints.specs.Marks.{Marked, Notes, Tells};
+ghost use Rattle.std.specs.Prelude.{◌≡◌, ◌<◌, IfOk, IfSome, OnOk, length};
+ghost use Rattle.std.specs.List.{slice_get};
+ghost use Rattle.std.specs.Option.{option_and_then};
+ghost use Rattle.lucid_constraints.specs.Marks.{Marked, Notes, Tells, places as places_for};
 ghost use Rattle.lucid_constraints.specs.Marks.{atom_number as atom_number_of, name_number as name_number_of, pair_number as pair_number_of};
 
 use crate::pair::{Atom, Pair};
 use lucid_base::{ArrayName, Memory};
 use std::alloc::Global;
+
+/// So many pairs are searched; more are looked up.
+const FEW: usize = 16;
 
 /// The places of the table: 73 atoms before 72 names.
 const PLACES: usize = 5256;
@@ -48,7 +53,8 @@ pub fn pair_number(pair: Pair) -> Option<usize>
 
 /// What the table says of the pair of this number, where it has a place for it.
 pub fn marked(marks: &[bool], number: Option<usize>) -> Option<bool>
-    ensures { Tells marks.now number result }
+    ensures place { result ≡ option_and_then (slice_get marks.now) number }
+    ensures tells { Tells marks.now number result }
 {
     match number {
         Some(n) => {
@@ -64,7 +70,8 @@ pub fn marked(marks: &[bool], number: Option<usize>) -> Option<bool>
 
 /// Notes in the table that the pair of this number is there.
 pub fn mark(marks: &mut Vec<bool>, number: Option<usize>)
-    ensures { Notes marks.old.items number marks.new.items }
+    ensures notes { Notes marks.old.items number marks.new.items }
+    ensures len { length marks.new.items ≡ length marks.old.items }
 {
     if let Some(n) = number {
         if n < marks.len() {
@@ -74,12 +81,25 @@ pub fn mark(marks: &mut Vec<bool>, number: Option<usize>)
 }
 
 /// The table of these pairs.
-pub fn table(alloc: Global, pairs: &[Pair]) -> Result<Vec<bool>, Memory>
-    ensures { IfOk result (λ marks. Marked marks.items pairs.now) }
+fn table(alloc: Global, pairs: &[Pair]) -> Result<Vec<bool>, Memory>
+    ensures marked { IfOk result (λ marks. Marked marks.items pairs.now) }
+    ensures places { IfOk result (λ marks. length marks.items ≡ 5256) }
 {
     let mut marks = vec![in alloc; false; PLACES]?;
     for pair in pairs {
         mark(&mut marks, pair_number(*pair));
     }
     Ok(marks)
+}
+
+/// Makes the table of the pairs, once they are many.
+pub fn tabulate(marks: &mut Vec<bool>, pairs: &[Pair]) -> Result<(), Memory>
+    ensures marked { Marked marks.old.items pairs.now → Marked marks.new.items pairs.now }
+    ensures places { OnOk result (length marks.new.items ≡ places_for marks.old.items pairs.now) }
+{
+    if marks.is_empty() && pairs.len() > FEW {
+        let alloc = *marks.allocator();
+        *marks = table(alloc, pairs)?;
+    }
+    Ok(())
 }

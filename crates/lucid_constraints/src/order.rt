@@ -6,7 +6,7 @@ ghost use Rattle.lucid_constraints.specs.Same.{same_pair as are_same_pairs, join
 ghost use Rattle.lucid_constraints.specs.Substitution.{pair as pair_before, pairs_at, needs_from};
 
 use crate::ends::name_at;
-use crate::marks::{mark, marked, pair_number, table};
+use crate::marks::{mark, marked, pair_number, tabulate};
 use crate::pair::{Atom, Pair};
 use lucid_base::{ArrayName, Items, Memory, Steps};
 use std::alloc::Global;
@@ -32,9 +32,6 @@ impl Model for Order {
 
     ghost invariant = { λ o. AllPairs (λ p q. p ≢ q) o.pairs × Marked o.marks.items o.pairs };
 }
-
-/// So many pairs are searched; more are looked up.
-const FEW: usize = 16;
 
 fn has(pairs: &[Pair], pair: Pair) -> bool
     ensures { result ≡ list_any (are_same_pairs pair) pairs.now }
@@ -87,17 +84,6 @@ impl Order {
         Ok(())
     }
 
-    /// Makes the table of the pairs, once they are many.
-    fn tabulate(&mut self) -> Result<(), Memory>
-        ensures { self.new ≡ self.old }
-    {
-        if self.marks.is_empty() && self.pairs.len() > FEW {
-            let alloc = *self.marks.allocator();
-            self.marks = table(alloc, self.pairs.as_slice())?;
-        }
-        Ok(())
-    }
-
     /// Adds the pair unless it is there.
     fn join(&mut self, pair: Pair) -> Result<(), Memory>
         ensures { OnOk result (self.new ≡ joined are_same_pairs self.old pair) }
@@ -107,7 +93,7 @@ impl Order {
             return Ok(());
         }
         self.push(number, pair)?;
-        self.tabulate()
+        tabulate(&mut self.marks, self.pairs.as_slice())
     }
 
     /// Adds the pair unless it is there, in one step. The work is in proportion to the pairs.
