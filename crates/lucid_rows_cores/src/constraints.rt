@@ -24,6 +24,9 @@ const FIRST_PARAM: ArrayName = ArrayName::Param(0);
 
 const NEXT_PARAM: ArrayName = ArrayName::Param(1);
 
+/// A name for which the table of pairs has no place.
+const NINTH_PARAM: ArrayName = ArrayName::Param(8);
+
 fn after(x: ArrayName, array: ArrayName) -> Pair {
     Pair {
         atom: Atom::After(x),
@@ -73,7 +76,7 @@ fn pairs_leave_these_cycles(rt: HostRuntime) -> Result<(), Fail> {
         atom: Atom::Start,
         array: FIRST_PARAM,
     };
-    let rows: [(&[Pair], u32, &str); 12] = [
+    let rows: [(&[Pair], u32, &str); 14] = [
         (&[], 3, "none"),
         (&[after(ZERO, ONE), after(ONE, TWO)], 3, "none"),
         (&[after(ZERO, ZERO)], 1, " 0"),
@@ -83,6 +86,12 @@ fn pairs_leave_these_cycles(rt: HostRuntime) -> Result<(), Fail> {
         (&[after(FIVE, THREE)], 64, " 3 5"),
         (&[after(FIRST_PARAM, FIRST_PARAM)], 2, " p0"),
         (&[start, after(FIRST_PARAM, NEXT_PARAM)], 2, "none"),
+        (
+            &[after(ZERO, NINTH_PARAM), after(NINTH_PARAM, ONE)],
+            2,
+            "none",
+        ),
+        (&[after(NINTH_PARAM, NINTH_PARAM)], 2, " p8"),
         (
             &[
                 after(NEXT_PARAM, FIRST_PARAM),
