@@ -135,7 +135,7 @@ fn choice(
     let test = expression(alloc, scope, ValueType::Bool, &c.test)?;
     let yes = block(alloc, answer, scope, numbering, c.yes.as_slice())?;
     let no = second(alloc, answer, scope, numbering, &c.no)?;
-    let part = branched(alloc, test, yes, no)?;
+    let part = chosen(alloc, test, yes, no)?;
     Ok(part)
 }
 
@@ -212,16 +212,6 @@ fn last_arm(
             ending: Ending::Never,
         }),
         Some(xs) => block(alloc, answer, scope, numbering, xs.as_slice()),
-    }
-}
-
-/// An if of these branches, which takes memory alone.
-fn branched(alloc: Global, test: Expr, yes: Body, no: Option<Body>) -> Result<Part, Memory>
-    ensures { IfOk result (λ part. part ≡ chosen test yes no) }
-{
-    match chosen(alloc, test, yes, no) {
-        Ok(part) => Ok(part),
-        Err(_) => Err(Memory),
     }
 }
 

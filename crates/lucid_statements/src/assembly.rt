@@ -146,7 +146,7 @@ pub fn either(first: Ending, second: Ending) -> Ending
 }
 
 /// An if of these branches. Without a second one, what always returns is a guard of all that stands behind it.
-pub fn chosen(alloc: Global, test: Expr, yes: Body, no: Option<Body>) -> Result<Part, Fault>
+pub fn chosen(alloc: Global, test: Expr, yes: Body, no: Option<Body>) -> Result<Part, Memory>
     ensures { IfOk result (λ part. part ≡ chosen test yes no) }
 {
     let Body {
@@ -179,7 +179,7 @@ fn branches(
     yes: Items<Stmt>,
     no: Items<Stmt>,
     ending: Ending,
-) -> Result<Part, Fault>
+) -> Result<Part, Memory>
     ensures { IfOk result (λ part. part ≡ Does (one (core.If test yes no) ending)) }
 {
     let body = one(alloc, Stmt::If(test, yes, no), ending)?;
