@@ -81,6 +81,7 @@ pub fn mark(marks: &mut Vec<bool>, number: Option<usize>)
 }
 
 /// The table of these pairs.
+#[cold]
 fn table(alloc: Global, pairs: &[Pair]) -> Result<Vec<bool>, Memory>
     ensures marked { IfOk result (λ marks. Marked marks.items pairs.now) }
     ensures places { IfOk result (λ marks. length marks.items ≡ 5256) }

@@ -33,6 +33,8 @@ impl Model for Order {
     ghost invariant = { λ o. AllPairs (λ p q. p ≢ q) o.pairs × Marked o.marks.items o.pairs };
 }
 
+// Cold: once there is a table the loops over many pairs pass it by.
+#[cold]
 fn has(pairs: &[Pair], pair: Pair) -> bool
     ensures { result ≡ list_any (are_same_pairs pair) pairs.now }
 {
@@ -85,6 +87,7 @@ impl Order {
     }
 
     /// Adds the pair unless it is there.
+    #[inline(always)]
     fn join(&mut self, pair: Pair) -> Result<(), Memory>
         ensures { OnOk result (self.new ≡ joined are_same_pairs self.old pair) }
     {
@@ -97,6 +100,7 @@ impl Order {
     }
 
     /// Adds the pair unless it is there, in one step. The work is in proportion to the pairs.
+    #[inline(always)]
     pub fn add<L: Ledger>(&mut self, pair: Pair, steps: &mut Steps<L>) -> Result<(), Memory>
         ensures pairs { OnOk result (self.new ≡ joined are_same_pairs self.old pair) }
         ensures steps { steps.new ≡ steps.old + 1 }
@@ -151,7 +155,11 @@ fn substituted(
 ) -> Result<Order, Memory>
     ensures { IfOk result (λ order. order ≡ needs_from names.now start.now [] pairs.now) }
 {
-    let mut done = Order::new(alloc);
+    // With room for all at once: most of them are different to a caller too.
+    let mut done = Order {
+        pairs: Items::from_vec(Vec::with_capacity(alloc, pairs.len())?),
+        marks: Vec::new(alloc),
+    };
     for pair in pairs {
         done.join_at(names, start, *pair)?;
     }
