@@ -50,7 +50,7 @@ fn turn(names: &mut Vec<ArrayName>)
 }
 
 impl Order {
-    /// The same by a search.
+    /// `cycle` by a search among all names, for orders that the numbers do not settle.
     fn search(&self, alloc: Global, arrays: u32) -> Result<Option<Vec<ArrayName>>, Memory>
         ensures { IfOk result (FindsCycle (Needed arrays self.now)) }
     {

@@ -1,7 +1,8 @@
 -- What is found of the parts of a core: sums stop at the last u64, what is held is a list of flags, and a statement names what it assigns.
 -- A core has no call with its body put in, and there nothing is counted. What is found of a core are the length of its normal form and
 -- the size of its flat form, both capped: that is what `count_core` promises, and these definitions are only the way there.
-use Rattle.std.specs.Prelude.{ℕ, ◌*◌, List, [], ◌∷◌, ◌++◌, Option, None, Some, Bool, true, false, if◌then◌else◌, ◌&&◌, ◌||◌, fold, is_some, length, slice_index_or, slice_set}
+use Rattle.std.specs.Prelude.{ℕ, ◌*◌, List, [], ◌∷◌, ◌++◌, Option, None, Some, Bool, true, false, if◌then◌else◌, ◌&&◌, ◌||◌, fold, is_some, length}
+use Rattle.std.specs.Prelude.{slice_index_or, slice_set}
 use Rattle.std.specs.List.{flat_map, list_any}
 use Rattle.lucid_core.specs.declared.body.Expr.{Expr}
 use Rattle.lucid_core.specs.declared.body.Stmt.{Stmt}

@@ -12,7 +12,9 @@ use Rattle.lucid_core.specs.declared.body.Expr.TheOpen.{Expr-F}
 use Rattle.lucid_core.specs.declared.body.Expr.TheViews.{roll-Expr, roll-Touch}
 use Rattle.lucid_core.specs.Assigned.{reads_follow_assignments}
 use Rattle.lucid_core.specs.Events.{events_and_handlers_agree}
-use Rattle.lucid_core.specs.ExamplePrograms.{local, number, one, yes, less, hash, call, inlined, assign, drop_value, choose, generate, generate_with, to_each, to_each_after, say, return, plus, array, update, update_with, note, bump, handler, bumps, handles, program, small, with_bump, with_handler, flat, bump_put_in}
+use Rattle.lucid_core.specs.ExamplePrograms.{local, number, one, yes, less, hash, call, inlined, assign, drop_value, choose, generate, generate_with}
+use Rattle.lucid_core.specs.ExamplePrograms.{to_each, to_each_after, say, return, plus, array, update, update_with, note, bump, handler, bumps}
+use Rattle.lucid_core.specs.ExamplePrograms.{handles, program, small, with_bump, with_handler, flat, bump_put_in}
 use Rattle.lucid_core.specs.Limits.{declarations_keep_limits, bodies_keep_limits}
 use Rattle.lucid_core.specs.Names.{names_are_there}
 use Rattle.lucid_core.specs.Numbered.{declarations_are_numbered}

@@ -9,7 +9,8 @@ use Rattle.lucid_core.specs.declared.body.Expr.{Expr}
 use Rattle.lucid_core.specs.declared.body.Stmt.{Stmt}
 use Rattle.lucid_core.specs.declared.defs.HandlerDef.{HandlerDef}
 use Rattle.lucid_core.specs.declared.defs.EventDef.{EventDef}
-use Rattle.lucid_core.specs.ExamplePrograms.{number, local, one, array, less, hash, call, choose, generate_with, to_each_after, say, return, plus, update, update_with, bump, bumps, bump_put_in, flat}
+use Rattle.lucid_core.specs.ExamplePrograms.{number, local, one, array, less, hash, call, choose, generate_with, to_each_after, say, return, plus}
+use Rattle.lucid_core.specs.ExamplePrograms.{update, update_with, bump, bumps, bump_put_in, flat}
 use Rattle.lucid_core.specs.Parts.{Parts, made_of}
 use Rattle.lucid_core.specs.Step.{Entry, Stepped, step, touches, steps, after, outs}
 

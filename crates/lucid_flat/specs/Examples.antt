@@ -6,7 +6,8 @@ use Rattle.lucid_base.specs.declared.array.ArrayName.TheVariants.{Global, Param}
 use Rattle.lucid_core.specs.declared.body.Expr.{Expr}
 use Rattle.lucid_core.specs.declared.body.Stmt.{Stmt}
 use Rattle.lucid_core.specs.declared.defs.FunDef.{FunDef}
-use Rattle.lucid_core.specs.ExamplePrograms.{assign, bump, bumps, call, choose, drop_value, generate, handler, inlined, less, local, number, one, plus, program, return, small, to_each_after, update, yes, generate_with}
+use Rattle.lucid_core.specs.ExamplePrograms.{assign, bump, bumps, call, choose, drop_value, generate, handler, inlined, less, local, number, one}
+use Rattle.lucid_core.specs.ExamplePrograms.{plus, program, return, small, to_each_after, update, yes, generate_with}
 use Rattle.lucid_core.specs.Parts.{Parts}
 use Rattle.lucid_flat.specs.Counts.{handler_lengths, handler_sizes}
 use Rattle.lucid_flat.specs.Flat.{flat_of}

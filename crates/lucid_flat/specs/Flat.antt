@@ -1,6 +1,7 @@
 -- The flat form of a program: each call of a function has its body put in, and each group its members. The locals that this adds get the
 -- next numbers of the handler, in the order of evaluation.
-use Rattle.std.specs.Prelude.{ℕ, zero, suc, ◌+◌, if◌then◌else◌, is_some, option_to_list, unwrap_or, List, [], ◌∷◌, ◌++◌, Option, None, Some, Bool, true, false, length, map, fold, slice_get}
+use Rattle.std.specs.Prelude.{ℕ, zero, suc, ◌+◌, if◌then◌else◌, is_some, option_to_list, unwrap_or, List, [], ◌∷◌, ◌++◌, Option, None, Some, Bool}
+use Rattle.std.specs.Prelude.{true, false, length, map, fold, slice_get}
 use Rattle.std.specs.List.{enumerate_from}
 use Rattle.lucid_base.specs.Bits.{bits_of}
 use Rattle.lucid_base.specs.declared.array.ArrayName.TheVariants.{Global}

@@ -5,7 +5,8 @@ use Rattle.lucid_base.specs.declared.array.ArrayName.TheVariants.{Global, Param}
 use Rattle.lucid_core.specs.declared.body.Expr.{Expr}
 use Rattle.lucid_core.specs.declared.body.Stmt.{Stmt}
 use Rattle.lucid_core.specs.declared.defs.FunDef.{FunDef}
-use Rattle.lucid_core.specs.ExamplePrograms.{local, yes, call, drop_value, choose, generate_with, to_each_after, return, plus, update, bump, bumps, bump_put_in, program, small, flat}
+use Rattle.lucid_core.specs.ExamplePrograms.{local, yes, call, drop_value, choose, generate_with, to_each_after, return, plus, update, bump, bumps}
+use Rattle.lucid_core.specs.ExamplePrograms.{bump_put_in, program, small, flat}
 use Rattle.lucid_order.specs.Cycle.{IsCycle}
 use Rattle.lucid_order.specs.Order.{InOrder, IsAccepted}
 use Rattle.lucid_order.specs.Paths.{paths}

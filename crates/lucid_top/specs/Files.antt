@@ -1,6 +1,7 @@
 -- The files that the words name: how they are read in word order, and what they are told to hold. This page owns all that is said
 -- of statuses 2 and 3. `held`, `given` and `faults` are those of the files.
-use Rattle.std.specs.Prelude.{◌≡◌, ◌≢◌, ℕ, ◌+◌, ◌<◌, ◌≤◌, ◌⊎◌, List, [], ◌∷◌, ◌++◌, Option, Some, None, Result, Ok, Err, IfSome, if◌then◌else◌, length, map, nat_lt, option_map, Vec}
+use Rattle.std.specs.Prelude.{◌≡◌, ◌≢◌, ℕ, ◌+◌, ◌<◌, ◌≤◌, ◌⊎◌, List, [], ◌∷◌, ◌++◌, Option, Some, None, Result, Ok, Err, IfSome, if◌then◌else◌}
+use Rattle.std.specs.Prelude.{length, map, nat_lt, option_map, Vec}
 use Rattle.std.specs.declared.alloc.Global.{Global}
 use Rattle.lucid_io.specs.Contents.{SameHeld}
 use Rattle.lucid_io.specs.Counts.{Rose, NoneFell, SameCounts, OthersKept}

@@ -2,7 +2,16 @@
 ghost use Rattle.std.specs.Prelude.{◌≡◌, [], ◌∷◌, IfOk, None, Some, true, false};
 ghost use Rattle.lucid_core.specs.ExamplePrograms.{call as call_of};
 ghost use Rattle.lucid_core.specs.Parts.{made_of};
-ghost use Rattle.lucid_examples.specs.FormExamples.{byte as byte_of, low_byte as low_byte_of, keep as keep_of, put as put_of, count_up as count_up_of, at_cell as at_cell_of, say_now as say_now_of, say_me as say_me_of, say_negated as say_negated_of, say_less_one as say_less_one_of, say_is_some as say_is_some_of, say_low_byte as say_low_byte_of, values as values_of, set_cell as set_cell_of, say_cell as say_cell_of, say_counted as say_counted_of, count_cell as count_cell_of, calls_of_array as calls_of_array_of, say_nested as say_nested_of, sent_at_once as sent_at_once_of, sent_later as sent_later_of, sent_away as sent_away_of, sent_to_each as sent_to_each_of, sends as sends_of, function as function_of, next as next_of, twice_next as twice_next_of, bytes as bytes_of, events as events_of, handlers as handlers_of, formed as formed_of};
+ghost use Rattle.lucid_examples.specs.FormExamples.{byte as byte_of, low_byte as low_byte_of, keep as keep_of, put as put_of};
+ghost use Rattle.lucid_examples.specs.FormExamples.{count_up as count_up_of, at_cell as at_cell_of, say_now as say_now_of, say_me as say_me_of};
+ghost use Rattle.lucid_examples.specs.FormExamples.{say_negated as say_negated_of, say_less_one as say_less_one_of, say_is_some as say_is_some_of};
+ghost use Rattle.lucid_examples.specs.FormExamples.{say_low_byte as say_low_byte_of, values as values_of, set_cell as set_cell_of};
+ghost use Rattle.lucid_examples.specs.FormExamples.{say_cell as say_cell_of, say_counted as say_counted_of, count_cell as count_cell_of};
+ghost use Rattle.lucid_examples.specs.FormExamples.{calls_of_array as calls_of_array_of, say_nested as say_nested_of};
+ghost use Rattle.lucid_examples.specs.FormExamples.{sent_at_once as sent_at_once_of, sent_later as sent_later_of, sent_away as sent_away_of};
+ghost use Rattle.lucid_examples.specs.FormExamples.{sent_to_each as sent_to_each_of, sends as sends_of, function as function_of, next as next_of};
+ghost use Rattle.lucid_examples.specs.FormExamples.{twice_next as twice_next_of, bytes as bytes_of, events as events_of, handlers as handlers_of};
+ghost use Rattle.lucid_examples.specs.FormExamples.{formed as formed_of};
 
 use super::worked::{alone, declared, forms, handler, local, number, pair, say, single};
 use lucid_base::{

@@ -1,8 +1,12 @@
 // The program of specs/StepExamples.antt, built part by part.
 ghost use Rattle.std.specs.Prelude.{◌≡◌, ◌≤◌, [], ◌∷◌, IfOk, None, Some, true, false};
 ghost use Rattle.lucid_base.specs.declared.array.ArrayName.TheVariants.{Global as Declared};
-ghost use Rattle.lucid_core.specs.ExamplePrograms.{number as number_of, local as local_of, one, array as array_of, less, hash as hash_of, call as call_of, plus as plus_of, update_with, say as say_of, bump as bump_of, bumps as bumps_of};
-ghost use Rattle.lucid_examples.specs.StepExamples.{declared as declared_of, handling, look as look_of, say_bump as say_bump_of, say_unless_small as say_unless_small_of, count as count_of, counting as counting_of, group as group_of, say_hash as say_hash_of, events as events_of, handlers as handlers_of, worked as worked_of};
+ghost use Rattle.lucid_core.specs.ExamplePrograms.{number as number_of, local as local_of, one, array as array_of, less, hash as hash_of};
+ghost use Rattle.lucid_core.specs.ExamplePrograms.{call as call_of, plus as plus_of, update_with, say as say_of, bump as bump_of, bumps as bumps_of};
+ghost use Rattle.lucid_examples.specs.StepExamples.{declared as declared_of, handling, look as look_of, say_bump as say_bump_of};
+ghost use Rattle.lucid_examples.specs.StepExamples.{say_unless_small as say_unless_small_of, count as count_of, counting as counting_of};
+ghost use Rattle.lucid_examples.specs.StepExamples.{group as group_of, say_hash as say_hash_of, events as events_of, handlers as handlers_of};
+ghost use Rattle.lucid_examples.specs.StepExamples.{worked as worked_of};
 
 use lucid_base::{
     ArrayDef, ArrayName, BinOp, Bits, Boxed, CmpOp, Id, Items, MemAlu, MemArg, MemSide, Memory,
