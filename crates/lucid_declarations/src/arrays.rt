@@ -4,10 +4,11 @@ ghost use Rattle.lucid_typing.specs.Declaration.{global, size_of};
 ghost use Rattle.lucid_declarations.specs.Known.{Declares, made_of};
 
 use crate::Known;
-use crate::known::{enter, number};
+use crate::known::enter;
 use lucid_base::{ArrayDef, ArrayName, Id, Width};
 use lucid_rules::Entry;
 use lucid_scope::Scope;
+use lucid_statements::number;
 use lucid_terms::Fault;
 use lucid_tree::Size;
 use std::alloc::Global;

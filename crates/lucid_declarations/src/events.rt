@@ -10,13 +10,14 @@ ghost use Rattle.lucid_declarations.specs.Known.{Declares, made_of};
 ghost use Rattle.lucid_declarations.specs.Parameters.{event_params};
 
 use crate::Known;
-use crate::known::{enter, number};
+use crate::known::enter;
 use crate::parameters::{int_params, parameters};
 use lucid_base::{Id, Items, Memory, Width};
 use lucid_bodies::block;
 use lucid_core::{EventDef, HandlerDef, Stmt};
 use lucid_rules::{Body, Entry};
 use lucid_scope::Scope;
+use lucid_statements::number;
 use lucid_terms::Fault;
 use lucid_tree::{P, S};
 use std::alloc::Global;

@@ -7,14 +7,14 @@ ghost use Rattle.lucid_declarations.specs.Functions.{with_fun};
 ghost use Rattle.lucid_declarations.specs.Known.{Declares, made_of};
 
 use crate::Known;
-use crate::known::{enter, number};
+use crate::known::enter;
 use crate::parameters::{cell_widths, parameters, value_widths};
 use lucid_base::{Id, Items, Memory, Width};
 use lucid_bodies::block;
 use lucid_core::FunDef;
 use lucid_nodes::Ending;
 use lucid_rules::{Body, Entry, Param, ValueType};
-use lucid_statements::{type_of, width_of};
+use lucid_statements::{number, type_of, width_of};
 use lucid_terms::Fault;
 use lucid_tree::{P, S, Ty};
 use std::alloc::Global;

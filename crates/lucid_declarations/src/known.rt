@@ -1,5 +1,5 @@
 // What is known while declarations are typed.
-ghost use Rattle.std.specs.Prelude.{◌≡◌, ◌∷◌, IfOk, OnOk};
+ghost use Rattle.std.specs.Prelude.{◌≡◌, ◌∷◌, OnOk};
 ghost use Rattle.lucid_rules.specs.Declaration.{start};
 ghost use Rattle.lucid_rules.specs.Names.{called};
 ghost use Rattle.lucid_declarations.specs.Known.{made_of};
@@ -49,14 +49,4 @@ pub fn enter(alloc: Global, scope: &mut Scope, n: &Id, entry: Entry) -> Result<(
 {
     let name = n.copy(alloc)?;
     scope.enter(Named { name, entry })
-}
-
-/// The number of the next of so many. Memory is the answer past the last number that there is.
-pub fn number(len: usize) -> Result<u32, Memory>
-    ensures { IfOk result (λ number. number ≡ len) }
-{
-    match u32::try_from(len) {
-        Ok(number) => Ok(number),
-        Err(_) => Err(Memory),
-    }
 }

@@ -1,7 +1,6 @@
 // Memops.
 ghost use Rattle.std.specs.Prelude.{◌≡◌, OnOk};
 ghost use Rattle.lucid_rules.specs.Memop.{memop_names};
-ghost use Rattle.lucid_rules.specs.Operators.{comparison};
 ghost use Rattle.lucid_typing.specs.Declaration.{memop};
 ghost use Rattle.lucid_typing.specs.Memop.{memop_body, one_return};
 ghost use Rattle.lucid_typing.specs.Reading.{reading};
@@ -12,13 +11,13 @@ ghost use Rattle.lucid_declarations.specs.Memops.{chosen, second};
 use crate::Known;
 use crate::constants::int_of;
 use crate::known::enter;
-use lucid_base::{Boxed, CmpOp, Id, Items, Width};
+use lucid_base::{Boxed, Id, Items, Width};
 use lucid_core::{Expr, MemopDef, Stmt};
 use lucid_memop::shape;
 use lucid_rules::{Entry, ValueType};
 use lucid_scope::Scope;
-use lucid_terms::{Fault, expression};
-use lucid_tree::{C, E, Infix, No, S, Ty};
+use lucid_terms::{Fault, comparison, expression};
+use lucid_tree::{C, E, No, S, Ty};
 use std::alloc::Global;
 
 /// NoRule where its parameters are no ints of one width, or its body doesn't have the shape of a memop.
@@ -156,19 +155,5 @@ fn condition(alloc: Global, scope: &Scope, width: Width, x: &E) -> Result<Expr, 
             }
         },
         _ => Err(Fault::NoRule),
-    }
-}
-
-fn comparison(sign: Infix) -> Option<CmpOp>
-    ensures { result ≡ comparison sign }
-{
-    match sign {
-        Infix::EqualEqual => Some(CmpOp::Eq),
-        Infix::NotEqual => Some(CmpOp::Ne),
-        Infix::Less => Some(CmpOp::Lt),
-        Infix::Greater => Some(CmpOp::Gt),
-        Infix::LessEqual => Some(CmpOp::Le),
-        Infix::GreaterEqual => Some(CmpOp::Ge),
-        _ => None,
     }
 }

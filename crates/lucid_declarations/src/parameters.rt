@@ -1,5 +1,5 @@
 // Parameters.
-ghost use Rattle.std.specs.Prelude.{◌≡◌, ◌+◌, ◌∷◌, IfOk, OnOk};
+ghost use Rattle.std.specs.Prelude.{◌≡◌, ◌∷◌, IfOk, OnOk};
 ghost use Rattle.lucid_rules.specs.declared.scope.Entry.TheVariants as entry;
 ghost use Rattle.lucid_rules.specs.Names.{called};
 ghost use Rattle.lucid_rules.specs.Types.{cell_widths, value_widths};
@@ -12,7 +12,7 @@ use crate::known::enter;
 use lucid_base::{ArrayName, Id, Items, Memory, Width};
 use lucid_rules::{Entry, Param, ValueType};
 use lucid_scope::Scope;
-use lucid_statements::{type_of, width_of};
+use lucid_statements::{next, type_of, width_of};
 use lucid_terms::Fault;
 use lucid_tree::P;
 use std::alloc::Global;
@@ -91,15 +91,6 @@ fn enter_local(
     ensures { OnOk result (scope.new ≡ called n.now (entry.Local number t.now) ∷ scope.old) }
 {
     enter(alloc, scope, n, Entry::Local(number, *t))
-}
-
-fn next(number: u32) -> Result<u32, Memory>
-    ensures { IfOk result (λ k. k ≡ number + 1) }
-{
-    match number.checked_add(1) {
-        Some(next) => Ok(next),
-        None => Err(Memory),
-    }
 }
 
 /// The widths of parameters that are all ints. NoRule where one is none.

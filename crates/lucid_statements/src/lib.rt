@@ -6,6 +6,7 @@
 mod arms;
 mod assembly;
 mod numbering;
+mod numbers;
 mod sendings;
 mod simple;
 mod texts;
@@ -14,6 +15,7 @@ mod types;
 pub use arms::{Arm, Tested, begin, behind_test, chain};
 pub use assembly::{assemble, chosen};
 pub use numbering::Numbering;
+pub use numbers::{next, number};
 pub use simple::{assign, declare, does, drop_call, drop_touch, generate, give_back, print};
 pub use texts::Texts;
 pub use types::{type_of, width_of};

@@ -4,6 +4,7 @@ ghost use Rattle.std.specs.Prelude.{OnOk, OnErr};
 ghost use Rattle.lucid_rules.specs.Block.{one_local};
 ghost use Rattle.lucid_statements.specs.Bodies.{numbered_of};
 
+use crate::numbers::number;
 use crate::texts::Texts;
 use lucid_base::{Items, Memory, Width};
 
@@ -19,10 +20,7 @@ impl Numbering {
     pub fn next_local(&self) -> Result<u32, Memory>
         ensures { IfOk result (λ i. i ≡ length self.now.locals) }
     {
-        match u32::try_from(self.locals.len()) {
-            Ok(i) => Ok(i),
-            Err(_) => Err(Memory),
-        }
+        number(self.locals.len())
     }
 
     /// One local more, of this width.

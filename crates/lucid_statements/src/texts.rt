@@ -1,9 +1,10 @@
 // The texts of prints.
-ghost use Rattle.std.specs.Prelude.{◌≡◌, ◌∷◌, ◌++◌, [], None, IfOk, OnOk, bytes_eq, length, position};
+ghost use Rattle.std.specs.Prelude.{◌≡◌, ◌∷◌, ◌++◌, [], None, OnOk, bytes_eq, length, position};
 ghost use Rattle.lucid_core.specs.Texts.{holes_of};
 ghost use Rattle.lucid_rules.specs.Block.{form_number, one_form};
 ghost use Rattle.lucid_statements.specs.Bodies.{IsNumbered, is_hole};
 
+use crate::numbers::number;
 use lucid_base::{Id, Memory};
 use std::alloc::Global;
 use std::collections::HashMap;
@@ -70,11 +71,11 @@ impl Texts {
         ensures { IsNumbered result text.now self.old self.new }
     {
         match self.place_of(text) {
-            Some(place) => Ok(to_number(place)?),
+            Some(place) => number(place),
             None => {
                 let place = self.len();
                 self.add(alloc, text)?;
-                Ok(to_number(place)?)
+                number(place)
             }
         }
     }
@@ -114,14 +115,5 @@ impl Texts {
                 Err(Memory)
             }
         }
-    }
-}
-
-fn to_number(place: usize) -> Result<u32, Memory>
-    ensures { IfOk result (λ number. number ≡ place) }
-{
-    match u32::try_from(place) {
-        Ok(number) => Ok(number),
-        Err(_) => Err(Memory),
     }
 }

@@ -13,3 +13,4 @@ mod operator;
 pub use expressions::{all_free, call, expression, free, given, touch};
 pub use fault::Fault;
 pub use lead::{bare, free_width};
+pub use operator::comparison;

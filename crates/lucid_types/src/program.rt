@@ -1,5 +1,5 @@
 // From a tree to its core.
-ghost use Rattle.std.specs.Prelude.{◌≡◌, ◌+◌, IfErr, IfOk};
+ghost use Rattle.std.specs.Prelude.{IfErr, IfOk};
 ghost use Rattle.lucid_tree.specs.declared.tree.Tree.{Tree as Program};
 ghost use Rattle.lucid_rules.specs.Declaration.{parts_of};
 ghost use Rattle.lucid_rules.specs.Found.{IsDetermined};
@@ -11,11 +11,11 @@ ghost use Rattle.lucid_types.specs.Answers.{Adds, Tells};
 use crate::error::TypeError;
 use crate::limit::passed;
 use crate::parts::core_of;
-use lucid_base::Memory;
 use lucid_core::Core;
 use lucid_declarations::{Known, declare};
 use lucid_limits::Limits;
 use lucid_rules::the_first_refusal_is_found;
+use lucid_statements::next;
 use lucid_terms::Fault;
 use lucid_tree::{Decl, Tree};
 use lucid_typing::declarations_are_computed;
@@ -39,15 +39,6 @@ pub fn elaborate(alloc: Global, tree: &Tree) -> Result<Core, TypeError>
         add(alloc, &mut known, &mut limits, number, x)?;
     }
     Ok(core_of(known))
-}
-
-fn next(number: u32) -> Result<u32, Memory>
-    ensures { IfOk result (λ k. k ≡ number + 1) }
-{
-    match number.checked_add(1) {
-        Some(next) => Ok(next),
-        None => Err(Memory),
-    }
 }
 
 /// Adds what declaration `number` makes behind what is known, which the rules derive of the declarations before.

@@ -1,0 +1,25 @@
+// Numbers of 32 bits for what is counted. No memory holds more things than there are numbers, so the answer past the last one is want
+// of memory.
+ghost use Rattle.std.specs.Prelude.{◌≡◌, ◌+◌, IfOk};
+
+use lucid_base::Memory;
+
+/// The number of the next of so many.
+pub fn number(len: usize) -> Result<u32, Memory>
+    ensures { IfOk result (λ number. number ≡ len) }
+{
+    match u32::try_from(len) {
+        Ok(number) => Ok(number),
+        Err(_) => Err(Memory),
+    }
+}
+
+/// The number after this one.
+pub fn next(number: u32) -> Result<u32, Memory>
+    ensures { IfOk result (λ next. next ≡ number + 1) }
+{
+    match number.checked_add(1) {
+        Some(next) => Ok(next),
+        None => Err(Memory),
+    }
+}
