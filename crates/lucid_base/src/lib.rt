@@ -1,11 +1,12 @@
 // The words that every crate speaks: numbers of a stated width, names, events and what a handler sends out.
 // Each type keeps its bounds as a fact of the type, and each operation equals its formula in specs/.
-// Stands on std and libraries of list types and short vectors alone. Nothing here but the making of a name takes memory.
+// Stands on std and libraries of list types and short vectors alone. Nothing here but the making of a name and of cells takes memory.
 #![tactic(auto)]
 
 mod args;
 mod array;
 mod bits;
+mod cells;
 mod event;
 mod hash;
 mod id;
@@ -21,6 +22,7 @@ mod width;
 pub use args::Args;
 pub use array::{ArrayDef, ArrayName};
 pub use bits::Bits;
+pub use cells::Cells;
 pub use event::{Event, Out, Target};
 pub use hash::{hash_bits, hash_byte, hash_start, hash_word};
 pub use id::Id;

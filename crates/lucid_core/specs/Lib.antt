@@ -1,8 +1,10 @@
 pub mod Acts
 pub mod Assigned
 pub mod Children
+pub mod Endings
 pub mod Events
 pub mod ExamplePrograms
+pub mod Few
 pub mod Fits
 pub mod Laws
 pub mod Length

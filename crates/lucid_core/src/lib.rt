@@ -9,6 +9,7 @@ mod body;
 mod cells;
 mod defs;
 mod draft;
+mod ending;
 mod fits;
 mod interpret;
 mod laws;
@@ -20,12 +21,13 @@ mod whole;
 mod widths;
 
 pub use body::{Expr, Stmt, Touch};
-pub use cells::Cells;
 pub use defs::{EventDef, FunDef, HandlerDef, MemopDef};
+pub use ending::Ending;
 pub use laws::{
     cells_stay_fit, flat_cells_stay_fit, flat_one_handler, flat_outs_fit, flat_widths_are_static,
     one_handler, outs_are_of_steps, outs_fit, widths_are_static,
 };
+pub use lucid_base::{ArrayDef, ArrayName, Cells};
 pub use program::{Core, Flat};
 pub use whole::run_whole;
 pub use widths::width_of;

@@ -3,15 +3,15 @@ ghost use Rattle.std.specs.Prelude.{◌≡◌, ◌+◌, ◌≤◌, [], length, m
 ghost use Rattle.std.specs.Option.{option_map};
 ghost use Rattle.lucid_constraints.specs.Same.{same_atom, same_pair, join_all};
 ghost use Rattle.lucid_constraints.specs.Substitution.{pair};
-ghost use Rattle.lucid_order.specs.Evaluation.{optional, sequence};
+ghost use Rattle.lucid_effects_order.specs.Evaluation.{optional, sequence};
 ghost use Rattle.lucid_effects.specs.Goes.{Goes, walked};
-ghost use Rattle.lucid_schemes.specs.Schemes.{passes as passes_by, through as through_by, goes_through as goes_through_by, finds};
-ghost use Rattle.lucid_schemes.specs.Schemes.{expr_found, given_found, stmt_found, touch_found, body_found};
+ghost use Rattle.lucid_effects_schemes.specs.Schemes.{passes as passes_by, through as through_by, goes_through as goes_through_by, finds};
+ghost use Rattle.lucid_effects_schemes.specs.Schemes.{expr_found, given_found, stmt_found, touch_found, body_found};
 
 use lucid_base::{ArrayName, Items, Memory, Steps};
 use lucid_constraints::{Atom, Order, Pair, ends_at, join_ends};
 use lucid_core::{Expr, Stmt, Touch};
-use lucid_schemes::Scheme;
+use lucid_effects_schemes::Scheme;
 use std::alloc::Global;
 use std::mem;
 use std::sync::ledger::Ledger;

@@ -46,7 +46,7 @@ fn sent(i: u64, delay: u64, to: u64) -> Out {
 /// Whether event `id` of argument `i` leaves these cells and sends these outs, at tick 7 on switch 3, where all cells are 0.
 fn gives(alloc: Global, id: u32, i: u64, after: [u64; 5], outs: &[Out]) -> Result<bool, Memory> {
     let core = worked(alloc)?;
-    let mut cells = Cells::new(alloc, &core)?;
+    let mut cells = core.cells(alloc)?;
     let event = Event { id, args: args(i) };
     if !core.fits(&event) {
         return Ok(false);
@@ -114,7 +114,7 @@ fn forms_give(
     outs: &[Out],
 ) -> Result<bool, Memory> {
     let core = formed(alloc)?;
-    let mut cells = Cells::new(alloc, &core)?;
+    let mut cells = core.cells(alloc)?;
     let event = Event { id, args: args(i) };
     let made = run_whole(alloc, &core, &mut cells, 4294967303, 3, &event)?;
     Ok(made.as_slice() == outs && [cells.get(0, 0), cells.get(0, 1)] == after)

@@ -1,9 +1,9 @@
 -- When a core is refused, by its two counts, which stop at the last u64.
 use Rattle.std.specs.Prelude.{◌≡◌, ℕ, ◌<◌, ◌≤◌, Some, sum}
 use Rattle.lucid_core.specs.Parts.{Parts}
-use Rattle.lucid_count.specs.Counts.{capped}
-use Rattle.lucid_count.specs.Sums.{FirstPast}
-use Rattle.lucid_flat.specs.Counts.{handler_lengths, handler_sizes}
+use Rattle.lucid_inline_count.specs.Counts.{capped}
+use Rattle.lucid_inline_count.specs.Sums.{FirstPast}
+use Rattle.lucid_inline_form.specs.Counts.{handler_lengths, handler_sizes}
 use Rattle.lucid_inline.specs.declared.error.InlineError.{InlineError}
 use Rattle.lucid_inline.specs.declared.error.InlineError.TheVariants.{TooMany, TooLarge, Memory}
 

@@ -4,8 +4,8 @@ use Rattle.std.specs.List.{count_by, list_all}
 use Rattle.std.specs.Option.{option_to_list}
 use Rattle.std.proofs.lemmas.List.Sums.{sum_by-cons}
 use Rattle.lucid_base.specs.declared.event.Out.{Out}
-use Rattle.lucid_network.specs.Log.{losses, made, put_all}
-use Rattle.lucid_network.specs.Ways.{Network, Run, is_lost, lost_marks, pending_out, pending_outs}
+use Rattle.lucid_net_log.specs.Log.{losses, made, put_all}
+use Rattle.lucid_net_log.specs.Ways.{Network, Run, is_lost, lost_marks, pending_out, pending_outs}
 use Rattle.lucid_queue.specs.Order.{is_before}
 use Rattle.lucid_queue.specs.Waiting.{put_in}
 use Rattle.lucid_queue.specs.declared.pending.Pending.{Pending}

@@ -7,8 +7,8 @@ use Rattle.lucid_conf.specs.declared.limits.Limits.{Limits}
 use Rattle.lucid_conf.specs.declared.scene.Scene.{Scene}
 use Rattle.lucid_core.specs.Parts.{Parts}
 use Rattle.lucid_log.specs.Cells.{cells_text}
-use Rattle.lucid_network.specs.Log.{all_cells, ticks, whole}
-use Rattle.lucid_network.specs.Ways.{Network}
+use Rattle.lucid_net_log.specs.Log.{all_cells, ticks, whole}
+use Rattle.lucid_net_log.specs.Ways.{Network}
 use Rattle.lucid_net.specs.Pieces.{pieces, tick_text}
 use Rattle.lucid_net.specs.Seen.{AreSame, Seen, network}
 use Rattle.lucid_net.proofs.Telling.{pieces-all, pieces-next, pieces-none, ticks_pieces}

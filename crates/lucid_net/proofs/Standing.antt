@@ -1,6 +1,6 @@
 -- A network stays what it is asked to be.
 use Rattle.std.proofs.Common.{◌≡◌, ◌+◌, ◌<◌, true, false, sym, ◌∙◌, ap, arith}
-use Rattle.lucid_network.specs.Log.{State, ticks, turns}
+use Rattle.lucid_net_log.specs.Log.{State, ticks, turns}
 use Rattle.lucid_net.specs.Kept.{IsKept}
 use Rattle.lucid_net.specs.Pieces.{tick_text, untold}
 use Rattle.lucid_net.specs.Seen.{Seen, Stands, network}

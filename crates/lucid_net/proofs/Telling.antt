@@ -3,8 +3,8 @@ use Rattle.std.proofs.Common.{◌≡◌, ℕ, zero, suc, ◌+◌, ◌-◌, ◌<�
 use Rattle.std.specs.List.{find}
 use Rattle.lucid_io.proofs.Leaves.{Leaves-after, PutsAll-last, PutsPart-at, PutsPart-last}
 use Rattle.lucid_io.specs.Puts.{Leaves}
-use Rattle.lucid_network.specs.Log.{State, enters, ticks, turn, turns}
-use Rattle.lucid_network.specs.Ways.{Network}
+use Rattle.lucid_net_log.specs.Log.{State, enters, ticks, turn, turns}
+use Rattle.lucid_net_log.specs.Ways.{Network}
 use Rattle.lucid_queue.specs.Waiting.{is_ready}
 use Rattle.lucid_queue.specs.declared.pending.Pending.{Pending}
 use Rattle.lucid_net.specs.Pieces.{pieces, tick_text, turn_text, untold}

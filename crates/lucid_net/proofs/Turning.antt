@@ -5,8 +5,8 @@ use Rattle.lucid_core.specs.Fits.{event_fits}
 use Rattle.lucid_core.specs.Parts.{Parts}
 use Rattle.lucid_io.proofs.Leaves.{Leaves-whole, Leaves-after, Leaves-nothing}
 use Rattle.lucid_io.specs.Puts.{Leaves, PutsAll}
-use Rattle.lucid_network.specs.Log.{State, enters, turn, turns}
-use Rattle.lucid_network.specs.Ways.{Network}
+use Rattle.lucid_net_log.specs.Log.{State, enters, turn, turns}
+use Rattle.lucid_net_log.specs.Ways.{Network}
 use Rattle.lucid_queue.specs.Waiting.{is_ready, without_first}
 use Rattle.lucid_queue.specs.declared.pending.Pending.{Pending}
 use Rattle.lucid_net.specs.Entering.{entered_text, with_entered}

@@ -4,8 +4,8 @@ use Rattle.lucid_conf.specs.Kept.{IsScene}
 use Rattle.lucid_conf.specs.declared.limits.Limits.{Limits}
 use Rattle.lucid_conf.specs.declared.scene.Scene.{Scene}
 use Rattle.lucid_core.specs.Parts.{Parts}
-use Rattle.lucid_network.specs.Log.{State, start, ticks, whole}
-use Rattle.lucid_network.specs.Ways.{Network}
+use Rattle.lucid_net_log.specs.Log.{State, start, ticks, whole}
+use Rattle.lucid_net_log.specs.Ways.{Network}
 use Rattle.lucid_net.specs.Kept.{IsKept}
 use Rattle.lucid_net.specs.Pieces.{untold}
 use Rattle.lucid_net.specs.declared.switches.Switches.{Switches}

@@ -1,6 +1,6 @@
 -- What runs in code, as the definitions see it.
-use Rattle.lucid_network.specs.Log.{whole}
-use Rattle.lucid_network.specs.Ways.{Network, Run}
+use Rattle.lucid_net_log.specs.Log.{whole}
+use Rattle.lucid_net_log.specs.Ways.{Network, Run}
 use Rattle.lucid_net.specs.declared.world.Ran.{Ran}
 use Rattle.lucid_net.specs.declared.world.World.{World}
 

@@ -3,7 +3,7 @@ ghost use Rattle.std.specs.Prelude.{◌≡◌, ◌+◌, ◌<◌, ◌++◌, false
 ghost use Rattle.std.specs.Result.{is_err};
 ghost use Rattle.lucid_conf.specs.Kept.{IsScene};
 ghost use Rattle.lucid_io.specs.Puts.{PutsAll, PutsPart};
-ghost use Rattle.lucid_network.specs.Log.{end_text, log, ticks};
+ghost use Rattle.lucid_net_log.specs.Log.{end_text, log, ticks};
 ghost use Rattle.lucid_net.specs.Pieces.{tick_text, untold};
 ghost use Rattle.lucid_net.specs.Seen.{AreSame, IsStart, network};
 ghost use Rattle.lucid_net.specs.Writes.{Writes};

@@ -4,7 +4,7 @@ ghost use Rattle.std.specs.List.{list_all};
 ghost use Rattle.lucid_base.specs.Cells.{zero_cells};
 ghost use Rattle.lucid_conf.specs.Kept.{IsFileEvent};
 ghost use Rattle.lucid_core.specs.Fits.{event_fits};
-ghost use Rattle.lucid_network.specs.Log.{file_event, file_events, put_all};
+ghost use Rattle.lucid_net_log.specs.Log.{file_event, file_events, put_all};
 ghost use Rattle.lucid_queue.specs.Order.{is_before};
 ghost use Rattle.lucid_queue.specs.Waiting.{put_in};
 ghost use Rattle.lucid_net.specs.Kept.{is_kept, is_of_file};
@@ -22,7 +22,7 @@ pub(crate) fn all_cells(alloc: Global, core: &Core, switches: u32) -> Result<Vec
 {
     let mut all = Vec::new(alloc);
     for _index in 0..switches {
-        let cells = Cells::new(alloc, core)?;
+        let cells = core.cells(alloc)?;
         all.push(cells)?;
     }
     Ok(all)

@@ -1,7 +1,7 @@
 // The turns of switches: the first event that is ready enters, and runs whole.
 ghost use Rattle.std.specs.Prelude.{◌≡◌, ◌+◌, ◌*◌, ◌<◌, ◌≤◌, All, IfOk, IsTrue, OnOk, length};
 ghost use Rattle.lucid_core.specs.Fits.{event_fits, out_fits};
-ghost use Rattle.lucid_network.specs.Log.{done_at, turn as turn_of, turns};
+ghost use Rattle.lucid_net_log.specs.Log.{done_at, turn as turn_of, turns};
 ghost use Rattle.lucid_net.specs.Entering.{entered_text, with_cells, with_entered};
 ghost use Rattle.lucid_net.specs.Kept.{IsKept};
 ghost use Rattle.lucid_net.specs.Pieces.{untold};

@@ -13,11 +13,11 @@ use Rattle.lucid_core.specs.declared.body.Expr.TheFolds.{fold-roll-Expr, fold-ro
 use Rattle.lucid_core.specs.declared.body.Expr.TheVariants as e
 use Rattle.lucid_core.specs.declared.body.Stmt.TheVariants as s
 use Rattle.lucid_normal.specs.Given.{given_codes}
-use Rattle.lucid_normal_parts.specs.Added.{added}
-use Rattle.lucid_normal_parts.proofs.Adding.{added_more}
-use Rattle.lucid_translate.specs.declared.env.Env.{Env}
-use Rattle.lucid_translate.specs.declared.env.Typed.{Typed}
-use Rattle.lucid_translate.specs.Translate.{Expressed, Translation, delay_made, each_made, expr_code, expr_step, given_made, holding, is, operands, ordered_made, out_made, seq, stmt_code, stmt_step, target_made, touch_step}
+use Rattle.lucid_normal_steps.specs.Added.{added}
+use Rattle.lucid_normal_steps.proofs.Adding.{added_more}
+use Rattle.lucid_normal_form.specs.declared.env.Env.{Env}
+use Rattle.lucid_normal_form.specs.declared.env.Typed.{Typed}
+use Rattle.lucid_normal_form.specs.Translate.{Expressed, Translation, delay_made, each_made, expr_code, expr_step, given_made, holding, is, operands, ordered_made, out_made, seq, stmt_code, stmt_step, target_made, touch_step}
 
 -- ---- prints and events
 

@@ -1,23 +1,23 @@
 // Bodies as operations: a function a form.
 ghost use Rattle.std.specs.Prelude.{◌≡◌, IfOk, OnOk, map, option_map};
-ghost use Rattle.lucid_translate.specs.Translate.{delay_made, each_made, given_made, ordered_made, target_made};
-ghost use Rattle.lucid_translate.specs.Translate.{expr_code, guarded, is, operands as operands_of, seq, stmt_code, touch_code};
-ghost use Rattle.lucid_normal_parts.specs.Added.{added};
-ghost use Rattle.lucid_normal_parts.specs.Notes.{before};
+ghost use Rattle.lucid_normal_form.specs.Translate.{delay_made, each_made, given_made, ordered_made, target_made};
+ghost use Rattle.lucid_normal_form.specs.Translate.{expr_code, guarded, is, operands as operands_of, seq, stmt_code, touch_code};
+ghost use Rattle.lucid_normal_steps.specs.Added.{added};
+ghost use Rattle.lucid_normal_steps.specs.Notes.{before};
 ghost use Rattle.lucid_normal.specs.Given.{given_codes};
 
 use lucid_base::{Items, Memory};
 use lucid_code::Operand;
 use lucid_core::{Expr, Stmt, Touch};
-use lucid_normal_parts::{
+use lucid_normal_form::{Env, Typed};
+use lucid_normal_steps::{
     Site, Work, answer, answer_nothing, assign, begin, binary, bit, call_array, cast, compare,
     enter, hash, held_at, input, is_plain, join, leave, needed, say, send, turn, unary, within,
 };
-use lucid_translate::{Env, Typed};
 
 /// What holds the value of the expression, if it gives one.
 #[cycle(walk)]
-#[tactic(auto, using(lucid_normal_parts::proofs::Adding::adding, std::proofs::lemmas::Grind::common_steps))]
+#[tactic(auto, using(lucid_normal_steps::proofs::Adding::adding, std::proofs::lemmas::Grind::common_steps))]
 fn expr(site: Site, work: &mut Work, env: &mut Env, e: &Expr) -> Result<Option<Typed>, Memory>
     ensures value { IfOk result (λ t. t ≡ ((expr_code e.now).made env.old).value) }
     ensures env { OnOk result (env.new ≡ ((expr_code e.now).made env.old).env) }
@@ -66,7 +66,7 @@ fn expr(site: Site, work: &mut Work, env: &mut Env, e: &Expr) -> Result<Option<T
 }
 
 #[cycle(walk)]
-#[tactic(auto, using(lucid_normal_parts::proofs::Adding::adding, std::proofs::lemmas::Grind::common_steps))]
+#[tactic(auto, using(lucid_normal_steps::proofs::Adding::adding, std::proofs::lemmas::Grind::common_steps))]
 fn touch(site: Site, work: &mut Work, env: &mut Env, t: &Touch) -> Result<Option<Typed>, Memory>
     ensures value { IfOk result (λ x. x ≡ ((touch_code t.now).made env.old).value) }
     ensures env { OnOk result (env.new ≡ ((touch_code t.now).made env.old).env) }
@@ -81,7 +81,7 @@ fn touch(site: Site, work: &mut Work, env: &mut Env, t: &Touch) -> Result<Option
 
 /// The operands of these, from left to right.
 #[cycle(walk)]
-#[tactic(auto, using(lucid_normal_parts::proofs::Adding::adding, std::proofs::lemmas::Grind::common_steps))]
+#[tactic(auto, using(lucid_normal_steps::proofs::Adding::adding, std::proofs::lemmas::Grind::common_steps))]
 fn operands(
     site: Site,
     work: &mut Work,
@@ -104,7 +104,7 @@ fn operands(
 
 /// Arguments, each with the local that is to hold it.
 #[cycle(walk)]
-#[tactic(auto, using(lucid_normal_parts::proofs::Adding::adding, std::proofs::lemmas::Grind::common_steps))]
+#[tactic(auto, using(lucid_normal_steps::proofs::Adding::adding, std::proofs::lemmas::Grind::common_steps))]
 fn arguments(
     site: Site,
     work: &mut Work,
@@ -127,7 +127,7 @@ fn arguments(
 
 /// A delay, or none, which is 0.
 #[cycle(walk)]
-#[tactic(auto, using(lucid_normal_parts::proofs::Adding::adding, std::proofs::lemmas::Grind::common_steps))]
+#[tactic(auto, using(lucid_normal_steps::proofs::Adding::adding, std::proofs::lemmas::Grind::common_steps))]
 fn delay(site: Site, work: &mut Work, env: &mut Env, e: &Option<Expr>) -> Result<Operand, Memory>
     ensures value { IfOk result (λ o. o ≡ (delay_made (option_map expr_code e.now) env.old).value) }
     ensures env { OnOk result (env.new ≡ (delay_made (option_map expr_code e.now) env.old).env) }
@@ -142,7 +142,7 @@ fn delay(site: Site, work: &mut Work, env: &mut Env, e: &Option<Expr>) -> Result
 }
 
 #[cycle(walk)]
-#[tactic(auto, using(lucid_normal_parts::proofs::Adding::adding, std::proofs::lemmas::Grind::common_steps))]
+#[tactic(auto, using(lucid_normal_steps::proofs::Adding::adding, std::proofs::lemmas::Grind::common_steps))]
 fn target(
     site: Site,
     work: &mut Work,
@@ -163,7 +163,7 @@ fn target(
 
 /// A delay and a target, the delay first where the test holds.
 #[cycle(walk)]
-#[tactic(auto, using(lucid_normal_parts::proofs::Adding::adding, std::proofs::lemmas::Grind::common_steps))]
+#[tactic(auto, using(lucid_normal_steps::proofs::Adding::adding, std::proofs::lemmas::Grind::common_steps))]
 fn delay_and_target(
     site: Site,
     work: &mut Work,
@@ -192,7 +192,7 @@ fn delay_and_target(
 }
 
 #[cycle(walk)]
-#[tactic(auto, using(lucid_normal_parts::proofs::Adding::adding, std::proofs::lemmas::Grind::common_steps))]
+#[tactic(auto, using(lucid_normal_steps::proofs::Adding::adding, std::proofs::lemmas::Grind::common_steps))]
 fn stmt(site: Site, work: &mut Work, env: &mut Env, s: &Stmt) -> Result<(), Memory>
     ensures env { OnOk result (env.new ≡ (stmt_code s.now env.old).env) }
     ensures ops { OnOk result (work.new.ops.items ≡ added site.entry.guard.now work.old.ops.items (stmt_code s.now env.old).ops) }
@@ -249,7 +249,7 @@ fn stmt(site: Site, work: &mut Work, env: &mut Env, s: &Stmt) -> Result<(), Memo
 
 /// A branch, where the field of the condition has this value.
 #[cycle(walk)]
-#[tactic(auto, using(lucid_normal_parts::proofs::Adding::adding, std::proofs::lemmas::Grind::common_steps))]
+#[tactic(auto, using(lucid_normal_steps::proofs::Adding::adding, std::proofs::lemmas::Grind::common_steps))]
 fn branch(
     site: Site,
     work: &mut Work,
@@ -273,7 +273,7 @@ fn branch(
 
 /// Statements, each behind those before it.
 #[cycle(walk)]
-#[tactic(auto, using(lucid_normal_parts::proofs::Adding::adding, std::proofs::lemmas::Grind::common_steps))]
+#[tactic(auto, using(lucid_normal_steps::proofs::Adding::adding, std::proofs::lemmas::Grind::common_steps))]
 pub fn block(site: Site, work: &mut Work, env: &mut Env, stmts: &[Stmt]) -> Result<(), Memory>
     ensures env { OnOk result (env.new ≡ (seq (map stmt_code stmts.now) env.old).env) }
     ensures ops { OnOk result (work.new.ops.items

@@ -13,8 +13,8 @@ use Rattle.lucid_code.specs.Guards.{Fields, holds, all_hold}
 use Rattle.lucid_code.specs.Run.{Machine, put, put_out, value, result, written, run_act, run_op, run}
 use Rattle.lucid_code.specs.Uses.{written_by}
 use Rattle.lucid_core.specs.Values.{nothing}
-use Rattle.lucid_translate.specs.declared.env.Typed.{Typed}
-use Rattle.lucid_translate.specs.Translate.{guarded, held_by}
+use Rattle.lucid_normal_form.specs.declared.env.Typed.{Typed}
+use Rattle.lucid_normal_form.specs.Translate.{guarded, held_by}
 
 -- Fields.
 pub put_same : (xs : Fields) (k v : ℕ) → slice_index (put xs k v) k ≡ v

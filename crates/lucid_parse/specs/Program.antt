@@ -4,10 +4,10 @@ use Rattle.lucid_lex.specs.declared.token.Kind.{Kind}
 use Rattle.lucid_lex.specs.declared.token.Token.{Token}
 use Rattle.lucid_parse.specs.declared.error.ParseError.{ParseError}
 use Rattle.lucid_parse.specs.declared.error.ParseError.TheVariants as errors
-use Rattle.lucid_tree.specs.declared.tree.Decl.{Decl}
-use Rattle.lucid_tree.specs.declared.tree.Tree.{Tree}
-use Rattle.lucid_grammar.specs.Lexemes.{lexemes_of}
-use Rattle.lucid_grammar.specs.Spelling.{Text, declarations, spell, all_written, IsWritten}
+use Rattle.lucid_parse_tree.specs.declared.tree.Decl.{Decl}
+use Rattle.lucid_parse_tree.specs.declared.tree.Tree.{Tree}
+use Rattle.lucid_parse_grammar.specs.Lexemes.{lexemes_of}
+use Rattle.lucid_parse_grammar.specs.Spelling.{Text, declarations, spell, all_written, IsWritten}
 
 -- the kinds of tokens, which nesting is counted over
 abbrev pub kinds_of : List Token → List Kind

@@ -1,8 +1,8 @@
 // Whole programs: one declaration after another.
 ghost use Rattle.std.specs.Prelude.{◌≡◌, ◌≢◌, ℕ, ◌+◌, ◌-◌, ◌<◌, ◌≤◌, [], length, drop, count_by, ◌==◌, All, Some, None, IfOk, IfErr, OnOk, IsErrOf, MatchResult};
 ghost use Rattle.lucid_lex.specs.Reading.{Reads, IsTokenOf};
-ghost use Rattle.lucid_tree.specs.declared.tree.Tree.{Tree};
-ghost use Rattle.lucid_grammar.specs.Lexemes.{lexemes_of};
+ghost use Rattle.lucid_parse_tree.specs.declared.tree.Tree.{Tree};
+ghost use Rattle.lucid_parse_grammar.specs.Lexemes.{lexemes_of};
 ghost use Rattle.lucid_parse.specs.Nesting as nesting;
 ghost use Rattle.lucid_parse.specs.Program as spec;
 ghost use Rattle.lucid_parse.specs.Program.{kinds_of, IsTreeOf, IsFault, Progress, IsWhy, Rising};
@@ -11,10 +11,10 @@ use crate::declaration::declaration;
 use crate::error::ParseError;
 use crate::nesting::too_deep;
 use lucid_base::Items;
-use lucid_expression::{Stop, Tokens};
-use lucid_grammar::declarations_are_read_as_spelled;
 use lucid_lex::{Token, tokens_stand};
-use lucid_tree::{Decl, Tree};
+use lucid_parse_expression::{Stop, Tokens};
+use lucid_parse_grammar::declarations_are_read_as_spelled;
+use lucid_parse_tree::{Decl, Tree};
 use std::alloc::Global;
 
 /// The tree of the program whose tokens these are, where no count of nesting passes its limit and there is one: the tree that

@@ -2,7 +2,7 @@
 use lucid_core::Core;
 use lucid_lex::lex;
 use lucid_parse::parse;
-use lucid_tree::Tree;
+use lucid_parse_tree::Tree;
 use lucid_types::elaborate;
 use std::alloc::Global;
 use std::test::Fail;

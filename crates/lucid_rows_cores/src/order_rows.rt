@@ -6,7 +6,7 @@ use lucid_base::{ArrayName, Steps, uncounted};
 use lucid_constraints::Atom;
 use lucid_core::Core;
 use lucid_effects::{OrderError, check_order};
-use lucid_schemes::Scheme;
+use lucid_effects_schemes::Scheme;
 use std::alloc::Global;
 use std::marker::Brand;
 use std::sync::ledger::{Blank, Ledger};

@@ -5,7 +5,7 @@ use lucid_base::{
     ArrayName, BinOp, Bits, Boxed, CmpOp, Id, Items, MemAlu, MemArg, MemSide, Memory, Width,
 };
 use lucid_core::{Expr, FunDef, Stmt, Touch};
-use lucid_count::{Counts, count_body, count_functions};
+use lucid_inline_count::{Counts, count_body, count_functions};
 use std::alloc::Global;
 use std::test::Fail;
 

@@ -3,7 +3,7 @@ use lucid_conf::{ConfError, Limits, Scene, Step, limits_of, scene_of};
 use lucid_core::Core;
 use lucid_lex::lex;
 use lucid_parse::parse;
-use lucid_tree::Tree;
+use lucid_parse_tree::Tree;
 use lucid_types::elaborate;
 use std::alloc::{AllocError, Global};
 use std::process::Abort;

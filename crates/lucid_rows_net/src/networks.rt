@@ -1,4 +1,4 @@
-// Networks, each with its log, by hand from docs/SCENARIO.md and the definition in lucid_network.
+// Networks, each with its log, by hand from docs/SCENARIO.md and the definition in lucid_net_log.
 ghost use Rattle.std.specs.Prelude.{◌≡◌};
 ghost use Rattle.lucid_conf.specs.Kept.{IsScene};
 
@@ -9,7 +9,7 @@ use lucid_io::MemSink;
 use lucid_lex::lex;
 use lucid_net::{Net, NetError};
 use lucid_parse::parse;
-use lucid_tree::Tree;
+use lucid_parse_tree::Tree;
 use lucid_types::elaborate;
 use std::alloc::Global;
 use std::test::Fail;

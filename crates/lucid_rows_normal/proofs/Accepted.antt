@@ -1,7 +1,7 @@
 -- The program is valid and accepted.
 use Rattle.std.proofs.Common.{◌<◌, ℕ, zero, suc, arith, get_or, [], ◌∷◌, refl}
 use Rattle.lucid_core.specs.Valid.{IsValidFlat}
-use Rattle.lucid_order.specs.Order.{Body, InOrder, IsAccepted}
+use Rattle.lucid_effects_order.specs.Order.{Body, InOrder, IsAccepted}
 use Rattle.lucid_rows_normal.specs.Program.{program}
 
 pub program_is_valid : IsValidFlat program

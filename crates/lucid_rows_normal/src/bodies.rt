@@ -7,7 +7,7 @@ use lucid_base::{
 use lucid_code::{Literal, Operand};
 use lucid_core::{Expr, Stmt, Touch};
 use lucid_normal::{Site, Work, block};
-use lucid_translate::{Env, Typed};
+use lucid_normal_form::{Env, Typed};
 use std::alloc::Global;
 use std::test::Fail;
 

@@ -130,7 +130,7 @@ pub(crate) fn agreeing(
     code: &Code,
     events: u32,
 ) -> Result<u32, Memory> {
-    let mut whole = Cells::new(alloc, core)?;
+    let mut whole = core.cells(alloc)?;
     let mut coded = zeros(alloc, code)?;
     let mut same = 0u32;
     for now in 0..events {

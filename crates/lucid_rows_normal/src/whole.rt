@@ -1,6 +1,6 @@
 // A whole program, and the code that it becomes.
 ghost use Rattle.std.specs.Prelude.{◌≡◌, [], ◌∷◌, IfOk};
-ghost use Rattle.lucid_order.specs.Order.{IsAccepted};
+ghost use Rattle.lucid_effects_order.specs.Order.{IsAccepted};
 ghost use Rattle.lucid_rows_normal.specs.Program.{event, handler};
 
 use lucid_base::{Id, Items, Memory, Width};

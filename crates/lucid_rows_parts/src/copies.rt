@@ -1,10 +1,10 @@
-// Copies of parts of a program: each call of lucid_copy once, with every form in what it copies. That a copy is equal to what it is a
+// Copies of parts of a program: each call of lucid_core_copy once, with every form in what it copies. That a copy is equal to what it is a
 // copy of, its contract says.
 use lucid_base::{
     ArrayName, BinOp, Bits, Boxed, CmpOp, Id, Items, MemAlu, MemArg, MemSide, Memory, UnOp, Width,
 };
-use lucid_copy::{copy_body, copy_event, copy_expr, copy_memop, copy_stmt};
 use lucid_core::{EventDef, Expr, MemopDef, Stmt, Touch};
+use lucid_core_copy::{copy_body, copy_event, copy_expr, copy_memop, copy_stmt};
 use std::alloc::Global;
 use std::test::Fail;
 

@@ -1,7 +1,7 @@
 // A whole tree as one line of text, for tables of texts and their trees: every field of every form. A form is a list in
 // parentheses that begins with its word or sign, a block is a list in brackets.
 use lucid_base::Id;
-use lucid_tree::{A, C, DeclKind, E, Infix, No, P, Pre, S, Size, Tree, Ty, V};
+use lucid_parse_tree::{A, C, DeclKind, E, Infix, No, P, Pre, S, Size, Tree, Ty, V};
 use std::alloc::{AllocError, Global};
 
 /// The declarations, each behind its line.

@@ -11,8 +11,8 @@ use Rattle.lucid_net.specs.declared.error.NetError.{NetError}
 use Rattle.lucid_net.specs.declared.error.NetError.TheVariants as net
 use Rattle.lucid_parse.specs.declared.error.ParseError.{ParseError}
 use Rattle.lucid_parse.specs.declared.error.ParseError.TheVariants as parse
-use Rattle.lucid_rules.specs.declared.limit.What.{What}
-use Rattle.lucid_rules.specs.declared.limit.What.TheVariants as what
+use Rattle.lucid_types_rules.specs.declared.limit.What.{What}
+use Rattle.lucid_types_rules.specs.declared.limit.What.TheVariants as what
 use Rattle.lucid_types.specs.declared.error.TypeError.{TypeError}
 use Rattle.lucid_types.specs.declared.error.TypeError.TheVariants as types
 use Rattle.lucid_top.specs.declared.refusal.Refusal.{Refusal}

@@ -2,7 +2,7 @@
 use Rattle.std.specs.Prelude.{◌≡◌, Ok}
 use Rattle.lucid_conf.specs.declared.limits.Limits.{Limits}
 use Rattle.lucid_core.specs.Parts.{Parts}
-use Rattle.lucid_network.specs.Log.{log, whole}
+use Rattle.lucid_net_log.specs.Log.{log, whole}
 use Rattle.lucid_top.specs.Outcome.{Outcome, FollowedBy}
 use Rattle.lucid_top.specs.Program.{IsProgram}
 use Rattle.lucid_top.specs.Settings.{IsLimits, IsScenario}

@@ -15,8 +15,8 @@ use lucid_lex::LexError;
 use lucid_log::{Piece, put_pieces};
 use lucid_net::NetError;
 use lucid_parse::ParseError;
-use lucid_rules::What;
 use lucid_types::TypeError;
+use lucid_types_rules::What;
 use std::alloc::AllocError;
 
 /// Why there is no output, or only a part of it, with what its line tells.

@@ -7,24 +7,24 @@ use Rattle.lucid_core.specs.declared.defs.FunDef.{FunDef}
 use Rattle.lucid_core.specs.declared.defs.HandlerDef.{HandlerDef}
 use Rattle.lucid_core.specs.OutCount.{funs_outs}
 use Rattle.lucid_core.proofs.Grown.{get_last}
-use Rattle.lucid_tree.specs.declared.tree.DeclKind.{DeclKind}
-use Rattle.lucid_tree.specs.declared.tree.DeclKind.TheVariants as d
-use Rattle.lucid_tree.specs.declared.tree.P.{P}
-use Rattle.lucid_tree.specs.declared.tree.S.{S}
-use Rattle.lucid_tree.specs.declared.tree.Size.{Size}
-use Rattle.lucid_tree.specs.declared.tree.Tree.{Tree}
-use Rattle.lucid_tree.specs.declared.tree.Ty.{Ty}
-use Rattle.lucid_rules.specs.declared.limit.What.{What}
-use Rattle.lucid_rules.specs.Declaration.{Declared, Made, parts_of}
-use Rattle.lucid_rules.specs.Declaration as rule
-use Rattle.lucid_rules.specs.Found.{Computes}
-use Rattle.lucid_rules.specs.Limits.{passed}
-use Rattle.lucid_rules.specs.Makes.{IsTyped}
-use Rattle.lucid_rules.specs.Types.{answer_width, cell_widths, value_widths}
-use Rattle.lucid_typing.specs.Declaration.{declaration}
-use Rattle.lucid_limits.specs.declared.limits.Limits.{Limits}
-use Rattle.lucid_limits.specs.Laws.{NewAlone, OnlyTheNew}
-use Rattle.lucid_limits.specs.NewPart.{Knows, array_passes, event_passes, fun_passes, handler_passes}
+use Rattle.lucid_parse_tree.specs.declared.tree.DeclKind.{DeclKind}
+use Rattle.lucid_parse_tree.specs.declared.tree.DeclKind.TheVariants as d
+use Rattle.lucid_parse_tree.specs.declared.tree.P.{P}
+use Rattle.lucid_parse_tree.specs.declared.tree.S.{S}
+use Rattle.lucid_parse_tree.specs.declared.tree.Size.{Size}
+use Rattle.lucid_parse_tree.specs.declared.tree.Tree.{Tree}
+use Rattle.lucid_parse_tree.specs.declared.tree.Ty.{Ty}
+use Rattle.lucid_types_rules.specs.declared.limit.What.{What}
+use Rattle.lucid_types_rules.specs.Declaration.{Declared, Made, parts_of}
+use Rattle.lucid_types_rules.specs.Declaration as rule
+use Rattle.lucid_types_rules.specs.Found.{Computes}
+use Rattle.lucid_types_rules.specs.Limits.{passed}
+use Rattle.lucid_types_rules.specs.Makes.{IsTyped}
+use Rattle.lucid_types_rules.specs.Types.{answer_width, cell_widths, value_widths}
+use Rattle.lucid_types_function.specs.Declaration.{declaration}
+use Rattle.lucid_types_limits.specs.declared.limits.Limits.{Limits}
+use Rattle.lucid_types_limits.specs.Laws.{NewAlone, OnlyTheNew}
+use Rattle.lucid_types_limits.specs.NewPart.{Knows, array_passes, event_passes, fun_passes, handler_passes}
 use Rattle.lucid_types.specs.Answers.{Judges, Passes}
 
 newest : {A : Type 0} (xs : List A) (x : A) (o : Option A) → slice_get (xs ++ x ∷ []) (length (xs ++ x ∷ []) - 1) ≡ o → Some x ≡ o

@@ -1,16 +1,16 @@
 -- A program is read declaration by declaration.
 use Rattle.std.proofs.Common.{◌≡◌, ℕ, suc, ◌+◌, ◌<◌, ◌≤◌, List, [], ◌∷◌, ◌++◌, Option, None, Some, Result, Ok, Err, take, drop, length, get_or, append-nil, take_all, refl, sym, ap, subst, ◌∙◌, arith, drop-cons}
 use Rattle.std.proofs.lemmas.List.{append_assoc, take-append-drop, take_more}
-use Rattle.lucid_tree.specs.declared.tree.Decl.{Decl}
-use Rattle.lucid_tree.specs.declared.tree.Tree.{Tree}
-use Rattle.lucid_rules.specs.declared.limit.What.{What}
-use Rattle.lucid_rules.specs.Declaration.{Made, parts_of, start}
-use Rattle.lucid_rules.specs.Found.{Decides, Refusal, found, on_limit, on_made}
-use Rattle.lucid_rules.specs.Limits.{passed}
-use Rattle.lucid_rules.specs.Makes.{IsTyped}
-use Rattle.lucid_typing.specs.Declaration.{declaration}
-use Rattle.lucid_limits.specs.declared.limits.Limits.{Limits}
-use Rattle.lucid_limits.specs.NewPart.{Knows}
+use Rattle.lucid_parse_tree.specs.declared.tree.Decl.{Decl}
+use Rattle.lucid_parse_tree.specs.declared.tree.Tree.{Tree}
+use Rattle.lucid_types_rules.specs.declared.limit.What.{What}
+use Rattle.lucid_types_rules.specs.Declaration.{Made, parts_of, start}
+use Rattle.lucid_types_rules.specs.Found.{Decides, Refusal, found, on_limit, on_made}
+use Rattle.lucid_types_rules.specs.Limits.{passed}
+use Rattle.lucid_types_rules.specs.Makes.{IsTyped}
+use Rattle.lucid_types_function.specs.Declaration.{declaration}
+use Rattle.lucid_types_limits.specs.declared.limits.Limits.{Limits}
+use Rattle.lucid_types_limits.specs.NewPart.{Knows}
 use Rattle.lucid_types.specs.declared.error.TypeError.{TypeError}
 use Rattle.lucid_types.specs.declared.error.TypeError.TheVariants.{NoRule, Limit, Memory}
 use Rattle.lucid_types.specs.Answers.{Adds, IsTold, Tells}

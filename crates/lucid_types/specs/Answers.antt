@@ -1,17 +1,17 @@
 -- What the elaborator answers of a tree that has no core, and of one declaration.
 use Rattle.std.specs.Prelude.{◌≡◌, ℕ, Option, Some, None, Result, Ok, Err}
 use Rattle.lucid_base.specs.declared.memory.Memory.{Memory as WantOfMemory}
-use Rattle.lucid_tree.specs.declared.tree.Decl.{Decl}
-use Rattle.lucid_tree.specs.declared.tree.DeclKind.{DeclKind}
-use Rattle.lucid_tree.specs.declared.tree.Tree.{Tree}
-use Rattle.lucid_rules.specs.declared.limit.What.{What}
-use Rattle.lucid_rules.specs.Declaration.{Made, parts_of}
-use Rattle.lucid_rules.specs.Found.{Refusal, on_made}
-use Rattle.lucid_rules.specs.Limits.{passed}
-use Rattle.lucid_rules.specs.Makes.{IsRefused, IsTyped}
-use Rattle.lucid_typing.specs.Declaration.{declaration}
-use Rattle.lucid_limits.specs.declared.limits.Limits.{Limits}
-use Rattle.lucid_limits.specs.NewPart.{Knows}
+use Rattle.lucid_parse_tree.specs.declared.tree.Decl.{Decl}
+use Rattle.lucid_parse_tree.specs.declared.tree.DeclKind.{DeclKind}
+use Rattle.lucid_parse_tree.specs.declared.tree.Tree.{Tree}
+use Rattle.lucid_types_rules.specs.declared.limit.What.{What}
+use Rattle.lucid_types_rules.specs.Declaration.{Made, parts_of}
+use Rattle.lucid_types_rules.specs.Found.{Refusal, on_made}
+use Rattle.lucid_types_rules.specs.Limits.{passed}
+use Rattle.lucid_types_rules.specs.Makes.{IsRefused, IsTyped}
+use Rattle.lucid_types_function.specs.Declaration.{declaration}
+use Rattle.lucid_types_limits.specs.declared.limits.Limits.{Limits}
+use Rattle.lucid_types_limits.specs.NewPart.{Knows}
 use Rattle.lucid_types.specs.declared.error.TypeError.{TypeError}
 use Rattle.lucid_types.specs.declared.error.TypeError.TheVariants.{NoRule, Limit, Memory}
 

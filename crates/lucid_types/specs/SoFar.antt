@@ -1,9 +1,9 @@
 -- How far a program was read.
 use Rattle.std.specs.Prelude.{◌≡◌, ℕ, ◌+◌, List, ◌++◌, take}
-use Rattle.lucid_tree.specs.declared.tree.Decl.{Decl}
-use Rattle.lucid_rules.specs.Declaration.{Made, start}
-use Rattle.lucid_rules.specs.Found.{found}
-use Rattle.lucid_typing.specs.Declaration.{declaration}
+use Rattle.lucid_parse_tree.specs.declared.tree.Decl.{Decl}
+use Rattle.lucid_types_rules.specs.Declaration.{Made, start}
+use Rattle.lucid_types_rules.specs.Found.{found}
+use Rattle.lucid_types_function.specs.Declaration.{declaration}
 
 -- Whatever follows the first `count` declarations, it follows what they made.
 abbrev pub SoFar : List Decl → ℕ → Made → Type 0

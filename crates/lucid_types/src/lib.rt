@@ -1,7 +1,7 @@
 // The elaborator: the core of a tree. `elaborate` answers exactly where the typing rules derive one, with that core, which is valid;
 // else it tells the first declaration that is refused, its line, and the limit that it passes, if it has a rule.
-// Stands on lucid_declarations for what each declaration makes, on lucid_limits for the limits, and on lucid_rules, lucid_typing and
-// lucid_valid for what the rules say of the whole.
+// Stands on lucid_types_declarations for what each declaration makes, on lucid_types_limits for the limits, and on lucid_types_rules, lucid_types_function and
+// lucid_types_valid for what the rules say of the whole.
 #![tactic(auto)]
 
 mod error;

@@ -1,15 +1,15 @@
 // The limit that the newest declaration passes.
 ghost use Rattle.std.specs.Prelude.{◌≡◌, ◌-◌, length, slice_get};
 ghost use Rattle.std.specs.Option.{option_copied};
-ghost use Rattle.lucid_declarations.specs.Known.{made_of};
+ghost use Rattle.lucid_types_declarations.specs.Known.{made_of};
 ghost use Rattle.lucid_types.specs.Answers.{Judges};
 
 use lucid_base::Memory;
-use lucid_declarations::Known;
-use lucid_limits::{Limits, only_the_new_counts};
-use lucid_rules::What;
-use lucid_tree::DeclKind;
-use lucid_typing::declarations_are_computed;
+use lucid_parse_tree::DeclKind;
+use lucid_types_declarations::Known;
+use lucid_types_function::declarations_are_computed;
+use lucid_types_limits::{Limits, only_the_new_counts};
+use lucid_types_rules::What;
 
 /// What this declaration passes, which made what is known the last.
 pub fn passed(limits: &mut Limits, known: &Known, x: &DeclKind) -> Result<Option<What>, Memory>

@@ -1,11 +1,11 @@
 // The core of what was made.
 ghost use Rattle.std.specs.Prelude.{◌≡◌};
 ghost use Rattle.lucid_core.specs.Valid.{IsValid};
-ghost use Rattle.lucid_rules.specs.Declaration.{parts_of};
-ghost use Rattle.lucid_declarations.specs.Known.{made_of};
+ghost use Rattle.lucid_types_rules.specs.Declaration.{parts_of};
+ghost use Rattle.lucid_types_declarations.specs.Known.{made_of};
 
 use lucid_core::Core;
-use lucid_declarations::Known;
+use lucid_types_declarations::Known;
 
 /// The core of what is known.
 pub fn core_of(known: Known) -> Core

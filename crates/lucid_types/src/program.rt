@@ -1,25 +1,25 @@
 // From a tree to its core.
 ghost use Rattle.std.specs.Prelude.{IfErr, IfOk};
-ghost use Rattle.lucid_tree.specs.declared.tree.Tree.{Tree as Program};
-ghost use Rattle.lucid_rules.specs.Declaration.{parts_of};
-ghost use Rattle.lucid_rules.specs.Found.{IsDetermined};
-ghost use Rattle.lucid_rules.specs.Makes.{IsTyped};
-ghost use Rattle.lucid_declarations.specs.Known.{made_of};
-ghost use Rattle.lucid_limits.specs.NewPart.{Knows};
+ghost use Rattle.lucid_parse_tree.specs.declared.tree.Tree.{Tree as Program};
+ghost use Rattle.lucid_types_rules.specs.Declaration.{parts_of};
+ghost use Rattle.lucid_types_rules.specs.Found.{IsDetermined};
+ghost use Rattle.lucid_types_rules.specs.Makes.{IsTyped};
+ghost use Rattle.lucid_types_declarations.specs.Known.{made_of};
+ghost use Rattle.lucid_types_limits.specs.NewPart.{Knows};
 ghost use Rattle.lucid_types.specs.Answers.{Adds, Tells};
 
 use crate::error::TypeError;
 use crate::limit::passed;
 use crate::parts::core_of;
 use lucid_core::Core;
-use lucid_declarations::{Known, declare};
-use lucid_limits::Limits;
-use lucid_rules::the_first_refusal_is_found;
-use lucid_statements::next;
-use lucid_terms::Fault;
-use lucid_tree::{Decl, Tree};
-use lucid_typing::declarations_are_computed;
-use lucid_valid::typed_programs_are_valid;
+use lucid_parse_tree::{Decl, Tree};
+use lucid_types_declarations::{Known, declare};
+use lucid_types_expressions::Fault;
+use lucid_types_function::declarations_are_computed;
+use lucid_types_limits::Limits;
+use lucid_types_rules::the_first_refusal_is_found;
+use lucid_types_statements::next;
+use lucid_types_valid::typed_programs_are_valid;
 use std::alloc::Global;
 
 /// The core of the tree, where the rules derive one; else the first declaration that is refused, and why. A tree has one of the two.

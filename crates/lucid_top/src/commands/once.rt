@@ -61,7 +61,7 @@ fn run(alloc: Global, core: Core, event: Option<Event>) -> Result<Ran, Refusal>
     let Some(event) = event else {
         return Err(Refusal::Usage);
     };
-    let mut cells = Cells::new(alloc, &core)?;
+    let mut cells = core.cells(alloc)?;
     let outs = run_whole(alloc, &core, &mut cells, 0, 0, &event)?;
     Ok(Ran {
         core,

@@ -2,7 +2,7 @@
 ghost use Rattle.std.specs.Prelude.{◌≡◌, IfOk, length};
 ghost use Rattle.lucid_conf.specs.Kept.{IsScene};
 ghost use Rattle.lucid_net.specs.Writes.{Writes};
-ghost use Rattle.lucid_network.specs.Log.{log, whole};
+ghost use Rattle.lucid_net_log.specs.Log.{log, whole};
 ghost use Rattle.lucid_top.specs.Files.{texts_in};
 ghost use Rattle.lucid_top.specs.Outcome.{Prepares};
 ghost use Rattle.lucid_top.specs.RunWhole.{RunWholeAnswers, RunsProgram, RunsUnder};

@@ -1,5 +1,5 @@
 use Rattle.std.proofs.Common.{◌+◌, ◌-◌, ◌<◌, ℕ, List, Err, rules, subst}
-use Rattle.lucid_network.specs.Log.{ticks}
+use Rattle.lucid_net_log.specs.Log.{ticks}
 use Rattle.lucid_net.specs.Pieces.{pieces, tick_text}
 use Rattle.lucid_net.specs.Seen.{network}
 use Rattle.lucid_net.specs.Writes.{Writes}

@@ -1,5 +1,5 @@
 use Rattle.std.proofs.Common.{◌+◌, ◌-◌, ◌≡◌, ℕ, List, Err, rules, refl, subst, arith}
-use Rattle.lucid_network.specs.Log.{turns}
+use Rattle.lucid_net_log.specs.Log.{turns}
 use Rattle.lucid_net.specs.Kept.{IsKept}
 use Rattle.lucid_net.specs.Pieces.{pieces, turn_text}
 use Rattle.lucid_net.specs.Seen.{state_of}

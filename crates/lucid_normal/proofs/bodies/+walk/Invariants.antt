@@ -2,9 +2,9 @@
 -- and what is noted leads back to what held the locals before.
 use Rattle.std.proofs.Common.{◌≡◌, ◌+◌, ◌*◌, ◌++◌, max, drop, map}
 use Rattle.lucid_normal.specs.Given.{given_codes}
-use Rattle.lucid_normal_parts.specs.Added.{added}
-use Rattle.lucid_normal_parts.specs.Notes.{before}
-use Rattle.lucid_translate.specs.Translate.{each_made, expr_code, given_made, operands, seq, stmt_code}
+use Rattle.lucid_normal_steps.specs.Added.{added}
+use Rattle.lucid_normal_steps.specs.Notes.{before}
+use Rattle.lucid_normal_form.specs.Translate.{each_made, expr_code, given_made, operands, seq, stmt_code}
 use Rattle.lucid_normal.proofs.bodies.+walk.Given as goal
 
 abbrev pub decreases-expr : goal.decreases-expr

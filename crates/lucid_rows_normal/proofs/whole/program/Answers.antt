@@ -1,5 +1,5 @@
 use Rattle.std.proofs.Common.{◌≡◌, refl, subst, sym, ◌∙◌}
-use Rattle.lucid_order.specs.Order.{IsAccepted}
+use Rattle.lucid_effects_order.specs.Order.{IsAccepted}
 use Rattle.lucid_rows_normal.specs.Program.{program}
 use Rattle.lucid_rows_normal.proofs.Accepted.{program_is_accepted, program_is_valid}
 use Rattle.lucid_rows_normal.proofs.whole.program.Goals as goal

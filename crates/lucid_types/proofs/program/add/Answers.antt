@@ -1,6 +1,6 @@
 -- The declaration has a rule: it is judged by its limit.
 use Rattle.std.proofs.Common.{None, Some}
-use Rattle.lucid_declarations.specs.Known.{made_of}
+use Rattle.lucid_types_declarations.specs.Known.{made_of}
 use Rattle.lucid_types.proofs.Reading.{judged}
 use Rattle.lucid_types.proofs.program.add.Goals as goal
 

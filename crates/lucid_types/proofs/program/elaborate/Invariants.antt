@@ -1,7 +1,7 @@
 -- How far the program was read, and what the limits ask of it.
 use Rattle.std.proofs.Common.{◌≡◌}
-use Rattle.lucid_declarations.specs.Known.{made_of}
-use Rattle.lucid_limits.specs.NewPart.{Knows}
+use Rattle.lucid_types_declarations.specs.Known.{made_of}
+use Rattle.lucid_types_limits.specs.NewPart.{Knows}
 use Rattle.lucid_types.specs.SoFar.{SoFar}
 use Rattle.lucid_types.proofs.program.elaborate.Given as goal
 

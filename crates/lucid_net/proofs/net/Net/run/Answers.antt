@@ -1,7 +1,7 @@
 use Rattle.std.proofs.Common.{rules, refl, subst}
 use Rattle.lucid_io.proofs.Leaves.{Leaves-whole, Leaves-after}
-use Rattle.lucid_network.specs.Log.{end_text, log, ticks}
-use Rattle.lucid_network.specs.Ways.{Network}
+use Rattle.lucid_net_log.specs.Log.{end_text, log, ticks}
+use Rattle.lucid_net_log.specs.Ways.{Network}
 use Rattle.lucid_net.specs.Seen.{network}
 use Rattle.lucid_net.specs.Writes.{Writes}
 use Rattle.lucid_net.proofs.Running.{same_network}

@@ -1,5 +1,5 @@
 use Rattle.std.proofs.Common.{◌≡◌, ◌+◌, ◌<◌, List, ℕ, Err, sym, ◌∙◌, ap, subst}
-use Rattle.lucid_network.specs.Log.{ticks}
+use Rattle.lucid_net_log.specs.Log.{ticks}
 use Rattle.lucid_net.specs.Pieces.{tick_text, untold}
 use Rattle.lucid_net.specs.Seen.{Seen, network, seen, state_of}
 use Rattle.lucid_net.specs.Writes.{Writes}

@@ -1,6 +1,6 @@
 use Rattle.std.proofs.Common.{Ok, arith, rules}
 use Rattle.std.proofs.lemmas.Grind.{common_steps}
-use Rattle.lucid_network.specs.Log.{log, whole}
+use Rattle.lucid_net_log.specs.Log.{log, whole}
 use Rattle.lucid_top.specs.Files.{texts_in}
 use Rattle.lucid_top.specs.Outcome.{IsTheAnswer}
 use Rattle.lucid_top.specs.RunWhole.{RunWholeAnswers}

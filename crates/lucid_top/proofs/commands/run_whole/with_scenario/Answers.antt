@@ -1,5 +1,5 @@
 use Rattle.std.proofs.Common.{◌≡◌, ℕ, List, Ok, rules}
-use Rattle.lucid_network.specs.Log.{log, whole}
+use Rattle.lucid_net_log.specs.Log.{log, whole}
 use Rattle.lucid_top.specs.declared.commands.run_whole.Network.{Network}
 use Rattle.lucid_top.specs.Outcome.{Outcome}
 use Rattle.lucid_top.specs.Settings.{IsScenario}

@@ -1,4 +1,0 @@
-pub mod Arms
-pub mod Assembled
-pub mod Kept
-pub mod Matches

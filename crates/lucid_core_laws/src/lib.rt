@@ -1,0 +1,12 @@
+// What whoever builds bodies stands on: a node of a body keeps all rules of a valid program where its parts do, and a program whose
+// bodies do is valid.
+// It promises laws alone: a field each of the records in specs/ExprNodes.antt, StmtNodes.antt, AssigningNodes.antt and InlinedNodes.antt,
+// and the definitions of Programs.antt, for cores and for flat programs at once. They hold at every place that has what is named, so
+// nothing is carried from one scope to another.
+// Stands on lucid_base and lucid_core.
+#![tactic(auto)]
+
+mod examples;
+mod laws;
+
+pub use laws::{built_programs_are_valid, nodes_keep_the_rules};

@@ -1,7 +1,0 @@
--- The widths so far, and those that are left.
-use Rattle.std.proofs.Common.{◌≡◌, ◌++◌, drop}
-use Rattle.lucid_rules.specs.Types.{cell_widths}
-use Rattle.lucid_declarations.proofs.parameters.cell_widths.Given as goal
-
-abbrev pub invariant-loop-param : goal.invariant-loop-param
-invariant-loop-param l = l.widths ++ cell_widths (drop l.param-index l.params) ≡ cell_widths l.params

@@ -1,8 +1,0 @@
--- What is left of the parameters decides.
-use Rattle.std.proofs.Common.{◌≡◌, drop}
-use Rattle.lucid_typing.specs.Declaration.{int_params}
-use Rattle.lucid_declarations.specs.Parameters.{with_widths}
-use Rattle.lucid_declarations.proofs.parameters.int_params.Given as goal
-
-abbrev pub invariant-loop-param : goal.invariant-loop-param
-invariant-loop-param l = with_widths l.widths (int_params (drop l.param-index l.params)) ≡ int_params l.params

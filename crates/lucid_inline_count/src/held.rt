@@ -1,0 +1,65 @@
+// Flags that are set for a while: which locals are held.
+ghost use Rattle.std.specs.Prelude.{◌≡◌, ◌<◌, ◌+◌, IfOk, OnOk, false, length, slice_index_or, slice_set};
+ghost use Rattle.lucid_inline_count.specs.Found.{joined as joined_of};
+ghost use Rattle.lucid_inline_count.specs.Flags.{put_back as before};
+
+use lucid_base::Memory;
+use std::alloc::Global;
+
+/// What a flag was before it was set.
+#[derive(Clone, Copy)]
+pub struct Note {
+    local: u32,
+    was: bool,
+}
+
+fn is_held(held: &[bool], i: u32) -> bool
+    ensures { result ≡ slice_index_or held.now i false }
+{
+    match held.get(i as usize) {
+        None => false,
+        Some(flag) => *flag,
+    }
+}
+
+/// Sets the flag, and notes what it was. A local that isn't there has none.
+pub fn set(held: &mut Vec<bool>, notes: &mut Vec<Note>, i: u32, flag: bool) -> Result<(), Memory>
+    ensures set { OnOk result (held.new.items ≡ slice_set held.old.items i flag) }
+    ensures noted { OnOk result (i < length held.old.items → length notes.new.items ≡ length notes.old.items + 1) }
+    ensures back { OnOk result (before notes.new.items held.new.items ≡ before notes.old.items held.old.items) }
+{
+    if (i as usize) < held.len() {
+        let was = is_held(held.as_slice(), i);
+        notes.push(Note { local: i, was })?;
+        held[i as usize] = flag;
+    }
+    Ok(())
+}
+
+/// The flags as they were before they were noted.
+pub fn put_back(held: &mut Vec<bool>, notes: Vec<Note>)
+    ensures { held.new.items ≡ before notes.items held.old.items }
+{
+    let mut left = notes;
+    while let Some(note) = left.pop() {
+        if (note.local as usize) < held.len() {
+            held[note.local as usize] = note.was;
+        }
+    }
+}
+
+/// How many of the locals that are held are named. The work is in proportion to the names.
+pub fn joined(alloc: Global, held: &mut Vec<bool>, names: &[u32]) -> Result<usize, Memory>
+    ensures joined { IfOk result (λ n. n ≡ joined_of held.old.items names.now) }
+    ensures kept { OnOk result (held.new.items ≡ held.old.items) }
+{
+    let mut notes = Vec::new(alloc);
+    for x in names {
+        if is_held(held.as_slice(), *x) {
+            set(held, &mut notes, *x, false)?;
+        }
+    }
+    let joined = notes.len();
+    put_back(held, notes);
+    Ok(joined)
+}

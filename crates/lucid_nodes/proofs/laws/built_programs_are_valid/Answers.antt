@@ -1,5 +1,0 @@
-use Rattle.lucid_nodes.proofs.Built.{core_is_valid, flat_is_valid}
-use Rattle.lucid_nodes.proofs.laws.built_programs_are_valid.Goals as goal
-
-pub returns : goal.returns
-returns c = record { core = core_is_valid; flat = flat_is_valid }

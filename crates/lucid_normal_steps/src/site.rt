@@ -1,0 +1,50 @@
+// Where operations are built.
+ghost use Rattle.std.specs.Prelude.{◌≡◌, [], ◌∷◌, ◌++◌, IfOk, OnOk, length, true};
+ghost use Rattle.lucid_normal_form.specs.Translate.{op as op_of};
+ghost use Rattle.lucid_normal_steps.specs.Added.{added};
+
+use lucid_base::{Items, Memory, Width};
+use lucid_code::{Act, Literal, Op};
+use std::alloc::Global;
+
+/// The memory that operations take, and the guard that all of them have, its outermost literal first.
+#[derive(Clone, Copy)]
+pub struct Site<'a> {
+    pub alloc: Global,
+    pub guard: &'a [Literal],
+}
+
+/// An operation of this level.
+pub fn put(site: Site, ops: &mut Vec<Op>, level: u32, act: Act) -> Result<(), Memory>
+    ensures { OnOk result (ops.new.items ≡ added site.entry.guard.now ops.old.items (op_of level act ∷ [])) }
+{
+    ops.push(Op {
+        guard: Items::from_slice(site.alloc, site.guard)?,
+        level,
+        act,
+    })?;
+    Ok(())
+}
+
+/// The guard of the site, and that the field has this value.
+pub fn within(site: Site, field: u32, value: u64) -> Result<Items<Literal>, Memory>
+    ensures { IfOk result (λ guard. guard ≡ site.entry.guard.now ++ record { field = field; equal = true; value = value } ∷ []) }
+{
+    let mut guard = Items::from_slice(site.alloc, site.guard)?;
+    guard.push(Literal {
+        field,
+        equal: true,
+        value,
+    })?;
+    Ok(guard)
+}
+
+/// The number of the next field.
+pub fn next(widths: &Items<Width>) -> Result<u32, Memory>
+    ensures { IfOk result (λ k. k ≡ length widths.now) }
+{
+    match u32::try_from(widths.len()) {
+        Err(_) => Err(Memory),
+        Ok(k) => Ok(k),
+    }
+}

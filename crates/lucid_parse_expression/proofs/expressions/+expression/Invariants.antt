@@ -1,0 +1,36 @@
+use Rattle.std.proofs.Common.{◌≡◌, ◌+◌, ◌-◌, ◌*◌}
+use Rattle.lucid_parse_expression.specs.Tokens.{said}
+use Rattle.lucid_parse_grammar.specs.Reader.{after_comma, repeat, separated}
+use Rattle.lucid_parse_grammar.specs.ReadExpression.{climb, expression_at}
+use Rattle.lucid_parse_expression.proofs.expressions.+expression.Given as goal
+
+-- within one depth the functions call one another downwards, and an expression goes one deeper
+
+abbrev pub decreases-expression_at : goal.decreases-expression_at
+decreases-expression_at l = 5 * l.depth
+
+abbrev pub decreases-grown : goal.decreases-grown
+decreases-grown l = 5 * l.depth + 1
+
+abbrev pub decreases-expressions : goal.decreases-expressions
+decreases-expressions l = 5 * l.depth + 1
+
+abbrev pub decreases-in_parens : goal.decreases-in_parens
+decreases-in_parens l = 5 * l.depth + 1
+
+abbrev pub decreases-arguments : goal.decreases-arguments
+decreases-arguments l = 5 * l.depth + 2
+
+abbrev pub decreases-named : goal.decreases-named
+decreases-named l = 5 * l.depth + 3
+
+abbrev pub decreases-operand : goal.decreases-operand
+decreases-operand l = 5 * l.depth + 4
+
+-- what is left to read gives what the whole gives
+
+abbrev pub invariant-expression_at-loop-turn : goal.invariant-expression_at-loop-turn
+invariant-expression_at-loop-turn l = climb (expression_at (l.depth - 1)) l.least (l._turn-end - l._turn) l.tight l.left (said l.rest) ≡ expression_at l.depth l.least (said l.fn.tokens)
+
+abbrev pub invariant-expressions-loop-turn : goal.invariant-expressions-loop-turn
+invariant-expressions-loop-turn l = repeat (after_comma (expression_at l.depth 1)) (l._turn-end - l._turn) l.all (said l.rest) ≡ separated (expression_at l.depth 1) (said l.fn.tokens)

@@ -1,0 +1,182 @@
+// Calls on arrays: the method, and then what the call is given, which is read as a list of expressions and taken apart here.
+ghost use Rattle.lucid_parse_expression.specs.Reads.{Reads, Gives};
+ghost use Rattle.lucid_parse_expression.specs.Tokens.{said};
+ghost use Rattle.lucid_parse_grammar.specs.declared.method.Method.TheVariants as methods;
+ghost use Rattle.lucid_parse_grammar.specs.ReadExpression as spec;
+
+use crate::error::Stop;
+use crate::lexeme::Lexeme;
+use crate::parts::expect;
+use crate::tokens::Tokens;
+use lucid_base::{Boxed, Id, Items};
+use lucid_lex::Sign;
+use lucid_parse_grammar::Method;
+use lucid_parse_tree::{A, E};
+use std::alloc::Global;
+
+/// Behind `Array`, up to the open parenthesis.
+#[tactic(auto, unfolding(lucid_parse_grammar::specs::ReadExpression::array_method))]
+pub(crate) fn array_method(tokens: Tokens) -> Result<(Method, Tokens), Stop>
+    ensures { Reads result (spec.array_method (said tokens.entry)) }
+{
+    let rest = expect(Sign::Dot, tokens)?;
+    match rest.split() {
+        Some((Lexeme::Name(name), rest)) => match Method::of(name.bytes) {
+            Some(method) => {
+                let rest = expect(Sign::OpenParen, rest)?;
+                Ok((method, rest))
+            }
+            None => Err(Stop::NoTree),
+        },
+        _ => Err(Stop::NoTree),
+    }
+}
+
+/// The call by this method that is given these expressions, all of them. It is boxed at once, since a proof pays much for each path
+/// that lets go of a call by value.
+pub(crate) fn array_of(alloc: Global, method: Method, given: Items<E>) -> Result<Boxed<A>, Stop>
+    ensures { Gives result (spec.array_of method given) }
+{
+    let call = call_of(method, given)?;
+    Ok(Boxed::new(alloc, call)?)
+}
+
+#[tactic(auto, unfolding(lucid_parse_grammar::specs::ReadExpression::array_of))]
+fn call_of(method: Method, given: Items<E>) -> Result<A, Stop>
+    ensures { Gives result (spec.array_of method given) }
+{
+    let (name, given) = first_name(given)?;
+    array_at(name, method, given)
+}
+
+/// By what follows the array's name.
+#[tactic(auto, unfolding(lucid_parse_grammar::specs::ReadExpression::array_at))]
+fn array_at(name: Id, method: Method, given: Items<E>) -> Result<A, Stop>
+    ensures { Gives result (spec.array_at name method given) }
+{
+    let (index, given) = first(given)?;
+    array_with(name, index, method, given)
+}
+
+/// By what follows the index. A call is made last, once nothing is left over, so that no path lets a whole call go.
+fn array_with(name: Id, index: E, method: Method, given: Items<E>) -> Result<A, Stop>
+    ensures { Gives result (spec.array_with name index method given) }
+{
+    match method {
+        Method::Get => get_call(name, index, given),
+        Method::Set => set_call(name, index, given),
+        Method::Getm => getm_call(name, index, given),
+        Method::Setm => setm_call(name, index, given),
+        Method::Update => update_call(name, index, given),
+    }
+}
+
+#[tactic(auto, unfolding(lucid_parse_grammar::specs::ReadExpression::array_with))]
+fn get_call(name: Id, index: E, given: Items<E>) -> Result<A, Stop>
+    ensures { Gives result (spec.array_with name index methods.Get given) }
+{
+    if given.is_empty() {
+        Ok(A::Get(name, index))
+    } else {
+        Err(Stop::NoTree)
+    }
+}
+
+#[tactic(auto, unfolding(lucid_parse_grammar::specs::ReadExpression::array_with))]
+fn set_call(name: Id, index: E, given: Items<E>) -> Result<A, Stop>
+    ensures { Gives result (spec.array_with name index methods.Set given) }
+{
+    let value = last(given)?;
+    Ok(A::Set(name, index, value))
+}
+
+#[tactic(auto, unfolding(lucid_parse_grammar::specs::ReadExpression::array_with))]
+fn getm_call(name: Id, index: E, given: Items<E>) -> Result<A, Stop>
+    ensures { Gives result (spec.array_with name index methods.Getm given) }
+{
+    let (memop, argument) = last_memop(given)?;
+    Ok(A::Getm(name, index, memop, argument))
+}
+
+#[tactic(auto, unfolding(lucid_parse_grammar::specs::ReadExpression::array_with))]
+fn setm_call(name: Id, index: E, given: Items<E>) -> Result<A, Stop>
+    ensures { Gives result (spec.array_with name index methods.Setm given) }
+{
+    let (memop, argument) = last_memop(given)?;
+    Ok(A::Setm(name, index, memop, argument))
+}
+
+#[tactic(auto, unfolding(lucid_parse_grammar::specs::ReadExpression::array_with))]
+fn update_call(name: Id, index: E, given: Items<E>) -> Result<A, Stop>
+    ensures { Gives result (spec.array_with name index methods.Update given) }
+{
+    let (get, set) = last_memops(given)?;
+    Ok(A::Update(name, index, get.0, get.1, set.0, set.1))
+}
+
+/// The last expression, which is the only one.
+#[tactic(auto, unfolding(lucid_parse_grammar::specs::ReadExpression::last))]
+fn last(given: Items<E>) -> Result<E, Stop>
+    ensures { Gives result (spec.last given) }
+{
+    let (last, left) = first(given)?;
+    if left.is_empty() {
+        Ok(last)
+    } else {
+        Err(Stop::NoTree)
+    }
+}
+
+/// A memop and its argument, and nothing else.
+#[tactic(auto, unfolding(lucid_parse_grammar::specs::ReadExpression::last_memop))]
+fn last_memop(given: Items<E>) -> Result<(Id, E), Stop>
+    ensures { Gives result (spec.last_memop given) }
+{
+    let (memop, given) = first_name(given)?;
+    let argument = last(given)?;
+    Ok((memop, argument))
+}
+
+/// Two memops, each with its argument, and nothing else.
+#[tactic(auto, unfolding(lucid_parse_grammar::specs::ReadExpression::last_memops))]
+fn last_memops(given: Items<E>) -> Result<((Id, E), (Id, E)), Stop>
+    ensures { Gives result (spec.last_memops given) }
+{
+    let (get, given) = memop_part(given)?;
+    let set = last_memop(given)?;
+    Ok((get, set))
+}
+
+/// A memop and its argument.
+#[tactic(auto, unfolding(lucid_parse_grammar::specs::ReadExpression::memop_part))]
+fn memop_part(given: Items<E>) -> Result<((Id, E), Items<E>), Stop>
+    ensures { Gives result (spec.memop_part given) }
+{
+    let (memop, given) = first_name(given)?;
+    let (argument, given) = first(given)?;
+    Ok(((memop, argument), given))
+}
+
+/// The first expression and the others, where the first is a name.
+#[tactic(auto, unfolding(lucid_parse_grammar::specs::ReadExpression::first_name))]
+fn first_name(given: Items<E>) -> Result<(Id, Items<E>), Stop>
+    ensures { Gives result (spec.first_name given) }
+{
+    let (first, given) = first(given)?;
+    match first {
+        E::Name(name) => Ok((name, given)),
+        _ => Err(Stop::NoTree),
+    }
+}
+
+/// The first expression and the others.
+fn first(given: Items<E>) -> Result<(E, Items<E>), Stop>
+    ensures { Gives result (spec.first given) }
+{
+    let mut given = given;
+    if given.is_empty() {
+        return Err(Stop::NoTree);
+    }
+    let first = given.remove(0);
+    Ok((first, given))
+}

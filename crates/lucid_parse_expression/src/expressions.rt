@@ -1,0 +1,245 @@
+// Expressions, by how tightly their signs bind. `depth` bounds how many expressions stand round one another; where it is the
+// number of the tokens, it never runs out, and the limits on nesting, which are tried before, bound the recursion by far less.
+ghost use Rattle.lucid_parse_grammar.specs.Reader.{separated};
+ghost use Rattle.lucid_parse_expression.specs.Reads.{Reads, Leaves};
+ghost use Rattle.lucid_parse_expression.specs.Tokens.{said};
+ghost use Rattle.lucid_parse_grammar.specs.Operators.{disjunction};
+ghost use Rattle.lucid_parse_grammar.specs.ReadExpression as spec;
+
+use crate::array::{array_method, array_of};
+use crate::ascii::Ascii;
+use crate::error::Stop;
+use crate::lexeme::Lexeme;
+use crate::nodes::{array, called, cast, hash, in_parentheses, infix, prefixed, shifted};
+use crate::operator::next_within;
+use crate::parts::{after, expect, expect_name, width, width_if};
+use crate::tokens::Tokens;
+use lucid_base::{Boxed, Id, Items};
+use lucid_lex::{Sign, Word};
+use lucid_parse_grammar::{DISJUNCTION, Next, TIGHTEST, pre_of, right_level, unary_level};
+use lucid_parse_tree::{A, E};
+use std::alloc::Global;
+
+/// An expression.
+#[tactic(auto, unfolding(lucid_parse_grammar::specs::ReadExpression::expression))]
+pub fn expression(alloc: Global, tokens: Tokens) -> Result<(E, Tokens), Stop>
+    ensures { Reads result (spec.expression (said tokens.entry)) }
+{
+    expression_at(alloc, tokens.len(), DISJUNCTION, tokens)
+}
+
+/// What a call is given, behind its open parenthesis.
+#[tactic(auto, unfolding(lucid_parse_grammar::specs::ReadExpression::call_arguments))]
+pub fn call_arguments(alloc: Global, tokens: Tokens) -> Result<(Items<E>, Tokens), Stop>
+    ensures { Reads result (spec.call_arguments (said tokens.entry)) }
+{
+    arguments(alloc, tokens.len(), tokens)
+}
+
+/// Expressions, each behind a comma.
+#[tactic(auto, unfolding(lucid_parse_grammar::specs::ReadExpression::operands))]
+pub fn operands(alloc: Global, tokens: Tokens) -> Result<(Items<E>, Tokens), Stop>
+    ensures { Reads result (spec.operands (said tokens.entry)) }
+{
+    match after(Sign::Comma, tokens) {
+        None => Ok((Items::new(alloc), tokens)),
+        Some(rest) => expressions(alloc, rest.len(), rest),
+    }
+}
+
+/// A call on an array, behind `Array`.
+#[tactic(auto, unfolding(lucid_parse_grammar::specs::ReadExpression::whole_array_call, lucid_parse_grammar::specs::ReadExpression::array_call))]
+pub fn array_call(alloc: Global, tokens: Tokens) -> Result<(Boxed<A>, Tokens), Stop>
+    ensures { Reads result (spec.whole_array_call (said tokens.entry)) }
+{
+    let (method, rest) = array_method(tokens)?;
+    let (given, rest) = arguments(alloc, tokens.len(), rest)?;
+    Ok((array_of(alloc, method, given)?, rest))
+}
+
+/// An expression of at least this level.
+#[cycle(expression)]
+#[tactic(auto, unfolding(lucid_parse_grammar::specs::ReadExpression::expression_at, lucid_parse_grammar::specs::ReadExpression::climb))]
+fn expression_at(
+    alloc: Global,
+    depth: usize,
+    least: u8,
+    tokens: Tokens,
+) -> Result<(E, Tokens), Stop>
+    ensures { Reads result (spec.expression_at depth least (said tokens.entry)) }
+{
+    if depth == 0 {
+        return Err(Stop::NoTree);
+    }
+    let (mut left, mut rest) = operand(alloc, depth - 1, tokens)?;
+    let mut tight = TIGHTEST;
+    for _turn in 0..rest.len() {
+        match next_within(least, tight, rest) {
+            None => return Ok((left, rest)),
+            Some((next, more)) => {
+                let (grown, after) = grown(alloc, depth - 1, left, next, more)?;
+                tight = next.level();
+                left = grown;
+                rest = after;
+            }
+        }
+    }
+    Ok((left, rest))
+}
+
+/// The left operand with what follows it.
+#[cycle(expression)]
+fn grown(
+    alloc: Global,
+    depth: usize,
+    left: E,
+    next: Next,
+    tokens: Tokens,
+) -> Result<(E, Tokens), Stop>
+    ensures { Reads result (spec.grown (spec.expression_at depth) left next (said tokens.entry)) }
+{
+    match next {
+        Next::Infix(op) => {
+            let (right, rest) = expression_at(alloc, depth, right_level(op), tokens)?;
+            Ok((infix(alloc, op, left, right)?, rest))
+        }
+        Next::Shift(up, by) => Ok((shifted(alloc, left, up, by)?, tokens)),
+    }
+}
+
+#[cycle(expression)]
+#[tactic(auto, unfolding(lucid_parse_grammar::specs::ReadExpression::operand, lucid_parse_grammar::specs::ReadExpression::array_call))]
+fn operand(alloc: Global, depth: usize, tokens: Tokens) -> Result<(E, Tokens), Stop>
+    ensures { Reads result (spec.operand (spec.expression_at depth) (said tokens.entry)) }
+{
+    match tokens.split() {
+        Some((Lexeme::Number(n), rest)) => Ok((E::Number(n), rest)),
+        Some((Lexeme::Name(name), rest)) => named(alloc, depth, name, rest),
+        Some((Lexeme::Word(Word::True), rest)) => Ok((E::Truth(true), rest)),
+        Some((Lexeme::Word(Word::False), rest)) => Ok((E::Truth(false), rest)),
+        Some((Lexeme::Word(Word::Me), rest)) => Ok((E::Me, rest)),
+        Some((Lexeme::Word(Word::SysCalls), rest)) => {
+            let rest = expect_time(rest)?;
+            Ok((E::Time, rest))
+        }
+        Some((Lexeme::Word(Word::Hash), rest)) => {
+            let (width, rest) = hash_head(rest)?;
+            let (operands, rest) = arguments(alloc, depth, rest)?;
+            Ok((hash(width, operands)?, rest))
+        }
+        Some((Lexeme::Word(Word::ArrayCalls), rest)) => {
+            let (method, rest) = array_method(rest)?;
+            let (given, rest) = arguments(alloc, depth, rest)?;
+            Ok((array(alloc, method, given)?, rest))
+        }
+        Some((Lexeme::Sign(Sign::OpenParen), rest)) => in_parens(alloc, depth, rest),
+        Some((Lexeme::Sign(sign), rest)) => match pre_of(sign) {
+            Some(pre) => {
+                let (operand, rest) = expression_at(alloc, depth, unary_level(), rest)?;
+                Ok((prefixed(alloc, pre, operand)?, rest))
+            }
+            None => Err(Stop::NoTree),
+        },
+        _ => Err(Stop::NoTree),
+    }
+}
+
+/// What begins with a name.
+#[cycle(expression)]
+#[tactic(auto, unfolding(lucid_parse_grammar::specs::ReadExpression::named))]
+fn named<'a>(
+    alloc: Global,
+    depth: usize,
+    name: Ascii<'a>,
+    tokens: Tokens<'a>,
+) -> Result<(E, Tokens<'a>), Stop>
+    ensures { Reads result (spec.named (spec.expression_at depth) name.entry.bytes.now (said tokens.entry)) }
+{
+    match after(Sign::OpenParen, tokens) {
+        None => Ok((E::Name(Id::new(alloc, name.bytes)?), tokens)),
+        Some(rest) => {
+            let (arguments, rest) = arguments(alloc, depth, rest)?;
+            Ok((called(alloc, name, arguments)?, rest))
+        }
+    }
+}
+
+/// What a call is given, behind its open parenthesis.
+#[cycle(expression)]
+#[tactic(auto, unfolding(lucid_parse_grammar::specs::ReadExpression::arguments))]
+fn arguments(alloc: Global, depth: usize, tokens: Tokens) -> Result<(Items<E>, Tokens), Stop>
+    ensures { Reads result (spec.arguments (spec.expression_at depth) (said tokens.entry)) }
+{
+    match after(Sign::CloseParen, tokens) {
+        Some(rest) => Ok((Items::new(alloc), rest)),
+        None => {
+            let (all, rest) = expressions(alloc, depth, tokens)?;
+            let rest = expect(Sign::CloseParen, rest)?;
+            Ok((all, rest))
+        }
+    }
+}
+
+/// Expressions with commas between them.
+#[cycle(expression)]
+#[tactic(auto, unfolding(lucid_parse_grammar::specs::Reader::separated, lucid_parse_grammar::specs::Reader::repeat))]
+fn expressions(alloc: Global, depth: usize, tokens: Tokens) -> Result<(Items<E>, Tokens), Stop>
+    ensures { Reads result (separated (spec.expression_at depth disjunction) (said tokens.entry)) }
+{
+    let (first, mut rest) = expression_at(alloc, depth, DISJUNCTION, tokens)?;
+    let mut all = Items::new(alloc);
+    all.push(first)?;
+    for _turn in 0..rest.len() {
+        match after(Sign::Comma, rest) {
+            None => return Ok((all, rest)),
+            Some(more) => {
+                let (next, after) = expression_at(alloc, depth, DISJUNCTION, more)?;
+                all.push(next)?;
+                rest = after;
+            }
+        }
+    }
+    Ok((all, rest))
+}
+
+/// Passes over `.time()`.
+#[tactic(auto, unfolding(lucid_parse_grammar::specs::ReadExpression::after_time))]
+fn expect_time(tokens: Tokens) -> Result<Tokens, Stop>
+    ensures { Leaves result (spec.after_time (said tokens.entry)) }
+{
+    let rest = expect(Sign::Dot, tokens)?;
+    let rest = expect_name(b"time", rest)?;
+    let rest = expect(Sign::OpenParen, rest)?;
+    expect(Sign::CloseParen, rest)
+}
+
+/// The width of a hash, up to the open parenthesis.
+#[tactic(auto, unfolding(lucid_parse_grammar::specs::ReadExpression::hash_head))]
+fn hash_head(tokens: Tokens) -> Result<(u64, Tokens), Stop>
+    ensures { Reads result (spec.hash_head (said tokens.entry)) }
+{
+    let (width, rest) = width(tokens)?;
+    let rest = expect(Sign::OpenParen, rest)?;
+    Ok((width, rest))
+}
+
+/// Behind an open parenthesis: the type of a cast and its operand, or an expression.
+#[cycle(expression)]
+#[tactic(auto, unfolding(lucid_parse_grammar::specs::ReadExpression::in_parens))]
+fn in_parens(alloc: Global, depth: usize, tokens: Tokens) -> Result<(E, Tokens), Stop>
+    ensures { Reads result (spec.in_parens (spec.expression_at depth) (said tokens.entry)) }
+{
+    match tokens.split() {
+        Some((Lexeme::Word(Word::Int), rest)) => {
+            let (width, rest) = width_if(rest)?;
+            let rest = expect(Sign::CloseParen, rest)?;
+            let (operand, rest) = expression_at(alloc, depth, unary_level(), rest)?;
+            Ok((cast(alloc, width, operand)?, rest))
+        }
+        _ => {
+            let (inner, rest) = expression_at(alloc, depth, DISJUNCTION, tokens)?;
+            let rest = expect(Sign::CloseParen, rest)?;
+            Ok((in_parentheses(alloc, inner)?, rest))
+        }
+    }
+}

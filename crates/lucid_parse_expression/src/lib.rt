@@ -1,0 +1,26 @@
+// What tokens begin with: single tokens, widths and types, lists with commas, expressions. Each function takes a part off the front
+// of the tokens as lucid_parse_grammar's definitions read it, and gives what is left with it, unless memory runs out. What the grammar
+// sees of the tokens is a list of lexemes (`said`). Stands on lucid_parse_grammar, lucid_lex for tokens and lucid_parse_tree for trees.
+#![tactic(auto)]
+
+mod array;
+mod ascii;
+mod commas;
+mod error;
+mod expressions;
+mod lexeme;
+mod nodes;
+mod operator;
+mod parts;
+mod tokens;
+
+pub use ascii::Ascii;
+pub use commas::separated;
+pub use error::Stop;
+pub use expressions::{array_call, call_arguments, expression, operands};
+pub use lexeme::Lexeme;
+pub use parts::{
+    after, after_name, array_type, expect, expect_name, expect_word, name, number, some, ty,
+    typed_name,
+};
+pub use tokens::Tokens;

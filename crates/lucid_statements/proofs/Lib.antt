@@ -1,4 +1,0 @@
-pub mod Chains
-pub mod Holes
-pub mod Onto
-pub mod Places

@@ -1,4 +1,0 @@
-pub mod Arms
-pub mod Assembly
-pub mod Bodies
-pub mod Places

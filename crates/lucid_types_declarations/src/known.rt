@@ -1,0 +1,52 @@
+// What is known while declarations are typed.
+ghost use Rattle.std.specs.Prelude.{◌≡◌, ◌∷◌, OnOk};
+ghost use Rattle.lucid_types_rules.specs.Declaration.{start};
+ghost use Rattle.lucid_types_rules.specs.Names.{called};
+ghost use Rattle.lucid_types_declarations.specs.Known.{made_of};
+
+use lucid_base::{ArrayDef, Id, Items, Memory};
+use lucid_core::{EventDef, FunDef, HandlerDef, MemopDef};
+use lucid_types_rules::{Entry, Named};
+use lucid_types_scope::Scope;
+use lucid_types_statements::{Numbering, Texts};
+use std::alloc::Global;
+
+/// The names in scope, what is numbered, and the parts of the core so far. The numbered locals are those of the last body.
+#[derive(Drop)]
+pub struct Known {
+    pub scope: Scope,
+    pub numbering: Numbering,
+    pub arrays: Vec<ArrayDef>,
+    pub memops: Vec<MemopDef>,
+    pub events: Vec<EventDef>,
+    pub funs: Vec<FunDef>,
+    pub handlers: Vec<HandlerDef>,
+}
+
+impl Known {
+    /// Before the first declaration.
+    pub fn new(alloc: Global) -> Known
+        ensures { made_of result ≡ start }
+    {
+        Known {
+            scope: Scope::new(alloc),
+            numbering: Numbering {
+                locals: Items::new(alloc),
+                forms: Texts::new(alloc),
+            },
+            arrays: Vec::new(alloc),
+            memops: Vec::new(alloc),
+            events: Vec::new(alloc),
+            funs: Vec::new(alloc),
+            handlers: Vec::new(alloc),
+        }
+    }
+}
+
+/// Adds a name with what it stands for.
+pub fn enter(alloc: Global, scope: &mut Scope, n: &Id, entry: Entry) -> Result<(), Memory>
+    ensures { OnOk result (scope.new ≡ called n.now entry ∷ scope.old) }
+{
+    let name = n.copy(alloc)?;
+    scope.enter(Named { name, entry })
+}

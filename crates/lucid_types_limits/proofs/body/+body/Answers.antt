@@ -1,0 +1,43 @@
+use Rattle.std.proofs.Common.{◌≡◌, ◌+◌, ◌&&◌, true, map, rules, sym, ap, ◌∙◌}
+use Rattle.lucid_core.specs.declared.body.Stmt.{Stmt}
+use Rattle.lucid_core.specs.Numbers.{all_hold}
+use Rattle.lucid_core.specs.OutCount.{expr_outs, stmt_outs, total}
+use Rattle.lucid_core.specs.Few.{expr_few, stmt_few}
+use Rattle.lucid_types_limits.specs.Tally.{in_turn, tally}
+use Rattle.lucid_types_limits.proofs.Forms.{gen_is, left_out_few, left_out_outs, multi_is}
+use Rattle.lucid_types_limits.proofs.Tallies.{next}
+use Rattle.lucid_types_limits.proofs.body.+body.Goals as goal
+
+pub stmts-loop-s-preserved : goal.stmts-loop-s-preserved
+stmts-loop-s-preserved t c =
+    next stmt_outs stmt_few c.args.funs.now c.args.ss.now c.loop-s.s-index c.s-item.result c.loop-s.sum c.stmt.result c.and-sum.result c.loop-s-test.true (sym c.s-item.is) c.and-sum.ensures
+    c.loop-s.invariant c.stmt.ensures
+
+pub exprs-loop-e-preserved : goal.exprs-loop-e-preserved
+exprs-loop-e-preserved t c =
+    next expr_outs expr_few c.args.funs.now c.args.es.now c.loop-e.e-index c.e-item.result c.loop-e.sum c.expr.result c.and-sum.result c.loop-e-test.true (sym c.e-item.is) c.and-sum.ensures
+    c.loop-e.invariant c.expr.ensures
+
+pub arguments-loop-e-preserved : goal.arguments-loop-e-preserved
+arguments-loop-e-preserved t c =
+    next (λ g. expr_outs g.1) (λ g. expr_few g.1) c.args.funs.now c.args.given.now c.loop-e.e-index c.loop-e-item.result c.loop-e.sum c.expr.result c.and-sum.result c.loop-e-test.true
+    (sym c.loop-e-item.is) c.and-sum.ensures c.loop-e.invariant c.expr.ensures
+
+pub stmt-returns-in-Gen : goal.stmt-returns-in-Gen
+stmt-returns-in-Gen t c =
+    let funs = c.args.funs.now in
+    let args : c.exprs.result ≡ in_turn expr_outs expr_few funs c.in-Gen.args = search rules in
+    let two = c.and-in-Gen.ensures _ _ _ _ args c.optional.ensures in
+    let three = c.and-in-Gen-2.ensures _ _ _ _ two c.optional-in-Gen.ensures in
+    c.and-in-Gen-3.ensures _ _ _ _ three c.outs.ensures ∙ sym (gen_is funs c.in-Gen.event c.in-Gen.args c.in-Gen.delay c.in-Gen.to c.in-Gen.delay_first)
+    ∙ ap (λ (s : Stmt). tally (stmt_outs s funs) (stmt_few s)) (sym c.in-Gen.is)
+
+pub stmt-returns-in-Multi : goal.stmt-returns-in-Multi
+stmt-returns-in-Multi t c =
+    let funs = c.args.funs.now in
+    let args : c.exprs-in-Multi.result ≡ in_turn expr_outs expr_few funs c.in-Multi.args = search rules in
+    let two = c.and-in-Multi.ensures _ _ _ _ args c.optional-in-Multi.ensures in
+    c.and-in-Multi-2.ensures _ _ _ _ two c.outs-in-Multi.ensures
+    ∙ ap (λ n. tally (total (map expr_outs c.in-Multi.args) funs + left_out_outs c.in-Multi.delay funs + n) (all_hold (map expr_few c.in-Multi.args) && left_out_few c.in-Multi.delay && true)) c.len.ensures
+    ∙ sym (multi_is funs c.in-Multi.event c.in-Multi.args c.in-Multi.delay c.in-Multi.members)
+    ∙ ap (λ (s : Stmt). tally (stmt_outs s funs) (stmt_few s)) (sym c.in-Multi.is)

@@ -1,0 +1,24 @@
+-- The value that a `match` tests.
+use Rattle.std.specs.Prelude.{◌≡◌, ℕ, List, Option, Some, Result, Ok, Err, ◌&&◌, not, length}
+use Rattle.lucid_core.specs.declared.body.Expr.{Expr}
+use Rattle.lucid_core.specs.Numbers.{are_distinct}
+use Rattle.lucid_parse_tree.specs.declared.tree.E.{E}
+use Rattle.lucid_types_rules.specs.Block.{Numbered, one_local}
+use Rattle.lucid_types_rules.specs.Names.{Names}
+use Rattle.lucid_types_function.specs.Lead.{or_32}
+use Rattle.lucid_types_function.specs.Partial.{when}
+use Rattle.lucid_types_function.specs.Reading.{free, reading}
+use Rattle.lucid_types_function.specs.Statement.{is_empty}
+use Rattle.lucid_types_expressions.specs.declared.fault.Fault.{Fault}
+use Rattle.lucid_types_expressions.specs.Gives.{Fails}
+use Rattle.lucid_types_statements.specs.declared.arms.Tested.{Tested}
+
+-- The value that is tested, where there is a case and no number twice.
+abbrev pub value_tested : E → List ℕ → Names → Option Expr
+value_tested x numbers s = when (not (is_empty numbers) && are_distinct numbers) (free (reading x) s)
+
+-- The value is put into a local of its width.
+abbrev pub Begins : Result Tested Fault → E → List ℕ → Names → Numbered → Numbered → Type 0
+Begins (Ok t) x numbers s old new =
+    (value_tested x numbers s ≡ Some t.value) × (t.width ≡ or_32 ((reading x).lead s)) × (t.local ≡ length old.locals) × (new ≡ one_local t.width old)
+Begins (Err f) x numbers s old new = Fails f (value_tested x numbers s)

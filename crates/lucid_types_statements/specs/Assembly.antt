@@ -1,0 +1,28 @@
+-- Bodies that are put together from the back.
+use Rattle.std.specs.Prelude.{◌≡◌, ℕ, List, [], ◌∷◌, Option, Some, Result, Ok, Err, reverse}
+use Rattle.lucid_core.specs.declared.body.Stmt.TheVariants.{If}
+use Rattle.lucid_core.specs.Endings.{of_either}
+use Rattle.lucid_types_rules.specs.declared.body.Body.{Body}
+use Rattle.lucid_types_rules.specs.Block.{is_number, one}
+use Rattle.lucid_types_expressions.specs.declared.fault.Fault.{Fault}
+use Rattle.lucid_types_expressions.specs.Gives.{Fails}
+use Rattle.lucid_types_statements.specs.declared.arms.Arm.{Arm}
+use Rattle.lucid_types_statements.specs.declared.assembly.Rest.{Rest}
+
+abbrev pub rest_of : Rest → Body
+rest_of r = record { steps = reverse r.steps.items; ending = r.ending }
+
+abbrev pub GivesRest : Result Rest Fault → Option Body → Type 0
+GivesRest (Ok r) o = o ≡ Some (rest_of r)
+GivesRest (Err f) o = Fails f o
+
+-- Where something stands behind.
+abbrev pub GivesSome : Result Rest Fault → Option (Option Body) → Type 0
+GivesSome (Ok r) o = o ≡ Some (Some (rest_of r))
+GivesSome (Err f) o = Fails f o
+
+-- A choice for each arm on this local of this width, whose second branch is all that follows.
+abbrev pub chained : ℕ → ℕ → List Arm → Body → Body
+chained i w [] last = last
+chained i w (x ∷ xs) last =
+    one (If (is_number i w x.number) x.body.steps (chained i w xs last).steps) (of_either x.body.ending (chained i w xs last).ending)

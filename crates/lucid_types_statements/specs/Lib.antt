@@ -1,0 +1,6 @@
+pub mod Arms
+pub mod Assembly
+pub mod Bodies
+pub mod Kept
+pub mod MatchArms
+pub mod Places

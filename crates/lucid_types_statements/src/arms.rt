@@ -1,0 +1,145 @@
+// The arms of a `match`.
+ghost use Rattle.std.specs.Prelude.{◌≡◌, ◌∷◌, [], ◌<◌, IfOk, length, map};
+ghost use Rattle.lucid_core.specs.declared.body.Stmt.TheVariants as core;
+ghost use Rattle.lucid_core.specs.Numbers.{are_distinct, is_in};
+ghost use Rattle.lucid_types_rules.specs.Block.{before, is_number};
+ghost use Rattle.lucid_types_statements.specs.Arms.{Begins};
+ghost use Rattle.lucid_types_statements.specs.Assembly.{chained};
+ghost use Rattle.lucid_types_statements.specs.Bodies.{numbered_of};
+
+use crate::Numbering;
+use crate::assembly::either;
+use lucid_base::{Bits, Boxed, CmpOp, Items, Memory, Width};
+use lucid_core::{Expr, Stmt};
+use lucid_parse_tree::{E, S};
+use lucid_types_expressions::{Fault, free, free_width};
+use lucid_types_rules::Body;
+use lucid_types_scope::Scope;
+use std::alloc::Global;
+
+/// A number and what is done where it is met.
+#[derive(Drop)]
+pub struct Arm {
+    pub number: u64,
+    pub body: Body,
+}
+
+/// Whether no case has the number of another.
+pub fn are_apart(cases: &[(u64, Items<S>)]) -> bool
+    ensures { result ≡ are_distinct (map (λ z. z.0) cases.now) }
+{
+    let mut at = 0usize;
+    'cases: while at < cases.len() {
+        if has(&cases[at + 1..], cases[at].0) {
+            return false;
+        }
+        at += 1;
+    }
+    true
+}
+
+fn has(cases: &[(u64, Items<S>)], number: u64) -> bool
+    ensures { result ≡ is_in (map (λ z. z.0) cases.now) number }
+{
+    for case in cases {
+        if case.0 == number {
+            return true;
+        }
+    }
+    false
+}
+
+/// The choices between these arms on a local, and what is done where none is met.
+#[tactic(auto, using(crate::proofs::Chains::chained_last, std::proofs::lemmas::Grind::common_steps))]
+pub fn chain(
+    alloc: Global,
+    local: u32,
+    width: Width,
+    arms: Items<Arm>,
+    last: Body,
+) -> Result<Body, Memory>
+    ensures { IfOk result (λ body. body ≡ chained local width arms last) }
+{
+    let mut arms = arms;
+    let mut rest = last;
+    'arms: while let Some(arm) = arms.pop() {
+        rest = choice(alloc, local, width, arm, rest)?;
+    }
+    Ok(rest)
+}
+
+fn choice(alloc: Global, local: u32, width: Width, arm: Arm, rest: Body) -> Result<Body, Memory>
+    ensures { IfOk result (λ body. body ≡ chained local width (arm ∷ []) rest) }
+{
+    let test = is_number(alloc, local, width, arm.number)?;
+    let Arm { number: _, body } = arm;
+    let ending = either(body.ending, rest.ending);
+    let Body {
+        steps: yes,
+        ending: _,
+    } = body;
+    let Body {
+        steps: no,
+        ending: _,
+    } = rest;
+    let mut steps = Items::new(alloc);
+    steps.push(Stmt::If(test, yes, no))?;
+    Ok(Body { steps, ending })
+}
+
+fn is_number(alloc: Global, local: u32, width: Width, number: u64) -> Result<Expr, Memory>
+    ensures { IfOk result (λ test. test ≡ is_number local width number) }
+{
+    Ok(Expr::Cmp(
+        CmpOp::Eq,
+        Boxed::new(alloc, Expr::Local(local))?,
+        Boxed::new(alloc, Expr::Fixed(Bits::low(width, number)))?,
+    ))
+}
+
+/// The local's value is assigned before the choices.
+pub fn behind_test(alloc: Global, local: u32, c: Expr, body: Body) -> Result<Body, Memory>
+    ensures { IfOk result (λ all. all ≡ before (core.Assign local c ∷ []) body) }
+{
+    let Body { steps, ending } = body;
+    let mut all = Items::new(alloc);
+    all.push(Stmt::Assign(local, c))?;
+    all.append(steps)?;
+    Ok(Body { steps: all, ending })
+}
+
+/// The local that a `match` tests, its width and its value.
+#[derive(Drop)]
+pub struct Tested {
+    pub local: u32,
+    pub width: Width,
+    pub value: Expr,
+}
+
+/// Its value goes into a local of its own. NoRule where there is no case, or two have one number, or it has no value.
+pub fn begin(
+    alloc: Global,
+    scope: &Scope,
+    numbering: &mut Numbering,
+    test: &E,
+    cases: &[(u64, Items<S>)],
+) -> Result<Tested, Fault>
+    ensures { Begins result test.now (map (λ z. z.0) cases.now) scope.now (numbered_of numbering.old) (numbered_of numbering.new) }
+{
+    if cases.is_empty() || !are_apart(cases) {
+        return Err(Fault::NoRule);
+    }
+    match Width::new(free_width(scope, test)) {
+        None => Err(Fault::NoRule),
+        Some(width) => {
+            let value = free(alloc, scope, test)?;
+            let local = numbering.next_local()?;
+            numbering.add_local(width)?;
+            Ok(Tested {
+                local,
+                width,
+                value,
+            })
+        }
+    }
+}

@@ -1,0 +1,20 @@
+// The cores of statements, and of the bodies of handlers and functions that they make up: each as the typing function gives it, or that
+// it gives none. Statements without a block, what a `generate` sends, how statements and the arms of a `match` are put together, and
+// the one walk over a body (`block`).
+#![tactic(auto)]
+
+mod arms;
+mod assembly;
+mod blocks;
+mod numbering;
+mod numbers;
+mod sendings;
+mod simple;
+mod texts;
+mod types;
+
+pub use blocks::block;
+pub use numbering::Numbering;
+pub use numbers::{next, number};
+pub use texts::Texts;
+pub use types::{type_of, width_of};

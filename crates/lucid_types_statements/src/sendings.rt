@@ -1,0 +1,177 @@
+// What a `generate` sends.
+ghost use Rattle.std.specs.Prelude.{◌≡◌, IfOk, map};
+ghost use Rattle.std.specs.Option.{option_copied};
+ghost use Rattle.lucid_types_rules.specs.Names.{seen};
+ghost use Rattle.lucid_types_rules.specs.Sends.{sent};
+ghost use Rattle.lucid_types_rules.specs.Types.{ints};
+ghost use Rattle.lucid_types_function.specs.Reading.{reading};
+ghost use Rattle.lucid_types_function.specs.Sending.{delayed, event_at, located, named_group, sending_of};
+ghost use Rattle.lucid_types_expressions.specs.Gives.{Gives};
+
+use lucid_base::{Id, Items, Memory, Width};
+use lucid_core::Stmt;
+use lucid_parse_tree::{E, V};
+use lucid_types_expressions::{Fault, bare, free, given};
+use lucid_types_function::Arguments;
+use lucid_types_rules::{Destination, Entry, Param, Sending, ValueType};
+use lucid_types_scope::Scope;
+use std::alloc::Global;
+
+/// What is sent, and where to. NoRule where the tree has none.
+pub fn sending(alloc: Global, scope: &Scope, x: &V) -> Result<Sending, Fault>
+    ensures { Gives result (sending_of x.now scope.now) }
+{
+    match x {
+        V::Paren(x) => sending(alloc, scope, x.get()),
+        V::Call(n, xs) => event(alloc, scope, n, xs.as_slice()),
+        V::Delay(x, y) => {
+            let inner = sending(alloc, scope, x.get())?;
+            delay(alloc, scope, inner, y)
+        }
+        V::Locate(x, y) => {
+            let inner = sending(alloc, scope, x.get())?;
+            locate(alloc, scope, inner, y)
+        }
+    }
+}
+
+fn event(alloc: Global, scope: &Scope, n: &Id, xs: &[E]) -> Result<Sending, Fault>
+    ensures { Gives result (event_at (seen n.now scope.now) (map reading xs.now) scope.now) }
+{
+    match scope.find(n) {
+        Some(Entry::Event(event, widths)) => {
+            let params = int_params(alloc, widths.as_slice())?;
+            let Arguments { names: _, values } = given(alloc, scope, params.as_slice(), xs)?;
+            Ok(Sending {
+                event: *event,
+                args: values,
+                delay: None,
+                to: Destination::Here,
+                delay_first: false,
+            })
+        }
+        _ => Err(Fault::NoRule),
+    }
+}
+
+/// The parameters of an event.
+fn int_params(alloc: Global, widths: &[Width]) -> Result<Items<Param>, Memory>
+    ensures { IfOk result (λ params. params ≡ ints widths.now) }
+{
+    let mut params = Items::new(alloc);
+    for width in widths {
+        params.push(Param::Value(ValueType::Int(*width)))?;
+    }
+    Ok(params)
+}
+
+fn delay(alloc: Global, scope: &Scope, sending: Sending, y: &E) -> Result<Sending, Fault>
+    ensures { Gives result (delayed (reading y.now) scope.now sending) }
+{
+    let Sending {
+        event,
+        args,
+        delay,
+        to,
+        delay_first,
+    } = sending;
+    match delay {
+        Some(_) => Err(Fault::NoRule),
+        None => {
+            let ticks = free(alloc, scope, y)?;
+            Ok(Sending {
+                event,
+                args,
+                delay: Some(ticks),
+                to,
+                delay_first,
+            })
+        }
+    }
+}
+
+fn locate(alloc: Global, scope: &Scope, sending: Sending, y: &E) -> Result<Sending, Fault>
+    ensures { Gives result (located (reading y.now) scope.now sending) }
+{
+    let Sending {
+        event,
+        args,
+        delay,
+        to,
+        delay_first,
+    } = sending;
+    match to {
+        Destination::Here => match members(scope, y) {
+            Some(members) => {
+                let members = Items::from_slice(alloc, members)?;
+                Ok(Sending {
+                    event,
+                    args,
+                    delay,
+                    to: Destination::Group(members),
+                    delay_first,
+                })
+            }
+            None => {
+                let switch = free(alloc, scope, y)?;
+                let delay_first = delay.is_some();
+                Ok(Sending {
+                    event,
+                    args,
+                    delay,
+                    to: Destination::Switch(switch),
+                    delay_first,
+                })
+            }
+        },
+        _ => Err(Fault::NoRule),
+    }
+}
+
+/// The members of the group whose bare name this is.
+fn members<'a>(scope: &'a Scope, y: &E) -> Option<&'a [u32]>
+    ensures { option_copied result ≡ named_group (reading y.now).bare scope.now }
+{
+    match bare(y) {
+        Some(n) => match scope.find(n) {
+            Some(Entry::Group(members)) => Some(members.as_slice()),
+            _ => None,
+        },
+        None => None,
+    }
+}
+
+/// What is sent, as a statement of a core.
+pub fn sent(sending: Sending) -> Stmt
+    ensures { result ≡ sent sending }
+{
+    let Sending {
+        event,
+        args,
+        delay,
+        to,
+        delay_first,
+    } = sending;
+    match to {
+        Destination::Here => Stmt::Gen {
+            event,
+            args,
+            delay,
+            to: None,
+            delay_first,
+        },
+        Destination::Switch(switch) => Stmt::Gen {
+            event,
+            args,
+            delay,
+            to: Some(switch),
+            delay_first,
+        },
+        Destination::Group(members) => Stmt::Multi {
+            event,
+            args,
+            delay,
+            members,
+        },
+    }
+}

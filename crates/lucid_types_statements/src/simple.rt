@@ -1,0 +1,144 @@
+// Statements without blocks.
+ghost use Rattle.std.specs.Prelude.{◌≡◌, IfOk};
+ghost use Rattle.lucid_types_rules.specs.Block.{Numbered, one};
+ghost use Rattle.lucid_core.specs.declared.ending.Ending.TheVariants.{Never};
+ghost use Rattle.lucid_types_function.specs.declared.part.Part.TheVariants.{Does};
+ghost use Rattle.lucid_types_function.specs.Statement.{assigned, call_dropped, declared, generated, printed, returned, touch_dropped};
+ghost use Rattle.lucid_types_expressions.specs.Gives.{Gives};
+ghost use Rattle.lucid_types_statements.specs.Bodies.{Leaves, Takes, numbered_of};
+
+use crate::Numbering;
+use crate::sendings::{self, sending};
+use crate::texts::holes;
+use crate::types::{type_of, width_of};
+use lucid_base::{Boxed, Id, Items, Memory};
+use lucid_core::{Ending, Expr, Stmt};
+use lucid_parse_tree::{A, E, Ty, V};
+use lucid_types_expressions::{Fault, all_free, call, expression, touch};
+use lucid_types_function::Part;
+use lucid_types_rules::{Body, Entry, Named, ValueType};
+use lucid_types_scope::Scope;
+use std::alloc::Global;
+
+/// A body of one statement.
+pub fn one(alloc: Global, step: Stmt, ending: Ending) -> Result<Body, Memory>
+    ensures { IfOk result (λ body. body ≡ one step ending) }
+{
+    let mut steps = Items::new(alloc);
+    steps.push(step)?;
+    Ok(Body { steps, ending })
+}
+
+/// A statement that never returns.
+pub fn does(alloc: Global, step: Stmt) -> Result<Part, Memory>
+    ensures { IfOk result (λ part. part ≡ Does (one step Never)) }
+{
+    let body = one(alloc, step, Ending::Never)?;
+    Ok(Part::Does(body))
+}
+
+/// A declared local, with its name and its number behind it. NoRule where its type or its value has none.
+pub fn declare(
+    alloc: Global,
+    scope: &mut Scope,
+    numbering: &mut Numbering,
+    t: Ty,
+    n: &Id,
+    x: &E,
+) -> Result<Part, Fault>
+    ensures { Takes result scope.new (numbered_of numbering.new) (declared t n.now x.now scope.old (numbered_of numbering.old)) }
+{
+    match type_of(t) {
+        None => Err(Fault::NoRule),
+        Some(t) => {
+            let c = expression(alloc, scope, t, x)?;
+            let local = numbering.next_local()?;
+            let part = does(alloc, Stmt::Assign(local, c))?;
+            numbering.add_local(width_of(t))?;
+            scope.enter(Named {
+                name: n.copy(alloc)?,
+                entry: Entry::Local(local, t),
+            })?;
+            Ok(part)
+        }
+    }
+}
+
+/// An assignment. NoRule where the name is no local's, or the value doesn't have its type.
+pub fn assign(alloc: Global, scope: &Scope, n: &Id, x: &E) -> Result<Stmt, Fault>
+    ensures { Gives result (assigned n.now x.now scope.now) }
+{
+    match scope.find(n) {
+        Some(Entry::Local(local, t)) => {
+            let c = expression(alloc, scope, *t, x)?;
+            Ok(Stmt::Assign(*local, c))
+        }
+        _ => Err(Fault::NoRule),
+    }
+}
+
+/// A call of a function, whose value is dropped.
+pub fn drop_call(alloc: Global, scope: &Scope, n: &Id, xs: &[E]) -> Result<Stmt, Fault>
+    ensures { Gives result (call_dropped n.now xs.now scope.now) }
+{
+    let (_, c) = call(alloc, scope, n, xs)?;
+    Ok(Stmt::Drop(c))
+}
+
+/// A call of an array, whose value is dropped.
+pub fn drop_touch(alloc: Global, scope: &Scope, x: &A) -> Result<Stmt, Fault>
+    ensures { Gives result (touch_dropped x.now scope.now) }
+{
+    let (_, c) = touch(alloc, scope, x)?;
+    Ok(Stmt::Drop(Expr::Array(Boxed::new(alloc, c)?)))
+}
+
+/// What is sent out.
+pub fn generate(alloc: Global, scope: &Scope, x: &V) -> Result<Stmt, Fault>
+    ensures { Gives result (generated x.now scope.now) }
+{
+    let out = sending(alloc, scope, x)?;
+    Ok(sendings::sent(out))
+}
+
+/// A print. NoRule where its arguments are not as many as its text has `%d`.
+pub fn print(
+    alloc: Global,
+    scope: &Scope,
+    numbering: &mut Numbering,
+    text: &Id,
+    xs: &[E],
+) -> Result<Body, Fault>
+    ensures { Leaves result (numbered_of numbering.new) (printed text.now xs.now scope.now (numbered_of numbering.old)) }
+{
+    let args = all_free(alloc, scope, xs)?;
+    if args.len() != holes(text.bytes()) {
+        return Err(Fault::NoRule);
+    }
+    let form = numbering.forms.number(alloc, text)?;
+    Ok(one(alloc, Stmt::Say { form, args }, Ending::Never)?)
+}
+
+/// A return in a body with this answer. NoRule where it gives a value and the answer is none, or the other way round.
+pub fn give_back(
+    alloc: Global,
+    answer: &Option<ValueType>,
+    scope: &Scope,
+    x: &Option<E>,
+) -> Result<Body, Fault>
+    ensures { (m : Numbered) → Leaves result m (returned answer.now x.now scope.now m) }
+{
+    match answer {
+        None => match x {
+            None => Ok(one(alloc, Stmt::Return(None), Ending::Always)?),
+            Some(_) => Err(Fault::NoRule),
+        },
+        Some(t) => match x {
+            None => Err(Fault::NoRule),
+            Some(x) => {
+                let c = expression(alloc, scope, *t, x)?;
+                Ok(one(alloc, Stmt::Return(Some(c)), Ending::Always)?)
+            }
+        },
+    }
+}

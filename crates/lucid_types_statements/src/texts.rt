@@ -1,0 +1,119 @@
+// The texts of prints.
+ghost use Rattle.std.specs.Prelude.{◌≡◌, ◌∷◌, ◌++◌, [], None, OnOk, bytes_eq, length, position};
+ghost use Rattle.lucid_core.specs.Texts.{holes_of};
+ghost use Rattle.lucid_types_rules.specs.Block.{form_number, one_form};
+ghost use Rattle.lucid_types_statements.specs.Bodies.{IsNumbered, is_hole};
+
+use crate::numbers::number;
+use lucid_base::{Id, Memory};
+use std::alloc::Global;
+use std::collections::HashMap;
+use std::marker::Model;
+
+/// How often `%d` stands in a text.
+#[tactic(auto, using(crate::proofs::Holes::holes_at, crate::proofs::Holes::no_holes, std::proofs::lemmas::Grind::common_steps))]
+pub fn holes(text: &[u8]) -> usize
+    ensures { result ≡ holes_of text.now }
+{
+    let mut count = 0usize;
+    let mut at = 0usize;
+    'text: while at + 1 < text.len() {
+        if is_hole(text[at], text[at + 1]) {
+            count += 1;
+            at += 2;
+        } else {
+            at += 1;
+        }
+    }
+    count
+}
+
+fn is_hole(first: u8, second: u8) -> bool
+    ensures { result ≡ is_hole first second }
+{
+    first == b'%' && second == b'd'
+}
+
+/// The texts of a program so far, which contracts see as the list of their bytes in the order of their numbers. A text is found at
+/// once, however many there are.
+#[derive(Drop)]
+pub struct Texts {
+    texts: Vec<Id>,
+    // For each text its place in `texts`.
+    places: HashMap<Id, usize>,
+}
+
+impl Model for Texts {
+    ghost use Rattle.std.specs.Prelude.{List, ℕ};
+
+    ghost Value = { List (List ℕ) };
+
+    ghost use Rattle.lucid_types_statements.specs.Places.{IsIndexed};
+
+    ghost view = { λ t. t.texts.items };
+
+    ghost invariant = { λ t. IsIndexed t.texts.items t.places };
+}
+
+impl Texts {
+    /// No texts.
+    pub fn new(alloc: Global) -> Texts
+        ensures { result ≡ [] }
+    {
+        Texts {
+            texts: Vec::new(alloc),
+            places: HashMap::new(alloc),
+        }
+    }
+
+    /// The number of a text, which is added where it is new. Memory is the answer past the last number that there is.
+    pub fn number(&mut self, alloc: Global, text: &Id) -> Result<u32, Memory>
+        ensures { IsNumbered result text.now self.old self.new }
+    {
+        match self.place_of(text) {
+            Some(place) => number(place),
+            None => {
+                let place = self.len();
+                self.add(alloc, text)?;
+                number(place)
+            }
+        }
+    }
+
+    /// The texts, in the order of their numbers.
+    pub fn into_vec(self) -> Vec<Id>
+        ensures { result.items ≡ self }
+    {
+        self.texts
+    }
+
+    fn len(&self) -> usize
+        ensures { result ≡ length self.now }
+    {
+        self.texts.len()
+    }
+
+    fn place_of(&self, text: &Id) -> Option<usize>
+        ensures { result ≡ position (bytes_eq text.now) self.now }
+    {
+        self.places.get(text).copied()
+    }
+
+    // Adds a text that is new.
+    fn add(&mut self, alloc: Global, text: &Id) -> Result<(), Memory>
+        requires { position (bytes_eq text.now) self.old ≡ None }
+        ensures { OnOk result (self.new ≡ self.old ++ text.now ∷ []) }
+    {
+        let key = text.copy(alloc)?;
+        let form = text.copy(alloc)?;
+        let place = self.texts.len();
+        self.texts.push(form)?;
+        match self.places.insert(key, place) {
+            Ok(_) => Ok(()),
+            Err(_) => {
+                self.texts.pop();
+                Err(Memory)
+            }
+        }
+    }
+}
