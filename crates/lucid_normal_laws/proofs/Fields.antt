@@ -1,6 +1,7 @@
 -- Fields that are written, what holds the locals, and what ops leave alone.
 use Rattle.std.proofs.Common.{◌≡◌, ℕ, zero, suc, ◌+◌, ◌^◌, ◌<◌, ◌≤◌, List, [], ◌∷◌, ◌++◌, Bool, true, false, not, ◌&&◌, Option, None, Some, length, map, refl, sym, ap, ap₂, ◌∙◌, arith, length-append, slice_index, slice_index_or, slice_set, nat_eq, nat_lt, if◌then◌else◌, is_some, true≢false, mod-eq_of_lt, le-ltb}
 use Rattle.std.specs.List.{AllByRecursion}
+use Rattle.std.proofs.lemmas.Bool.{ne_eqb}
 use Rattle.std.proofs.lemmas.List.{get_or_append_left}
 use Rattle.lucid_base.specs.Ops.{low_of}
 use Rattle.lucid_base.specs.declared.bits.Bits.{Bits}
@@ -184,8 +185,9 @@ slots_more n m (o ∷ os) h s = (omega (arith, s.0), slots_more n m os h s.1)
 pub put_last : (n : ℕ) (o : Out) (os : List (ℕ × Out)) → SlotsBelow n os → put_out n o os ≡ os ++ (n, o) ∷ []
 put_last n o [] s = refl
 put_last n o (p ∷ ps) s =
-    let e : nat_lt n p.0 ≡ false = le-ltb n p.0 (omega (arith, s.0)) in
-    ap (λ (b : Bool). if b then (n, o) ∷ (p ∷ ps) else p ∷ put_out n o ps) e ∙ ap (λ (q : List (ℕ × Out)). p ∷ q) (put_last n o ps s.1)
+    let before : nat_lt n p.0 ≡ false = le-ltb n p.0 (omega (arith, s.0)) in
+    let same : nat_eq n p.0 ≡ false = ne_eqb n p.0 (λ e. absurd (omega (arith, s.0, e))) in
+    ap₂ (λ (b c : Bool). if b then (n, o) ∷ (p ∷ ps) else if c then (n, o) ∷ ps else p ∷ put_out n o ps) before same ∙ ap (λ (q : List (ℕ × Out)). p ∷ q) (put_last n o ps s.1)
 
 pub slots_push : (n : ℕ) (o : Out) (os : List (ℕ × Out)) → SlotsBelow n os → SlotsBelow (n + 1) (os ++ (n, o) ∷ [])
 slots_push n o [] s = (omega arith, tt)
