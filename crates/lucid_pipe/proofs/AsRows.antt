@@ -17,7 +17,7 @@ use Rattle.lucid_tables.specs.Numbers.{is_in, none_shared}
 use Rattle.lucid_tables.specs.Placed.{PlacedParts}
 use Rattle.lucid_tables.specs.Stages.{stage, pass_from}
 use Rattle.lucid_pipe.specs.Packets.{Packet, meets, left_by, told, entering}
-use Rattle.lucid_pipe.specs.Pipe.{PipeParts, packet_at, gone, comes_out, entered}
+use Rattle.lucid_pipe.specs.Pipe.{PipeParts, packet_at, gone, comes_out, entered, runs_stage}
 use Rattle.lucid_pipe.specs.Rows.{chosen, own, owns, steps_of, rows_of, pipe_rows}
 use Rattle.lucid_pipe_stream.specs.Moves.{goes, entered_by}
 use Rattle.lucid_pipe_stream.specs.Rows.{Row, row, whole}
@@ -72,17 +72,14 @@ module _ (code : Parts) where
         ap₂ (λ (f : Fields) (outs : List (ℕ × Out)). record p { fields = f; outs = outs }) same.fields same.outs,
       )
 
-  abbrev made : List StageCode → Cells → ℕ → Packet → Machine
-  made stages cells k p = option_map_or (stage code (meets cells p)) (slice_get stages k) (meets cells p)
-
-  made_length : (stages : List StageCode) (cells : Cells) (k : ℕ) (p : Packet) → length (made stages cells k p).cells ≡ length cells
+  made_length : (stages : List StageCode) (cells : Cells) (k : ℕ) (p : Packet) → length (runs_stage code stages cells k p).cells ≡ length cells
   made_length [] cells k p = refl
   made_length (s ∷ stages) cells zero p = stage_length code (meets cells p) s
   made_length (s ∷ stages) cells (suc k) p = made_length stages cells k p
 
   -- the others leave the arrays of s
   made_leaves : (s : StageCode) (stages : List StageCode) (cells : Cells) (k : ℕ) (p : Packet) (g : ℕ) → AllByRecursion (KeepsToItsArrays code) stages → AllByRecursion (IsApart s) stages → is_in g s.arrays ≡ true →
-      row_of (made stages cells k p).cells g ≡ row_of cells g
+      row_of (runs_stage code stages cells k p).cells g ≡ row_of cells g
   made_leaves s [] cells k p g keeps apart i = refl
   made_leaves s (t ∷ stages) cells zero p g keeps apart i = keeps.0.others (meets cells p) g (apart.0 g i)
   made_leaves s (t ∷ stages) cells (suc k) p g keeps apart i = made_leaves s stages cells k p g keeps.1 apart.1 i
@@ -105,7 +102,7 @@ module _ (code : Parts) where
   rows_on : (stages : List StageCode) (slots : List (Option Packet)) (cells : Cells) (k : ℕ) (p : Packet) →
       AllByRecursion (KeepsToItsArrays code) stages → none_shared (λ (t : StageCode). t.arrays) stages ≡ true → length slots ≡ length stages → slice_get slots k ≡ Some (Some p) → suc k < length slots →
       goes (steps_of code stages) k (rows_of stages slots cells)
-      ≡ (rows_of stages (slice_set (slice_set slots k None) (suc k) (Some (left_by (made stages cells k p) p))) (made stages cells k p).cells, None)
+      ≡ (rows_of stages (slice_set (slice_set slots k None) (suc k) (Some (left_by (runs_stage code stages cells k p) p))) (runs_stage code stages cells k p).cells, None)
   rows_on [] [] cells k p keeps apart long here l = cc
   rows_on [] (x ∷ slots) cells k p keeps apart long here l = cc
   rows_on (s ∷ stages) [] cells k p keeps apart long here l = cc
@@ -121,7 +118,7 @@ module _ (code : Parts) where
       ∙ ap (λ (rs : List (Row Cells Packet)). (row (own s m.cells) None ∷ rs, None)) (sym (rows_stay s (t ∷ stages) (Some (left_by m p) ∷ slots) cells p keeps.0 (first_apart s (t ∷ stages) apart)))
   rows_on (s ∷ stages) (x ∷ slots) cells (suc k) p keeps apart long here l =
       let shorter : length slots ≡ length stages = cc in
-      let m = made stages cells k p in
+      let m = runs_stage code stages cells k p in
       ap (λ (later : List (Row Cells Packet) × Option Packet). (row (own s cells) x ∷ later.0, later.1)) (rows_on stages slots cells k p keeps.1 (rest_apart s stages apart) shorter here (omega (arith, l)))
       ∙ ap (λ (c : Cells). (row c x ∷ rows_of stages (slice_set (slice_set slots k None) (suc k) (Some (left_by m p))) m.cells, None))
       (same_own s cells m.cells (sym (made_length stages cells k p)) (λ g i. sym (made_leaves s stages cells k p g keeps.1 (first_apart s stages apart) i)))
@@ -130,7 +127,7 @@ module _ (code : Parts) where
   rows_last : (stages : List StageCode) (slots : List (Option Packet)) (cells : Cells) (k : ℕ) (p : Packet) →
       AllByRecursion (KeepsToItsArrays code) stages → none_shared (λ (t : StageCode). t.arrays) stages ≡ true → length slots ≡ length stages → slice_get slots k ≡ Some (Some p) → suc k ≡ length slots →
       goes (steps_of code stages) k (rows_of stages slots cells)
-      ≡ (rows_of stages (slice_set slots k None) (made stages cells k p).cells, Some (left_by (made stages cells k p) p))
+      ≡ (rows_of stages (slice_set slots k None) (runs_stage code stages cells k p).cells, Some (left_by (runs_stage code stages cells k p) p))
   rows_last [] [] cells k p keeps apart long here l = cc
   rows_last [] (x ∷ slots) cells k p keeps apart long here l = cc
   rows_last (s ∷ stages) [] cells k p keeps apart long here l = cc
@@ -145,7 +142,7 @@ module _ (code : Parts) where
   rows_last (s ∷ stages) (x ∷ slots) cells (suc k) p keeps apart long here l =
       let shorter : length slots ≡ length stages = cc in
       let nearer : suc k ≡ length slots = cc in
-      let m = made stages cells k p in
+      let m = runs_stage code stages cells k p in
       ap (λ (later : List (Row Cells Packet) × Option Packet). (row (own s cells) x ∷ later.0, later.1)) (rows_last stages slots cells k p keeps.1 (rest_apart s stages apart) shorter here nearer)
       ∙ ap (λ (c : Cells). (row c x ∷ rows_of stages (slice_set slots k None) m.cells, Some (left_by m p)))
       (same_own s cells m.cells (sym (made_length stages cells k p)) (λ g i. sym (made_leaves s stages cells k p g keeps.1 (first_apart s stages apart) i)))
@@ -200,7 +197,7 @@ go_rows placed keeps apart pipe k p is long here next =
     stages = pipe.placed.stages
 
     m : Machine
-    m = made code stages pipe.cells k p
+    m = runs_stage code stages pipe.cells k p
 
     more : k + 1 ≡ suc k
     more = omega arith

@@ -9,6 +9,7 @@ pub mod Idle
 mod Loading
 pub mod Moves
 mod OutLists
+mod Passes
 mod Places
 pub mod Settles
 pub mod Sizes

@@ -17,17 +17,13 @@ use Rattle.lucid_pipe.specs.declared.block.Block.{Block}
 use Rattle.lucid_pipe.specs.declared.passed.Passed.{Passed}
 use Rattle.lucid_pipe.specs.declared.slots.Slot.{Slot}
 use Rattle.lucid_pipe.specs.Packets.{Packet, meets, left_by, told, entering}
-use Rattle.lucid_pipe.specs.Pipe.{PipeParts, empty_pipe, packet_at, gone, comes_out, sizes}
+use Rattle.lucid_pipe.specs.Pipe.{PipeParts, empty_pipe, packet_at, gone, comes_out, runs_stage, sizes}
 use Rattle.lucid_pipe.specs.Laws.{MovesKeep}
 use Rattle.lucid_pipe.specs.Settled.{settled, with_left, with_pass}
 use Rattle.lucid_pipe.specs.Slots.{free_slots, block_at, handed, taken}
 use Rattle.lucid_pipe.specs.Views.{packet_of, passed_of, told_by, in_slot, pipe_of, IsBlock, IsPipe}
 use Rattle.lucid_pipe.proofs.Sizes.{made_sizes}
 use Rattle.lucid_pipe.proofs.Handing.{blocks_of, same_length, stay_apart, stay_there, block_below, blocks_stay, moved_view, entered_view, own_block, packet_in, no_packet}
-
--- what the packet makes of stage k
-abbrev pub made : PlacedParts → List (List ℕ) → ℕ → Packet → Machine
-made placed cells k p = option_map_or (stage placed.code (meets cells p)) (slice_get placed.stages k) (meets cells p)
 
 pub zeros_long : (arrays : List ArrayDef) → length (zero_cells arrays) ≡ length arrays
 zeros_long [] = refl
@@ -44,9 +40,9 @@ module _ (placed : PlacedParts) (cells later : List (List ℕ)) (blocks : List B
     pub taken : block_at slots k ≡ Some b
     pub was : x ≡ slice_index_or blocks b x
     pub is : IsBlock placed.code y
-    pub packet : packet_of placed.code y ≡ left_by (made placed cells k (packet_of placed.code x)) (packet_of placed.code x)
+    pub packet : packet_of placed.code y ≡ left_by (runs_stage placed.code placed.stages cells k (packet_of placed.code x)) (packet_of placed.code x)
     pub idle : (g : ℕ) → stage_of placed.stages g ≡ None → row_of later g ≡ row_of cells g
-    pub after : later ≡ (made placed cells k (packet_of placed.code x)).cells
+    pub after : later ≡ (runs_stage placed.code placed.stages cells k (packet_of placed.code x)).cells
 
   below : Runs → b < length blocks
   below r = block_below (length blocks) slots k b r.pipe.there r.taken

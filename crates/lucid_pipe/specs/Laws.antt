@@ -1,5 +1,5 @@
 -- Laws of pipes.
-use Rattle.std.specs.Prelude.{◌≡◌, ℕ, ◌+◌, List, None, Some, true, length, slice_get}
+use Rattle.std.specs.Prelude.{◌≡◌, ℕ, ◌+◌, List, ◌++◌, None, Some, true, length, slice_get}
 use Rattle.lucid_base.specs.declared.event.Event.{Event}
 use Rattle.std.specs.Option.{option_map}
 use Rattle.lucid_base.specs.Cells.{row_of, zero_cells}
@@ -7,6 +7,7 @@ use Rattle.lucid_tables.specs.declared.stage.StageCode.{StageCode}
 use Rattle.lucid_tables.specs.Numbers.{is_in}
 use Rattle.lucid_tables.specs.Placed.{PlacedParts, stage_of}
 use Rattle.lucid_tables.specs.Stages.{pass_from, pass}
+use Rattle.lucid_pipe.specs.Moves.{Move, after_moves}
 use Rattle.lucid_pipe.specs.Packets.{Packet, meets, left_by, told, entering, sent_by}
 use Rattle.lucid_pipe.specs.Pipe.{PipeParts, packet_at, gone, comes_out, entered}
 use Rattle.lucid_pipe.specs.Rows.{own, owns, by_array, steps_of, pipe_rows}
@@ -20,6 +21,12 @@ pub record MovesKeep (placed : PlacedParts) : Type 0 where
       settled pipe ≡ with_left (comes_out pipe k p) (settled (gone pipe k p))
   pub enter : (pipe : PipeParts) (event : Event) (now me : ℕ) → pipe.placed ≡ placed → length pipe.slots ≡ length placed.stages → packet_at pipe 0 ≡ None →
       settled (entered pipe event now me) ≡ with_pass placed event now me (settled pipe)
+
+-- Whatever the list of moves of a pipe that was empty: its cells, once all that is in flight has run to its end, are those after whole
+-- passes of the events that entered, in their order, and what was sent out is what these sent, packet by packet.
+pub record MovesArePasses (placed : PlacedParts) : Type 0 where
+  pub cells : (moves : List Move) → let f = after_moves placed moves in (settled f.pipe).cells ≡ f.passes.cells
+  pub outs : (moves : List Move) → let f = after_moves placed moves in f.left ++ (settled f.pipe).outs ≡ f.passes.outs
 
 -- A pipe moves as its rows do, and a whole pass through its rows is a pass through its stages.
 pub record MovesAsRows (placed : PlacedParts) : Type 0 where

@@ -1,5 +1,5 @@
 -- A pipe as rows (lucid_pipe_stream): each stage with the cells of its own arrays, and the packet before it.
-use Rattle.std.specs.Prelude.{ℕ, suc, List, [], ◌∷◌, Option, Bool, if◌then◌else◌, length, map, slice_get, slice_index_or}
+use Rattle.std.specs.Prelude.{ℕ, suc, List, [], ◌∷◌, Option, Bool, if◌then◌else◌, length, map, slice_index_or}
 use Rattle.std.specs.List.{range_with_len}
 use Rattle.std.specs.Option.{option_map_or}
 use Rattle.lucid_base.specs.Cells.{row_of, zero_cells}
@@ -8,9 +8,8 @@ use Rattle.lucid_code.specs.Parts.{Parts}
 use Rattle.lucid_tables.specs.declared.stage.StageCode.{StageCode}
 use Rattle.lucid_tables.specs.Numbers.{is_in}
 use Rattle.lucid_tables.specs.Placed.{stage_of}
-use Rattle.lucid_tables.specs.Stages.{stage}
-use Rattle.lucid_pipe.specs.Packets.{Packet, meets, left_by}
-use Rattle.lucid_pipe.specs.Pipe.{PipeParts}
+use Rattle.lucid_pipe.specs.Packets.{Packet, left_by}
+use Rattle.lucid_pipe.specs.Pipe.{PipeParts, runs_stage}
 use Rattle.lucid_pipe_stream.specs.Rows.{Row, Steps, row}
 
 -- The cells of the arrays that pass a test; the others have none. Arrays are numbered from g.
@@ -28,7 +27,7 @@ owns (s ∷ stages) cells = own s cells ∷ owns stages cells
 
 abbrev pub steps_of : Parts → List StageCode → Steps (List (List ℕ)) Packet
 steps_of code stages k cells p =
-    let m = option_map_or (stage code (meets cells p)) (slice_get stages k) (meets cells p) in
+    let m = runs_stage code stages cells k p in
     (m.cells, left_by m p)
 
 abbrev pub rows_of : List StageCode → List (Option Packet) → List (List ℕ) → List (Row (List (List ℕ)) Packet)

@@ -1,39 +1,35 @@
-// A pipe of stages.
-ghost use Rattle.std.specs.Prelude.{◌≡◌, ℕ, List, ◌+◌, ◌<◌, ◌≤◌, ◌↔◌, None, Some, Ok, Err, length, nat_lt, if◌then◌else◌, is_some, map, slice_get, slice_set, IsSome, IsErr, IfOk, IfErr, OnOk, OnErr, IfSome};
+// A pipe, as its callers see it. How packets move in its memory is in moving.rt.
+ghost use Rattle.std.specs.Prelude.{◌≡◌, ℕ, List, ◌+◌, ◌↔◌, None, Err, length, is_some, IsSome, IsErr, IfOk, IfErr, OnOk, OnErr, IfSome};
 ghost use Rattle.std.specs.List.{AllByRecursion};
-ghost use Rattle.std.specs.Option.{option_map_or};
 ghost use Rattle.lucid_base.specs.Cells.{cell_at, row_of, zero_cells};
 ghost use Rattle.lucid_base.specs.declared.event.Event.{Event as EventParts};
-ghost use Rattle.lucid_code.specs.Run.{run_code};
 ghost use Rattle.lucid_code.specs.Inputs.{IsInput};
+ghost use Rattle.lucid_code.specs.Run.{run_code};
 ghost use Rattle.lucid_tables.specs.Laws.{KeepsToItsArrays};
 ghost use Rattle.lucid_tables.specs.Placed.{IsPlaced, stage_of};
-ghost use Rattle.lucid_tables.specs.Stages.{pass, stage};
+ghost use Rattle.lucid_tables.specs.Stages.{pass};
 ghost use Rattle.lucid_pipe.specs.Laws.{MovesKeep, MovesAsRows};
 ghost use Rattle.lucid_pipe.specs.declared.passed.Stuck.TheVariants as stuck;
-ghost use Rattle.lucid_pipe.specs.Blocks.{machine};
-ghost use Rattle.lucid_pipe.specs.Packets.{meets, left_by, entering};
 ghost use Rattle.lucid_pipe.specs.Pipe.{empty_pipe, packet_at, gone, comes_out, entered, in_flight, sizes};
 ghost use Rattle.lucid_pipe.specs.Settled.{settled, with_left, with_pass};
 ghost use Rattle.lucid_pipe.specs.Sights.{sight_of, PlacesFall};
-ghost use Rattle.lucid_pipe.specs.Slots.{block_at, taken};
-ghost use Rattle.lucid_pipe.specs.Views.{packet_of, in_slot, pipe_of, passed_of, told_by, IsBlock, IsPipe};
 
-use crate::block::Block;
+use crate::block::{Block, new_blocks, passed};
 use crate::laws::{moves_as_rows, moves_keep};
-use crate::slots::{Slot, block_at, free_slots, hand_on, places};
-use crate::stage::execute;
+use crate::moving::{enter, go_on};
+use crate::slots::{Slot, block_at, free_slots, places, taken_slots};
 use crate::{Busy, Passed, Sight, Stuck};
 use lucid_base::{Cells, Event, Items, Memory};
 use lucid_tables::Placed;
 use std::alloc::Global;
 use std::marker::Model;
 
-/// The stages of a placed code with a packet before each, or none, and the cells of its arrays. Contracts see these.
+/// The stages of a placed code, the cells of its arrays, and before each stage a slot for one packet. Contracts see these.
 #[derive(Drop)]
 pub struct Pipe<'a> {
     placed: &'a Placed,
     cells: Cells,
+    /// As many blocks as slots: the memory of the packets.
     blocks: Vec<Block>,
     slots: Vec<Slot>,
 }
@@ -50,7 +46,8 @@ impl<'a> Model for Pipe<'a> {
 }
 
 impl<'a> Pipe<'a> {
-    /// A pipe without packets, in which all cells are 0. It takes the memory of all cells and of a packet for each slot.
+    /// A pipe without packets, in which all cells are 0. It takes all the memory that the pipe ever needs: that of the cells, and a block of
+    /// registers for each slot.
     #[tactic(auto, using(crate::proofs::Moves::starts_pipe, crate::proofs::Moves::starts))]
     pub fn new(alloc: Global, placed: &'a Placed) -> Result<Pipe<'a>, Memory>
         ensures { IfOk result (λ pipe. pipe ≡ empty_pipe placed.now) }
@@ -67,7 +64,9 @@ impl<'a> Pipe<'a> {
         })
     }
 
-    /// Puts an event before the first stage, with at most as many arguments as the code has fields for them.
+    /// An event becomes a packet in slot 0, before stage 0, at the tick `now` and the switch `me`. It has at most as many arguments as the
+    /// code has fields for them, each of which fits its field. Busy exactly where slot 0 is taken: then the pipe is as it was, and the event
+    /// comes back. It takes no memory.
     #[tactic(auto, using(crate::proofs::Moves::pipe_long))]
     pub fn enter(&mut self, event: Event, now: u64, me: u32) -> Result<(), Busy>
         requires { IsInput self.old.placed.code me event }
@@ -94,7 +93,10 @@ impl<'a> Pipe<'a> {
         Ok(())
     }
 
-    /// The packet in slot `k` executes stage `k` and moves on, or comes out where that is the last.
+    /// The packet in slot `k` executes stage `k` and moves on to the next slot, or leaves the pipe where that was the last stage: then it is
+    /// told of. Empty exactly where there is no slot `k` or no packet in it; Ahead exactly where there is one and the next slot is taken.
+    /// After both the pipe is as it was. It takes no memory and copies no field. It is inlined, since its result is large and a caller that
+    /// matches it in place then pays for no copy.
     #[inline(always)]
     #[tactic(auto, using(crate::proofs::Moves::pipe_long))]
     pub fn go(&mut self, k: usize) -> Result<Option<Passed>, Stuck>
@@ -120,7 +122,8 @@ impl<'a> Pipe<'a> {
         }
     }
 
-    /// What a cell of a declared array holds. Cell `i` is `i` modulo the size.
+    /// What a cell of an array holds now. Cell `i` is `i` modulo the size; an array that isn't declared holds 0, and so does one that stands
+    /// in no stage.
     #[tactic(auto, using(crate::proofs::Idle::zero_row))]
     pub fn look(&self, array: u32, cell: u64) -> u64
         ensures value { result ≡ cell_at self.now.cells array cell }
@@ -129,7 +132,37 @@ impl<'a> Pipe<'a> {
         self.cells.get(array, cell)
     }
 
-    /// What is seen of the pipe of a switch.
+    /// How many packets are in the pipe.
+    #[tactic(auto, using(crate::proofs::Moves::same_count))]
+    pub fn packets(&self) -> usize
+        ensures { result ≡ in_flight self.now }
+    {
+        taken_slots(self.slots.as_slice())
+    }
+
+    /// Whether a packet is in slot `k`; false where there is no such slot.
+    pub fn slot(&self, k: usize) -> bool
+        ensures { result ≡ is_some (packet_at self.now k) }
+    {
+        block_at(self.slots.as_slice(), k).is_some()
+    }
+
+    /// How many stages there are, and so slots.
+    pub fn stages(&self) -> usize
+        ensures slots { result ≡ length self.now.slots }
+        ensures placed { result ≡ length self.now.placed.stages }
+    {
+        self.placed.stages().len()
+    }
+
+    /// The cells by array, in memory of their own.
+    pub fn rows(&self, alloc: Global) -> Result<Items<Items<u64>>, Memory>
+        ensures { IfOk result (λ rows. rows ≡ self.now.cells) }
+    {
+        self.cells.rows(alloc)
+    }
+
+    /// What a watch sees of the pipe of a switch.
     #[tactic(auto, using(crate::proofs::Places::same_places))]
     pub(crate) fn sight(&self, alloc: Global, switch: u32) -> Result<Sight, Memory>
         ensures { IfOk result (λ sight. sight ≡ sight_of switch self.now) }
@@ -141,15 +174,8 @@ impl<'a> Pipe<'a> {
         })
     }
 
-    /// How many packets are in the pipe.
-    #[tactic(auto, using(crate::proofs::Moves::same_count))]
-    pub fn packets(&self) -> usize
-        ensures { result ≡ in_flight self.now }
-    {
-        packets(self.slots.as_slice())
-    }
-
-    /// The places of the packets, the oldest first, fall strictly and are those of the slots that are taken.
+    /// The places of the packets, the oldest first, fall strictly and are those of the slots that are taken. There are as many arrays as are
+    /// declared, and one that stands in no stage holds 0. It does nothing.
     #[tactic(auto, using(crate::proofs::Places::places_fall, crate::proofs::Moves::pipe_long, crate::proofs::Moves::many_arrays))]
     pub fn places_fall(&self)
         ensures law { PlacesFall self.now }
@@ -160,8 +186,8 @@ impl<'a> Pipe<'a> {
         let _slots = self.slots.len();
     }
 
-    /// What is true of each pipe: the laws of its code, that its stages are placed and keep to their arrays, and what its cells are beside
-    /// what the stages do. It does nothing.
+    /// What is true of each pipe, for a caller that has a pipe and not its placed code: the laws of its moves, that its stages are placed,
+    /// keep to their arrays and do what the code does, and what its cells are beside what the stages do. It does nothing.
     #[tactic(auto, using(crate::proofs::Moves::pipe_long))]
     pub fn keeps_laws(&self)
         ensures keep { MovesKeep self.now.placed }
@@ -179,174 +205,5 @@ impl<'a> Pipe<'a> {
         let _code = self.placed.code();
         let _stages = self.placed.stages();
         let _slots = self.slots.len();
-    }
-
-    /// The cells, by array, in memory of their own.
-    pub fn rows(&self, alloc: Global) -> Result<Items<Items<u64>>, Memory>
-        ensures { IfOk result (λ rows. rows ≡ self.now.cells) }
-    {
-        self.cells.rows(alloc)
-    }
-
-    /// How many stages there are.
-    pub fn stages(&self) -> usize
-        ensures slots { result ≡ length self.now.slots }
-        ensures placed { result ≡ length self.now.placed.stages }
-    {
-        self.placed.stages().len()
-    }
-
-    /// Whether a packet is in slot `k`.
-    pub fn slot(&self, k: usize) -> bool
-        ensures { result ≡ is_some (packet_at self.now k) }
-    {
-        block_at(self.slots.as_slice(), k).is_some()
-    }
-}
-
-/// As many blocks for packets of this code.
-fn new_blocks(alloc: Global, placed: &Placed, count: usize) -> Result<Vec<Block>, Memory>
-    ensures many { IfOk result (λ blocks. length blocks.items ≡ count) }
-    ensures registers { IfOk result (λ blocks. AllByRecursion (IsBlock placed.now.code) blocks.items) }
-{
-    let mut blocks = Vec::new(alloc);
-    for _number in 0..count {
-        blocks.push(Block::new(alloc, placed)?)?;
-    }
-    Ok(blocks)
-}
-
-/// The first slot, which is free, takes an event.
-fn enter(
-    placed: &Placed,
-    cells: &Cells,
-    blocks: &mut Vec<Block>,
-    slots: &mut Vec<Slot>,
-    event: Event,
-    now: u64,
-    me: u32,
-)
-    requires pipe { IsPipe placed.now cells.now blocks.old.items slots.old.items }
-    requires few { length event.args ≤ placed.now.code.inputs.args }
-    requires free { block_at slots.old.items 0 ≡ None }
-    ensures pipe { IsPipe placed.now cells.now blocks.new.items slots.new.items }
-    ensures enters { map (in_slot placed.now.code blocks.new.items) slots.new.items
-        ≡ slice_set (map (in_slot placed.now.code blocks.old.items) slots.old.items) 0 (Some (entering placed.now.code event now me)) }
-    ensures settles { settled (pipe_of placed.now cells.now blocks.new.items slots.new.items)
-        ≡ with_pass placed.now event now me (settled (pipe_of placed.now cells.now blocks.old.items slots.old.items)) }
-{
-    moves_keep(placed);
-    let here = slots[0];
-    blocks[here.block].load(placed, event, now, me);
-    slots[0] = Slot {
-        block: here.block,
-        taken: true,
-    };
-}
-
-/// How many slots are taken.
-fn packets(slots: &[Slot]) -> usize
-    ensures { result ≡ taken slots.now }
-{
-    let mut count = 0;
-    for slot in slots {
-        if slot.taken {
-            count += 1;
-        }
-    }
-    count
-}
-
-/// The packet in slot `k` moves on. Where it comes out, its block is told.
-fn go_on(
-    placed: &Placed,
-    cells: &mut Cells,
-    blocks: &mut Vec<Block>,
-    slots: &mut Vec<Slot>,
-    k: usize,
-) -> Result<Option<usize>, Stuck>
-    requires { IsPipe placed.now cells.old blocks.old.items slots.old.items }
-    ensures pipe { IsPipe placed.now cells.new blocks.new.items slots.new.items }
-    ensures empty { (result ≡ Err stuck.Empty) ↔ (packet_at (pipe_of placed.now cells.old blocks.old.items slots.old.items) k ≡ None) }
-    ensures ahead { let old = pipe_of placed.now cells.old blocks.old.items slots.old.items in
-        (result ≡ Err stuck.Ahead) ↔ (IsSome (packet_at old k) × IsSome (packet_at old (k + 1))) }
-    ensures stuck { OnErr result (pipe_of placed.now cells.new blocks.new.items slots.new.items ≡ pipe_of placed.now cells.old blocks.old.items slots.old.items) }
-    ensures goes { let old = pipe_of placed.now cells.old blocks.old.items slots.old.items in
-        OnOk result (IfSome (packet_at old k) (λ p. pipe_of placed.now cells.new blocks.new.items slots.new.items ≡ gone old k p)) }
-    ensures there { IfOk result (λ out. IfSome out (λ number. number < length blocks.new.items)) }
-    ensures out { let old = pipe_of placed.now cells.old blocks.old.items slots.old.items in
-        IfOk result (λ out. IfSome (packet_at old k) (λ p. told_by blocks.new.items out ≡ comes_out old k p)) }
-    ensures settles { IfOk result (λ out. settled (pipe_of placed.now cells.old blocks.old.items slots.old.items)
-        ≡ with_left (told_by blocks.new.items out) (settled (pipe_of placed.now cells.new blocks.new.items slots.new.items))) }
-{
-    let Some(number) = block_at(slots.as_slice(), k) else {
-        return Err(Stuck::Empty);
-    };
-    if block_at(slots.as_slice(), k + 1).is_some() {
-        return Err(Stuck::Ahead);
-    }
-    Ok(pass_on(placed, cells, blocks, slots, k, number))
-}
-
-/// The packet of a block, which stands in slot `k`, moves on. Where it comes out, its block is told.
-fn pass_on(
-    placed: &Placed,
-    cells: &mut Cells,
-    blocks: &mut Vec<Block>,
-    slots: &mut Vec<Slot>,
-    k: usize,
-    number: usize,
-) -> Option<usize>
-    requires pipe { IsPipe placed.now cells.old blocks.old.items slots.old.items }
-    requires taken { block_at slots.old.items k ≡ Some number }
-    requires free { block_at slots.old.items (k + 1) ≡ None }
-    ensures pipe { IsPipe placed.now cells.new blocks.new.items slots.new.items }
-    ensures goes { let old = pipe_of placed.now cells.old blocks.old.items slots.old.items in
-        IfSome (packet_at old k) (λ p. pipe_of placed.now cells.new blocks.new.items slots.new.items ≡ gone old k p) }
-    ensures there { IfSome result (λ number. number < length blocks.new.items) }
-    ensures out { let old = pipe_of placed.now cells.old blocks.old.items slots.old.items in
-        IfSome (packet_at old k) (λ p. told_by blocks.new.items result ≡ comes_out old k p) }
-    ensures settles { settled (pipe_of placed.now cells.old blocks.old.items slots.old.items)
-        ≡ with_left (told_by blocks.new.items result) (settled (pipe_of placed.now cells.new blocks.new.items slots.new.items)) }
-{
-    moves_keep(placed);
-    run(placed, k, &mut blocks[number], cells);
-    hand_on(slots, k);
-    comes_out(slots.len(), k, number)
-}
-
-/// The block of a packet that was in slot `k` of so many, where it came out.
-fn comes_out(count: usize, k: usize, number: usize) -> Option<usize>
-    requires { k < count }
-    ensures { result ≡ (if nat_lt (k + 1) count then None else Some number) }
-{
-    if k + 1 < count { None } else { Some(number) }
-}
-
-/// The packet of a block executes stage `k`.
-#[tactic(auto, using(crate::proofs::Idle::idle_stays))]
-fn run(placed: &Placed, k: usize, block: &mut Block, cells: &mut Cells)
-    requires block { IsBlock placed.now.code block.old }
-    requires there { k < length placed.now.stages }
-    ensures block { IsBlock placed.now.code block.new }
-    ensures packet { let before = meets cells.old (packet_of placed.now.code block.old) in
-        packet_of placed.now.code block.new ≡ left_by (option_map_or (stage placed.now.code before) (slice_get placed.now.stages k) before) (packet_of placed.now.code block.old) }
-    ensures cells { let before = meets cells.old (packet_of placed.now.code block.old) in
-        cells.new ≡ (option_map_or (stage placed.now.code before) (slice_get placed.now.stages k) before).cells }
-    ensures idle { (g : ℕ) → stage_of placed.now.stages g ≡ None → row_of cells.new g ≡ row_of cells.old g }
-{
-    placed.stages();
-    execute(placed, k, &mut block.registers, cells, &mut block.sent);
-}
-
-/// What is told of the packet of a block.
-fn passed(block: &Block) -> Passed
-    ensures { result ≡ passed_of block.now }
-{
-    Passed {
-        event: block.event,
-        now: block.tick,
-        me: block.me,
-        outs: block.sent.outs(),
     }
 }
