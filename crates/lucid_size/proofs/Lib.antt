@@ -21,3 +21,4 @@ mod Dealing
 mod Written
 mod Least
 mod Converse
+mod Plain

@@ -22,6 +22,7 @@ form_len m width forms.Width = length (decimal width) + 2
 form_len m width forms.Named = m + length (decimal width)
 form_len m width (forms.Use k size) = m + length (decimal (unwrap_or size width)) + 1
 
+-- how many bytes a step has in the instance of a width
 abbrev pub step_len : ℕ → ℕ → Step → ℕ
 step_len m width s = (s.token.span.end - s.from) + form_len m width s.form
 
@@ -29,6 +30,6 @@ step_len m width s = (s.token.span.end - s.from) + form_len m width s.form
 abbrev pub steps_len : ℕ → ℕ → List Step → ℕ
 steps_len m width ss = sum_by (step_len m width) ss
 
--- `fun`, a blank and a body
+-- how many bytes an instance has: `fun`, a blank and a body
 abbrev pub instance_len : ℕ → List (List Step) → Instance → ℕ
 instance_len m bodies i = 4 + steps_len m i.width (body_in bodies i.template)

@@ -28,6 +28,7 @@ start_of text (Some t) = t.span.start
 abbrev pub gap_before : List ℕ → List Token → ℕ → Piece
 gap_before text ts i = gap (slice_range text (end_before i ts) (start_of text (slice_get ts i)))
 
+-- the bytes of a token, if there is one
 abbrev pub bytes_in : List ℕ → Option Token → List ℕ
 bytes_in text None = []
 bytes_in text (Some t) = bytes_of text t

@@ -12,9 +12,11 @@ use Rattle.lucid_lex.specs.declared.token.Kind.TheVariants as kinds
 use Rattle.lucid_lex.specs.declared.sign.Sign.TheVariants as signs
 use Rattle.lucid_size.specs.declared.step.Form.TheVariants as forms
 
+-- a token with these bytes, or blanks and comments
 abbrev pub piece : List ℕ → Option Kind → Piece
 piece bytes kind = record { bytes = bytes; kind = kind }
 
+-- a name
 abbrev pub name_piece : List ℕ → Piece
 name_piece bytes = piece bytes (Some kinds.Name)
 
@@ -36,5 +38,6 @@ gap bytes = piece bytes None
 abbrev pub step_pieces : List ℕ → ℕ → ℕ → Step → List Piece
 step_pieces text m width s = gap (slice_range text s.from s.token.span.start) ∷ form_pieces m width (bytes_of text s.token) s.token.kind s.form
 
+-- one step after another
 abbrev pub pieces_of : List ℕ → ℕ → ℕ → List Step → List Piece
 pieces_of text m width ss = flat_map (step_pieces text m width) ss

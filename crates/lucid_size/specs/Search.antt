@@ -6,6 +6,7 @@ use Rattle.lucid_size.specs.declared.step.Instance.{Instance}
 use Rattle.lucid_size.specs.declared.step.Step.{Step}
 use Rattle.lucid_size.specs.Used.{uses, Used}
 
+-- the two are one instance
 abbrev pub same_instance : Instance → Instance → Bool
 same_instance i j = i.template == j.template && i.width == j.width
 
@@ -17,15 +18,17 @@ Sees found seen = (i : Instance) → contains same_instance seen i ≡ list_any 
 abbrev pub with_one : List Instance → Instance → List Instance
 with_one found i = if list_any (same_instance i) found then found else found ++ i ∷ []
 
+-- with all of these
 abbrev pub with_all : List Instance → List Instance → List Instance
 with_all found [] = found
 with_all found (i ∷ is) = with_all (with_one found i) is
 
--- the steps of a template's body
+-- these steps, if there are any
 abbrev pub or_none : Option (List Step) → List Step
 or_none None = []
 or_none (Some ss) = ss
 
+-- the steps of the template of this number
 abbrev pub body_in : List (List Step) → ℕ → List Step
 body_in bodies k = or_none (slice_get bodies k)
 

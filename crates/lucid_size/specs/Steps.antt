@@ -1,4 +1,5 @@
--- What becomes of the tokens of a part of a text, be it a template's or what stands outside all templates.
+-- What becomes of the tokens of a part of a text, be it a template's or what stands outside all templates: a use of a template is
+-- replaced, within a template its width too, and all other tokens stay. A step is a token with what stands before it.
 use Rattle.std.specs.Prelude.{ℕ, zero, suc, Bool, true, false, ◌&&◌, if◌then◌else◌, List, [], ◌∷◌, Option, Some, None, bytes_eq, position}
 use Rattle.lucid_lex.specs.declared.token.Kind.{Kind}
 use Rattle.lucid_lex.specs.declared.token.Kind.TheVariants as kinds
@@ -23,6 +24,7 @@ abbrev pub size_by : Bool → Kind → Option (Option ℕ)
 size_by own (kinds.Number n) = Some (Some n)
 size_by own k = if own then Some None else None
 
+-- the size that this token is
 abbrev pub size_of : List ℕ → Width → Token → Option (Option ℕ)
 size_of text width t = size_by (is_width text width t) t.kind
 
@@ -30,6 +32,7 @@ size_of text width t = size_by (is_width text width t) t.kind
 abbrev pub template_of : List (List ℕ) → List ℕ → Option ℕ
 template_of names name = position (bytes_eq name) names
 
+-- a use of this template at this size, where there are both
 abbrev pub use_by : Option ℕ → Option (Option ℕ) → Option Form
 use_by (Some k) (Some size) = Some (forms.Use k size)
 use_by k size = None
@@ -47,6 +50,7 @@ abbrev pub width_at : List ℕ → Width → List Token → Bool
 width_at text width (a ∷ w ∷ b ∷ ts) = opens_width a.kind && (is_width text width w && closes_width b.kind)
 width_at text width ts = false
 
+-- a use, or else a width, or else the token stays
 abbrev pub or_width : Bool → Option Form → Form
 or_width width (Some form) = form
 or_width true None = forms.Width

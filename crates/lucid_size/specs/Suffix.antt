@@ -1,5 +1,5 @@
--- The names of instances: the template's name, underscores of which no name of the text has so many in a row, and the width in
--- decimal. So no other name of the text is an instance's.
+-- The names of instances: the template's name, so many underscores as no name of the text has in a row, and the width in decimal. So
+-- an instance's name is no name of the text.
 use Rattle.std.specs.Prelude.{ℕ, ◌+◌, ◌==◌, if◌then◌else◌, List, [], ◌∷◌, ◌++◌, fold, max, decimal}
 use Rattle.std.specs.List.{repeat}
 use Rattle.lucid_lex.specs.declared.token.Token.{Token}

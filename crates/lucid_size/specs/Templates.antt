@@ -28,6 +28,7 @@ end_from i n (t ∷ ts) =
     else if closes_brace t.kind then end_from (i + 1) (n - 1) ts
     else end_from (i + 1) n ts
 
+-- the template with this `fun`, where it has a name and an end
 abbrev pub template_by : ℕ → Option ℕ → Option ℕ → Option Template
 template_by i None end = None
 template_by i (Some name) None = None
@@ -41,10 +42,12 @@ template_at i ts = template_by i (name_from (i + 4) (drop 4 ts)) (end_from (i + 
 abbrev pub Cut : Type 0
 Cut = Result (List Template) ℕ
 
+-- the template, and those behind it
 abbrev pub behind : Template → Cut → Cut
 behind t (Ok ts) = Ok (t ∷ ts)
 behind t (Err n) = Err n
 
+-- the template at this `fun`, if it is whole, and those behind it
 abbrev pub and_then : ℕ → Option Template → Cut → Cut
 and_then i None later = Err (i + 1)
 and_then i (Some t) later = behind t later
@@ -64,5 +67,6 @@ templates_from i opened zero (t ∷ ts) =
     then and_then i (template_at i (t ∷ ts)) (templates_from (i + 1) opened (more_of i (template_at i (t ∷ ts))) ts)
     else templates_from (i + 1) (open_after opened t.kind) 0 ts
 
+-- the templates of a text
 abbrev pub templates : List Token → Cut
 templates ts = templates_from 0 0 0 ts

@@ -13,11 +13,12 @@ abbrev pub widths_in : List Instance → ℕ → List ℕ
 widths_in [] k = []
 widths_in (i ∷ is) k = if i.template == k then put i.width (widths_in is k) else widths_in is k
 
--- the row of this number
+-- this row, if there is one
 abbrev pub row_by : Option (List ℕ) → List ℕ
 row_by None = []
 row_by (Some row) = row
 
+-- the row of this number
 abbrev pub row_in : List (List ℕ) → ℕ → List ℕ
 row_in rows k = row_by (slice_get rows k)
 

@@ -1,5 +1,5 @@
 // Which templates a text has.
-ghost use Rattle.std.specs.Prelude.{◌≡◌, ◌&&◌, ◌-◌, ◌++◌, ◌∷◌, ◌+◌, ◌<◌, ◌≤◌, [], IfErr, IfOk, IfSome, Ok, OnOk, Some, drop, length};
+ghost use Rattle.std.specs.Prelude.{◌≡◌, ◌≢◌, ◌&&◌, ◌-◌, ◌++◌, ◌∷◌, ◌+◌, ◌<◌, ◌≤◌, [], IfErr, IfOk, IfSome, Ok, OnOk, Some, drop, false, length, true};
 ghost use Rattle.lucid_size.specs.Cutting as kept;
 ghost use Rattle.lucid_size.specs.Kinds as kinds;
 ghost use Rattle.lucid_size.specs.Templates as spec;
@@ -27,6 +27,21 @@ pub(crate) fn templates(alloc: Global, tokens: &[Token]) -> Result<Vec<Template>
         cutting.step(tokens, at)?;
     }
     Ok(cutting.found)
+}
+
+/// Whether a template begins in the text. Where none does the text is its own expansion, as `plain_text_stays` says.
+pub fn has_template(tokens: &[Token]) -> bool
+    ensures none { result ≡ false → spec.templates tokens.now ≡ Ok [] }
+    ensures some { result ≡ true → spec.templates tokens.now ≢ Ok [] }
+{
+    let mut opened = 0;
+    for at in 0..tokens.len() {
+        if opened == 0 && begins_template(&tokens[at..]) {
+            return true;
+        }
+        opened = open_after(opened, tokens[at].kind);
+    }
+    false
 }
 
 /// While templates are looked for.
