@@ -4,7 +4,7 @@ use Rattle.std.specs.Prelude.{All, slice_range, codes, decimal, unwrap_or}
 use Rattle.std.specs.List.{Contains, IsDistinct, flat_map, repeat, sum_by}
 use Rattle.std.proofs.str.Laws.{order}
 use Rattle.std.proofs.lemmas.List.{length-take-le}
-use Rattle.std.proofs.lemmas.List.Elements.{All-cons, All-get_or, All-head, All-tail, All-contains, Contains-append_left, Contains-append_right}
+use Rattle.std.proofs.lemmas.List.Elements.{All-cons, All-head, All-tail, All-contains, Contains-append_left, Contains-append_right}
 use Rattle.std.proofs.lemmas.List.Sums.{sum_by-cons}
 use Rattle.lucid_lex.specs.Reading.{joined}
 use Rattle.lucid_size.specs.declared.step.Form.{Form}
@@ -66,10 +66,6 @@ sizes ss = flat_map (λ s. sizes_of s.form) ss
 abbrev all_sizes : List (List Step) → List ℕ
 all_sizes [] = []
 all_sizes (ss ∷ rest) = sizes ss ++ all_sizes rest
-
--- an instance of a template below `n`, of one of these widths
-abbrev IsCandidate : ℕ → List ℕ → Instance → Type 0
-IsCandidate n ws i = (i.template < n) × Contains ws i.width
 
 -- the candidates, one by one
 abbrev pub row : List ℕ → ℕ → List Instance

@@ -1,7 +1,7 @@
 -- What is written of a template's instances.
-use Rattle.std.proofs.Common.{◌≡◌, ℕ, ◌+◌, ◌<◌, List, [], ◌∷◌, ◌++◌, length, get_or, drop, sym, ◌∙◌, ap, arith, append_assoc}
+use Rattle.std.proofs.Common.{◌≡◌, ℕ, ◌<◌, List, [], ◌∷◌, ◌++◌, length, get_or, drop, sym, ◌∙◌, ap, arith, append_assoc}
 use Rattle.std.specs.Prelude.{codes}
-use Rattle.std.proofs.lemmas.List.{append-nil, drop_more}
+use Rattle.std.proofs.lemmas.List.{append-nil}
 use Rattle.lucid_lex.specs.Piece.{Piece}
 use Rattle.lucid_lex.specs.Reading.{joined}
 use Rattle.lucid_size.specs.declared.step.Step.{Step}
@@ -31,13 +31,3 @@ pub instances_begin : (text : List ℕ) (m : ℕ) (body : List Step) (ns : List 
 instances_begin text m body [] d out out' some wrote = absurd (omega arith)
 instances_begin text m body (n ∷ ns) d out out' some wrote =
     ap (λ l. l ++ others text m body ns) wrote ∙ append_assoc out (codes "fun " ++ joined (pieces_of text m n body) []) (others text m body ns) ∙ ap (λ l. out ++ l) (sym (instances_bytes text m body n ns))
-
--- one more is written
-pub instances_turn : (text : List ℕ) (m : ℕ) (body : List Step) (ns : List ℕ) (i d : ℕ) (out mid out' : List ℕ) → i < length ns → mid ≡ out ++ 10 ∷ [] → out' ≡ mid ++ (codes "fun " ++ joined (pieces_of text m (get_or ns i d) body) []) →
-    out' ++ others text m body (drop (i + 1) ns) ≡ out ++ others text m body (drop i ns)
-instances_turn text m body ns i d out mid out' within fed wrote =
-    let one = codes "fun " ++ joined (pieces_of text m (get_or ns i d) body) [] in
-    ap (λ l. l ++ others text m body (drop (i + 1) ns)) (wrote ∙ ap (λ l. l ++ one) fed)
-    ∙ ap (λ l. l ++ others text m body (drop (i + 1) ns)) (append_assoc out (10 ∷ []) one)
-    ∙ append_assoc out (10 ∷ one) (others text m body (drop (i + 1) ns))
-    ∙ ap (λ l. out ++ others text m body l) (sym (drop_more ns i d within))

@@ -1,23 +1,13 @@
 -- One token on, where templates are looked for.
-use Rattle.std.proofs.Common.{◌≡◌, ℕ, ◌+◌, ◌-◌, ◌<◌, ◌≤◌, Bool, true, ◌&&◌, List, [], ◌∷◌, ◌++◌, length, get_or, drop, Option, Some, None, Ok, Err, refl, sym, ◌∙◌, ap, arith, length-drop, append_assoc, if◌then◌else◌}
+use Rattle.std.proofs.Common.{◌≡◌, ℕ, ◌+◌, ◌-◌, ◌≤◌, Bool, true, List, [], ◌∷◌, ◌++◌, length, drop, Option, Some, None, Ok, Err, refl, sym, ◌∙◌, ap, arith, length-drop, append_assoc, if◌then◌else◌}
 use Rattle.std.specs.Prelude.{slice_range}
-use Rattle.std.proofs.lemmas.List.{drop-drop, drop_more, take_rest}
+use Rattle.std.proofs.lemmas.List.{drop-drop, take_rest}
 use Rattle.lucid_lex.specs.declared.token.Token.{Token}
 use Rattle.lucid_size.specs.declared.template.Template.{Template}
 use Rattle.lucid_size.proofs.Placed.{rest_of}
-use Rattle.lucid_size.specs.Kinds.{is_name, open_after, opens_brace, opens_paren}
+use Rattle.lucid_size.specs.Kinds.{open_after}
 use Rattle.lucid_size.specs.Templates.{Cut, and_then, begins_template, behind, end_from, more_of, name_from, template_at, template_by, templates_from}
 use Rattle.lucid_size.specs.Cutting.{before_those}
-
-pub name_from-turn : (at : ℕ) (ts : List Token) (t u : Token) → 1 ≤ at → at < length ts → t ≡ get_or ts (at - 1) t → u ≡ get_or ts at u →
-    name_from (at - 1) (drop (at - 1) ts) ≡ (if opens_brace t.kind then None else (if is_name t.kind && opens_paren u.kind then Some (at - 1) else name_from at (drop at ts)))
-name_from-turn at ts t u low within t_is u_is =
-    let one : at - 1 + 1 ≡ at = omega arith in
-    let here : drop (at - 1) ts ≡ t ∷ drop at ts = drop_more ts (at - 1) t (omega arith) ∙ ap (λ x. x ∷ drop (at - 1 + 1) ts) (sym t_is) ∙ ap (λ n. t ∷ drop n ts) one in
-    let next : drop at ts ≡ u ∷ drop (at + 1) ts = drop_more ts at u within ∙ ap (λ x. x ∷ drop (at + 1) ts) (sym u_is) in
-    ap (name_from (at - 1)) (here ∙ ap (λ l. t ∷ l) next)
-    ∙ ap (λ n. if opens_brace t.kind then None else (if is_name t.kind && opens_paren u.kind then Some (at - 1) else name_from n (u ∷ drop (at + 1) ts))) one
-    ∙ ap (λ l. if opens_brace t.kind then None else (if is_name t.kind && opens_paren u.kind then Some (at - 1) else name_from at l)) (sym next)
 
 short : (i : ℕ) (ts : List Token) → length ts ≤ 1 → name_from i ts ≡ None
 short i [] few = refl

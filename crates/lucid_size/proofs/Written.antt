@@ -22,9 +22,6 @@ get_map f (x ∷ xs) zero d e within = refl
 get_map f (x ∷ xs) (suc k) d e within = get_map f xs k d e (omega arith)
 
 module _ (text : List ℕ) (ts : List Token) (m : ℕ) (names : List (List ℕ)) (widths : ℕ → List ℕ) where
-  rest_bytes : ℕ → ℕ → List Template → List ℕ
-  rest_bytes i k xs = joined (written_from text ts m names widths i k xs) []
-
   pub first_bytes : (i k : ℕ) (x : Template) (xs : List Template) → joined (written_from text ts m names widths i k (x ∷ xs)) []
       ≡ joined (pieces_of text m 0 (steps_between text names None ts i x.first)) [] ++ ((gap_before text ts x.first).bytes ++ (joined (instances text m (body_steps text names ts x) (widths k)) [] ++ joined (written_from text ts m names widths x.end (k + 1) xs) []))
   first_bytes i k x xs =
