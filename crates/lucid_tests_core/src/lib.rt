@@ -6,6 +6,8 @@
 #[cfg(test)]
 mod constraints;
 #[cfg(test)]
+mod copies;
+#[cfg(test)]
 mod cores;
 #[cfg(test)]
 mod counting;
