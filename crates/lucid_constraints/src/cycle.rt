@@ -8,7 +8,6 @@ use crate::numbers::settle;
 use crate::order::Order;
 use crate::search::circle;
 use lucid_base::{ArrayName, Memory};
-use std::alloc::Global;
 
 /// Declared arrays by their numbers, array parameters after them.
 fn comes_first(x: ArrayName, y: ArrayName) -> bool
@@ -51,9 +50,10 @@ fn turn(names: &mut Vec<ArrayName>)
 
 impl Order {
     /// `cycle` by a search among all names, for orders that the numbers do not settle.
-    fn search(&self, alloc: Global, arrays: u32) -> Result<Option<Vec<ArrayName>>, Memory>
+    fn search(&self, arrays: u32) -> Result<Option<Vec<ArrayName>>, Memory>
         ensures { IfOk result (FindsCycle (Needed arrays self.now)) }
     {
+        let alloc = self.alloc();
         let names = gather(alloc, self.pairs(), arrays)?;
         let pairs = self.pairs().to_vec(alloc)?;
         match circle(alloc, pairs, arrays, names)? {
@@ -67,13 +67,13 @@ impl Order {
 
     /// A cycle among the names of the pairs and the first `arrays` declared arrays. A pair with `Start` asks nothing here.
     /// The work is in proportion to the names times the pairs and names. Memory is the one error.
-    pub fn cycle(&self, alloc: Global, arrays: u32) -> Result<Option<Vec<ArrayName>>, Memory>
+    pub fn cycle(&self, arrays: u32) -> Result<Option<Vec<ArrayName>>, Memory>
         ensures { IfOk result (FindsCycle (Needed arrays self.now)) }
     {
         if settle(self.pairs(), arrays) {
             Ok(None)
         } else {
-            self.search(alloc, arrays)
+            self.search(arrays)
         }
     }
 }

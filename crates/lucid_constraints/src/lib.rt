@@ -16,5 +16,6 @@ mod search;
 
 pub use ends::{ends_at, join_ends};
 pub use laws::{allowed_numberings_rise, pairs_keep_meaning};
+pub use lucid_base::ArrayName;
 pub use order::Order;
 pub use pair::{Atom, Pair};

@@ -1,5 +1,5 @@
 // Pairs without repeats.
-ghost use Rattle.std.specs.Prelude.{◌≡◌, ◌≢◌, ◌+◌, ◌++◌, ◌∷◌, false, [], IfOk, OnOk, AllPairs, map};
+ghost use Rattle.std.specs.Prelude.{◌≡◌, ◌≢◌, ◌+◌, ◌++◌, ◌∷◌, false, [], IfOk, OnErr, OnOk, AllPairs, map};
 ghost use Rattle.std.specs.List.{list_any};
 ghost use Rattle.lucid_constraints.specs.Marks.{pair_number as pair_number_of};
 ghost use Rattle.lucid_constraints.specs.Same.{same_pair as are_same_pairs, joined, join_all};
@@ -65,6 +65,11 @@ impl Order {
         self.pairs.as_slice()
     }
 
+    /// Where the order has its memory from.
+    pub(crate) fn alloc(&self) -> Global {
+        *self.marks.allocator()
+    }
+
     fn has(&self, number: Option<usize>, pair: Pair) -> bool
         requires { number ≡ pair_number_of pair }
         ensures { result ≡ list_any (are_same_pairs pair) self.now }
@@ -79,30 +84,33 @@ impl Order {
     fn push(&mut self, number: Option<usize>, pair: Pair) -> Result<(), Memory>
         requires number { number ≡ pair_number_of pair }
         requires isnt { list_any (are_same_pairs pair) self.old ≡ false }
-        ensures { OnOk result (self.new ≡ self.old ++ pair ∷ []) }
+        ensures pairs { OnOk result (self.new ≡ self.old ++ pair ∷ []) }
+        ensures unchanged { OnErr result (self.new ≡ self.old) }
     {
         self.pairs.push(pair)?;
         mark(&mut self.marks, number);
         Ok(())
     }
 
-    /// Adds the pair unless it is there.
+    /// Adds the pair unless it is there. Memory for the table is asked for first, so that a refusal leaves the pairs alone.
     #[inline(always)]
     fn join(&mut self, pair: Pair) -> Result<(), Memory>
-        ensures { OnOk result (self.new ≡ joined are_same_pairs self.old pair) }
+        ensures pairs { OnOk result (self.new ≡ joined are_same_pairs self.old pair) }
+        ensures unchanged { OnErr result (self.new ≡ self.old) }
     {
         let number = pair_number(pair);
         if self.has(number, pair) {
             return Ok(());
         }
-        self.push(number, pair)?;
-        tabulate(&mut self.marks, self.pairs.as_slice())
+        tabulate(&mut self.marks, self.pairs.as_slice())?;
+        self.push(number, pair)
     }
 
-    /// Adds the pair unless it is there, in one step. The work is in proportion to the pairs.
+    /// Adds the pair unless it is there, in one step. The work is in proportion to the pairs. Where memory is refused no pair is added.
     #[inline(always)]
     pub fn add<L: Ledger>(&mut self, pair: Pair, steps: &mut Steps<L>) -> Result<(), Memory>
         ensures pairs { OnOk result (self.new ≡ joined are_same_pairs self.old pair) }
+        ensures unchanged { OnErr result (self.new ≡ self.old) }
         ensures steps { steps.new ≡ steps.old + 1 }
     {
         steps.tick();
@@ -135,15 +143,10 @@ impl Order {
 
     /// The pairs as a caller sees them who gives the function the arrays `names` and calls it at the places `start`.
     /// The work is in proportion to the pairs that it makes times those that it gives.
-    pub fn substitute(
-        &self,
-        alloc: Global,
-        names: &[ArrayName],
-        start: &[Atom],
-    ) -> Result<Order, Memory>
+    pub fn substitute(&self, names: &[ArrayName], start: &[Atom]) -> Result<Order, Memory>
         ensures { IfOk result (λ order. order ≡ needs_from names.now start.now [] self.now) }
     {
-        substituted(alloc, self.pairs.as_slice(), names, start)
+        substituted(self.alloc(), self.pairs.as_slice(), names, start)
     }
 }
 

@@ -50,7 +50,7 @@ pub fn judge<L: Ledger>(
 {
     let found = scheme(alloc, schemes, stmts, steps)?;
     if is_earlier(first, decl) {
-        let cycle = found.needs.cycle(alloc, arrays)?;
+        let cycle = found.needs.cycle(arrays)?;
         keep(first, decl, cycle);
     }
     Ok(found)

@@ -11,3 +11,4 @@ mod walk;
 
 pub use check::check_order;
 pub use error::OrderError;
+pub use lucid_effects_schemes::Scheme;

@@ -71,7 +71,7 @@ fn through<L: Ledger>(
     ensures found { Goes (through_by (Some f.now) names.now) at.old steps.old at.new steps.new result }
     ensures most { steps.new ≤ (through_by (Some f.now) names.now (walked at.old steps.old)).steps }
 {
-    let needs = f.needs.substitute(alloc, names, at.ends.as_slice())?;
+    let needs = f.needs.substitute(names, at.ends.as_slice())?;
     let ends = ends_at(alloc, f.ends.as_slice(), names, at.ends.as_slice())?;
     add_all(&mut at.needs, steps, needs.pairs())?;
     at.ends = ends;

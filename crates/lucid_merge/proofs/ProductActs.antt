@@ -1,15 +1,16 @@
 -- A product does what both its tables do.
-use Rattle.std.proofs.Common.{◌≡◌, ℕ, List, [], ◌∷◌, ◌++◌, Bool, true, false, not, ◌&&◌, ◌⊎◌, inl, inr, if◌then◌else◌, slice_index, nat_eq, refl, sym, ap, ap₂, ◌∙◌, ⊎_elim, append-nil, append_assoc}
+use Rattle.std.proofs.Common.{◌≡◌, ℕ, List, [], ◌∷◌, ◌++◌, Bool, true, false, ◌&&◌, ◌||◌, ◌⊎◌, inl, inr, if◌then◌else◌, refl, sym, ap, ap₂, ◌∙◌, ⊎_elim, append-nil, append_assoc}
 use Rattle.std.specs.List.{AllByRecursion, list_any, fold, flat_map}
-use Rattle.std.proofs.lemmas.Bool.{and_parts, and_from, or_cases, eqb-true, true≢false, false_from_ne_true, cond_both}
+use Rattle.std.proofs.lemmas.Bool.{and_parts, and_from, or_cases, true≢false, false_from_ne_true, cond_both}
 use Rattle.std.proofs.lemmas.List.Folds.{list_all-append}
 use Rattle.lucid_code.specs.declared.op.Literal.{Literal}
 use Rattle.lucid_code.specs.Guards.{Fields, holds, all_hold, contradict}
 use Rattle.lucid_tables.specs.declared.table.Row.{Row}
 use Rattle.lucid_tables.specs.Rows.{matches, acts}
 use Rattle.lucid_tables.proofs.Swaps.{contradict_never}
+use Rattle.lucid_merge.proofs.Literals.{literal_is}
 use Rattle.lucid_merge.specs.Laws.{Bracketing, one, two, tables_of, product_of, ProductsAct}
-use Rattle.lucid_merge.specs.Product.{is_same, has, with_literal, union, pair, default, pairs_with, pairs, includes, keep, kept_of, product}
+use Rattle.lucid_merge.specs.Product.{is_same, has, with_literal, union, pair, default, clash, pairs_with, pairs, includes, keep, kept_of, product}
 
 -- ---- patterns
 
@@ -21,20 +22,8 @@ and_assoc : (a b c : Bool) → (a && (b && c)) ≡ ((a && b) && c)
 and_assoc true b c = refl
 and_assoc false b c = refl
 
-same_sign : (t u : Bool) → (if t then u else not u) ≡ true → t ≡ u
-same_sign true true h = refl
-same_sign true false h = sym h
-same_sign false true h = h
-same_sign false false h = refl
-
 same_holds : (fields : Fields) (l m : Literal) → is_same l m ≡ true → holds fields m ≡ holds fields l
-same_holds fields l m h =
-    let outer = and_parts (nat_eq l.field m.field && (if l.equal then m.equal else not m.equal)) (nat_eq l.value m.value) h in
-    let inner = and_parts (nat_eq l.field m.field) (if l.equal then m.equal else not m.equal) outer.0 in
-    let test = λ (k : ℕ) (t : Bool) (v : ℕ). if t then nat_eq (slice_index fields k) v else not (nat_eq (slice_index fields k) v) in
-    ap (λ k. test k m.equal m.value) (sym (eqb-true l.field m.field inner.0))
-    ∙ ap (λ t. test l.field t m.value) (sym (same_sign l.equal m.equal inner.1))
-    ∙ ap (λ v. test l.field l.equal v) (sym (eqb-true l.value m.value outer.1))
+same_holds fields l m h = ap (holds fields) (sym (literal_is l m h))
 
 had_holds : (fields : Fields) (l : Literal) (p : List Literal) → has p l ≡ true → all_hold fields p ≡ true → holds fields l ≡ true
 had_holds fields l [] h m = absurd (true≢false (sym h))
@@ -73,26 +62,35 @@ union_holds fields p q = added_holds fields q (fold with_literal [] p) ∙ ap (�
 -- a row that does not match, with each row of a table
 pairs_miss : (fields : Fields) (a : Row) (bs rest : List Row) → matches fields a ≡ false → acts fields (pairs_with a bs ++ rest) ≡ acts fields rest
 pairs_miss fields a [] rest h = refl
-pairs_miss fields a (b ∷ bs) rest h = cond_both (contradict a.pattern b.pattern) (pairs_with a bs) (pair a b ∷ pairs_with a bs) (λ u. acts fields (u ++ rest) ≡ acts fields rest)
+pairs_miss fields a (b ∷ bs) rest h = cond_both (clash a.pattern b.pattern) (pairs_with a bs) (pair a b ∷ pairs_with a bs) (λ u. acts fields (u ++ rest) ≡ acts fields rest)
     (λ e. pairs_miss fields a bs rest h)
     (λ e. ap (λ t. if t then a.ops ++ b.ops else acts fields (pairs_with a bs ++ rest)) (union_holds fields a.pattern b.pattern ∙ ap (λ t. t && matches fields b) h) ∙ pairs_miss fields a bs rest h)
 
-no_contradiction : (p : List Literal) → contradict p [] ≡ false
-no_contradiction [] = refl
-no_contradiction (l ∷ p) = no_contradiction p
+clash_never : (fields : Fields) (p q : List Literal) → clash p q ≡ true → all_hold fields p ≡ true → all_hold fields q ≡ true → ⊥
+clash_never fields p q h m n = ⊎_elim
+    (λ e. ⊎_elim (λ f. contradict_never fields p p f m m) (λ f. contradict_never fields p q f m n) (or_cases (contradict p p) (contradict p q) e))
+    (λ e. contradict_never fields q q e n n)
+    (or_cases (contradict p p || contradict p q) (contradict q q) (ordered (contradict p p) (contradict p q) (contradict q q) h))
+  where
+    ordered : (a b c : Bool) → (a || b || c) ≡ true → ((a || b) || c) ≡ true
+    ordered true b c h = refl
+    ordered false b c h = h
 
-missed : (fields : Fields) (a b : Row) → matches fields a ≡ true → contradict a.pattern b.pattern ≡ true → matches fields b ≡ false
-missed fields a b h e = false_from_ne_true (matches fields b) (λ n. contradict_never fields a.pattern b.pattern e h n)
+no_clash : (fields : Fields) (a : Row) → matches fields a ≡ true → clash a.pattern [] ≡ false
+no_clash fields a h = false_from_ne_true (clash a.pattern []) (λ n. clash_never fields a.pattern [] n h refl)
+
+missed : (fields : Fields) (a b : Row) → matches fields a ≡ true → clash a.pattern b.pattern ≡ true → matches fields b ≡ false
+missed fields a b h e = false_from_ne_true (matches fields b) (λ n. clash_never fields a.pattern b.pattern e h n)
 
 -- a row that matches, with each row of a table and its default
 pairs_hit : (fields : Fields) (a : Row) (bs rest : List Row) → matches fields a ≡ true → acts fields (pairs_with a (bs ++ default ∷ []) ++ rest) ≡ a.ops ++ acts fields bs
 pairs_hit fields a [] rest h =
-    ap (λ t. acts fields ((if t then [] else pair a default ∷ []) ++ rest)) (no_contradiction a.pattern)
+    ap (λ t. acts fields ((if t then [] else pair a default ∷ []) ++ rest)) (no_clash fields a h)
     ∙ ap (λ t. if t then a.ops ++ [] else acts fields rest) (union_holds fields a.pattern [] ∙ ap (λ t. t && true) h)
 pairs_hit fields a (b ∷ bs) rest h = by (pairs_hit fields a bs rest h)
   where
     by : acts fields (pairs_with a (bs ++ default ∷ []) ++ rest) ≡ a.ops ++ acts fields bs → acts fields (pairs_with a ((b ∷ bs) ++ default ∷ []) ++ rest) ≡ a.ops ++ acts fields (b ∷ bs)
-    by again = cond_both (contradict a.pattern b.pattern) (pairs_with a (bs ++ default ∷ [])) (pair a b ∷ pairs_with a (bs ++ default ∷ [])) (λ u. acts fields (u ++ rest) ≡ a.ops ++ acts fields (b ∷ bs))
+    by again = cond_both (clash a.pattern b.pattern) (pairs_with a (bs ++ default ∷ [])) (pair a b ∷ pairs_with a (bs ++ default ∷ [])) (λ u. acts fields (u ++ rest) ≡ a.ops ++ acts fields (b ∷ bs))
         (λ e. again ∙ ap (λ t. a.ops ++ (if t then b.ops else acts fields bs)) (sym (missed fields a b h e)))
         (λ e. ap (λ t. if t then a.ops ++ b.ops else acts fields (pairs_with a (bs ++ default ∷ []) ++ rest)) (union_holds fields a.pattern b.pattern ∙ ap (λ t. t && matches fields b) h) ∙ either (matches fields b))
       where
@@ -102,7 +100,12 @@ pairs_hit fields a (b ∷ bs) rest h = by (pairs_hit fields a bs rest h)
 
 default_acts : (fields : Fields) (bs : List Row) → acts fields (pairs_with default bs) ≡ acts fields bs
 default_acts fields [] = refl
-default_acts fields (b ∷ bs) = ap₂ (λ (t : Bool) (l : List ℕ). if t then b.ops else l) (union_holds fields [] b.pattern) (default_acts fields bs)
+default_acts fields (b ∷ bs) = by (default_acts fields bs)
+  where
+    by : acts fields (pairs_with default bs) ≡ acts fields bs → acts fields (pairs_with default (b ∷ bs)) ≡ acts fields (b ∷ bs)
+    by again = cond_both (clash [] b.pattern) (pairs_with default bs) (pair default b ∷ pairs_with default bs) (λ u. acts fields u ≡ acts fields (b ∷ bs))
+        (λ e. again ∙ ap (λ t. if t then b.ops else acts fields bs) (sym (missed fields default b refl e)))
+        (λ e. ap₂ (λ (t : Bool) (l : List ℕ). if t then b.ops else l) (union_holds fields [] b.pattern) again)
 
 pairs_act : (fields : Fields) (rows bs : List Row) → acts fields (pairs rows bs) ≡ acts fields rows ++ acts fields bs
 pairs_act fields [] bs = default_acts fields bs

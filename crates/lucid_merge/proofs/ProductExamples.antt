@@ -20,4 +20,6 @@ product_examples = record {
   equal_rows = refl;
   one_literal = refl;
   never = refl;
+  two_values_behind = refl;
+  two_values_before = refl;
 }

@@ -39,6 +39,9 @@ pub record ProductExamples : Type 0 where
   pub two_keys : product (a_row 0 ∷ []) (b_row 1 ∷ []) ≡ row (is 0 1 ∷ is 5 2 ∷ []) (0 ∷ 1 ∷ []) ∷ a_row 0 ∷ b_row 1 ∷ []
   -- two values for one field
   pub two_values : product (a_row 0 ∷ []) (row (is 0 2 ∷ []) (1 ∷ []) ∷ []) ≡ a_row 0 ∷ row (is 0 2 ∷ []) (1 ∷ []) ∷ []
+  -- and where one row alone asks for them
+  pub two_values_behind : product [] (row (is 0 1 ∷ is 0 2 ∷ []) (0 ∷ []) ∷ []) ≡ []
+  pub two_values_before : product (row (is 0 1 ∷ is 0 2 ∷ []) (0 ∷ []) ∷ []) [] ≡ []
   -- a row behind one that asks for less never decides
   pub asks_nothing : product (row [] (0 ∷ []) ∷ []) (a_row 1 ∷ []) ≡ row (is 0 1 ∷ []) (0 ∷ 1 ∷ []) ∷ row [] (0 ∷ []) ∷ []
   pub includes_earlier : product [] (a_row 0 ∷ both_row 1 ∷ []) ≡ a_row 0 ∷ []

@@ -1,5 +1,5 @@
 -- The product of two tables.
-use Rattle.std.specs.Prelude.{ℕ, List, [], ◌∷◌, ◌++◌, Option, Some, None, Bool, not, ◌&&◌, if◌then◌else◌, length, nat_eq, nat_le}
+use Rattle.std.specs.Prelude.{ℕ, List, [], ◌∷◌, ◌++◌, Option, Some, None, Bool, not, ◌&&◌, ◌||◌, if◌then◌else◌, length, nat_eq, nat_le}
 use Rattle.std.specs.List.{list_all, list_any, fold}
 use Rattle.std.specs.Option.{option_map}
 use Rattle.lucid_code.specs.declared.op.Literal.{Literal}
@@ -30,10 +30,14 @@ pair a b = record { pattern = union a.pattern b.pattern; ops = a.ops ++ b.ops }
 abbrev pub default : Row
 default = record { pattern = []; ops = [] }
 
--- A row with each of these, but for those whose pattern contradicts its own.
+-- Together the two patterns ask for two values of one field: some literal of both never holds with another of both.
+abbrev pub clash : List Literal → List Literal → Bool
+clash p q = contradict p p || contradict p q || contradict q q
+
+-- A row with each of these, but for the pairs that together ask for two values of one field.
 abbrev pub pairs_with : Row → List Row → List Row
 pairs_with a [] = []
-pairs_with a (b ∷ rows) = if contradict a.pattern b.pattern then pairs_with a rows else pair a b ∷ pairs_with a rows
+pairs_with a (b ∷ rows) = if clash a.pattern b.pattern then pairs_with a rows else pair a b ∷ pairs_with a rows
 
 -- Each row of the one table with each of the other, in lexicographic order, their defaults last; the pair of both defaults is left out.
 abbrev pub pairs : List Row → List Row → List Row

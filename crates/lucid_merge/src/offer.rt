@@ -2,31 +2,31 @@
 ghost use Rattle.std.specs.Prelude.{◌≡◌, ◌+◌, ◌*◌, ◌≤◌, ◌++◌, [], ◌∷◌, length, IfOk};
 ghost use Rattle.std.specs.List.{list_any};
 ghost use Rattle.lucid_tables.specs.declared.table.Row.{Row as TableRow};
-ghost use Rattle.lucid_merge.specs.Product.{includes, default, pairs_with, kept_of};
+ghost use Rattle.lucid_merge.specs.Product.{includes, union, default, pairs_with, kept_of};
 ghost use Rattle.lucid_merge.specs.Offers.{Offered};
 
-use crate::patterns::{contradict, includes, pair};
+use crate::patterns::{clash, include_together, pair};
 use lucid_base::{Items, Memory, Steps};
 use lucid_code::Literal;
 use lucid_tables::Row;
 use std::alloc::Global;
 use std::sync::ledger::Ledger;
 
-/// Whether a pattern includes that of a row that was kept. It takes a step for each row that it compares.
-fn is_covered<L: Ledger>(pattern: &[Literal], kept: &[Row], steps: &mut Steps<L>) -> bool
-    ensures value { result ≡ list_any (λ (k : TableRow). includes pattern.now k.pattern) kept.now }
+/// Whether two patterns together include that of a row that was kept. It takes a step for each row that it compares.
+fn is_covered<L: Ledger>(p: &[Literal], q: &[Literal], kept: &[Row], steps: &mut Steps<L>) -> bool
+    ensures value { result ≡ list_any (λ (k : TableRow). includes (union p.now q.now) k.pattern) kept.now }
     ensures steps { steps.new ≤ steps.old + length kept.now }
 {
     for row in kept {
         steps.tick();
-        if includes(pattern, row.pattern.as_slice()) {
+        if include_together(p, q, row.pattern.as_slice()) {
             return true;
         }
     }
     false
 }
 
-/// Makes a pair of two rows, keeps it where it has to be kept, and tells whether there are still at most so many.
+/// Makes a pair of two rows where it has to be kept, and tells whether there are still at most so many.
 fn offer<L: Ledger>(
     alloc: Global,
     kept: &mut Items<Row>,
@@ -38,11 +38,12 @@ fn offer<L: Ledger>(
     ensures offered { IfOk result (λ r. Offered most kept.new (kept_of kept.old (pairs_with a.now (b.now ∷ []))) r) }
     ensures steps { steps.new ≤ steps.old + (length kept.old + 1) }
 {
+    let p = a.pattern.as_slice();
+    let q = b.pattern.as_slice();
     steps.tick();
-    if !contradict(a.pattern.as_slice(), b.pattern.as_slice()) {
-        let row = pair(alloc, a, b)?;
-        if !is_covered(row.pattern.as_slice(), kept.as_slice(), steps) {
-            kept.push(row)?;
+    if !clash(p, q) {
+        if !is_covered(p, q, kept.as_slice(), steps) {
+            kept.push(pair(alloc, a, b)?)?;
         }
     }
     Ok(kept.len() <= most)

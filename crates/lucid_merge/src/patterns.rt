@@ -1,8 +1,8 @@
-// Patterns: which contradict, and which include another.
+// Patterns: which contradict, which include another, and what two are together.
 ghost use Rattle.std.specs.Prelude.{◌≡◌, ◌++◌, OnOk, IfOk};
 ghost use Rattle.std.specs.List.{list_any, fold};
 ghost use Rattle.lucid_code.specs.Guards as guards;
-ghost use Rattle.lucid_merge.specs.Product.{is_same, has, includes, with_literal, pair};
+ghost use Rattle.lucid_merge.specs.Product.{is_same, has, includes, with_literal, union, clash, pair};
 
 use lucid_base::{Items, Memory};
 use lucid_code::Literal;
@@ -17,10 +17,17 @@ fn opposed(l: Literal, m: Literal) -> bool
 }
 
 /// Whether a literal of the one pattern and one of the other never hold together.
-pub(crate) fn contradict(p: &[Literal], q: &[Literal]) -> bool
+pub fn contradict(p: &[Literal], q: &[Literal]) -> bool
     ensures { result ≡ guards.contradict p.now q.now }
 {
     p.iter().any(|l| is_opposed(*l, q))
+}
+
+/// Whether two patterns together ask for two values of one field.
+pub(crate) fn clash(p: &[Literal], q: &[Literal]) -> bool
+    ensures { result ≡ clash p.now q.now }
+{
+    contradict(p, p) || contradict(p, q) || contradict(q, q)
 }
 
 fn is_opposed(literal: Literal, pattern: &[Literal]) -> bool
@@ -29,7 +36,8 @@ fn is_opposed(literal: Literal, pattern: &[Literal]) -> bool
     pattern.iter().any(|m| opposed(literal, *m))
 }
 
-fn is_same(l: Literal, m: Literal) -> bool
+/// Whether two literals are the same.
+pub fn is_same(l: Literal, m: Literal) -> bool
     ensures { result ≡ is_same l m }
 {
     l.field == m.field && l.equal == m.equal && l.value == m.value
@@ -42,10 +50,25 @@ fn has(pattern: &[Literal], literal: Literal) -> bool
 }
 
 /// Whether all literals of the second pattern stand in the first.
-pub(crate) fn includes(p: &[Literal], q: &[Literal]) -> bool
+pub fn includes(p: &[Literal], q: &[Literal]) -> bool
     ensures { result ≡ includes p.now q.now }
 {
     q.iter().all(|literal| has(p, *literal))
+}
+
+/// Whether one of two patterns has a literal.
+#[tactic(auto, using(crate::proofs::Literals::has_union))]
+fn has_either(p: &[Literal], q: &[Literal], literal: Literal) -> bool
+    ensures { result ≡ has (union p.now q.now) literal }
+{
+    has(p, literal) || has(q, literal)
+}
+
+/// Whether all literals of the third pattern stand in the first two together.
+pub(crate) fn include_together(p: &[Literal], q: &[Literal], r: &[Literal]) -> bool
+    ensures { result ≡ includes (union p.now q.now) r.now }
+{
+    r.iter().all(|literal| has_either(p, q, *literal))
 }
 
 /// Two rows as one.

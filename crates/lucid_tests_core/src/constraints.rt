@@ -55,7 +55,7 @@ fn order(alloc: Global, pairs: &[Pair]) -> Result<Order, Memory> {
 fn shown_cycle(alloc: Global, pairs: &[Pair], arrays: u32) -> Result<String, Fail> {
     let order = order(alloc, pairs)?;
     let mut text = String::new(alloc);
-    match order.cycle(alloc, arrays)? {
+    match order.cycle(arrays)? {
         None => text.push_str("none")?,
         Some(cycle) => {
             for name in cycle.as_slice() {
@@ -130,7 +130,7 @@ fn a_cycle_may_have_64_names(rt: HostRuntime) -> Result<(), Fail> {
     }
     pairs.push(after(ArrayName::Param(63), ArrayName::Param(0)))?;
     let order = order(rt.alloc(), pairs.as_slice())?;
-    match order.cycle(rt.alloc(), 64)? {
+    match order.cycle(64)? {
         None => assert!(rt; false, "a cycle"),
         Some(cycle) => {
             assert_eq!(rt; cycle.len(), 64);
@@ -159,7 +159,7 @@ fn a_caller_sees_its_own_arrays_and_places(rt: HostRuntime) -> Result<(), Fail> 
     let function = order(rt.alloc(), &pairs)?;
     assert_eq!(rt; function.pairs().len(), 3);
     let places = [Atom::After(ZERO), Atom::Start];
-    let called = function.substitute(rt.alloc(), &[ONE, TWO], &places)?;
+    let called = function.substitute(&[ONE, TWO], &places)?;
     let expected = [
         after(ZERO, ONE),
         Pair {

@@ -1,7 +1,8 @@
 // Products of tables, by hand.
-use crate::rows::{equal, merged, row};
+use crate::rows::{equal, row};
 use lucid_base::{Items, Memory};
 use lucid_code::Literal;
+use lucid_merge::merge;
 use lucid_tables::{Row, Table};
 use std::alloc::Global;
 use std::mem::replace;
@@ -108,7 +109,7 @@ fn shown(alloc: Global, table: &Table) -> Result<String, Fail> {
 fn product(alloc: Global, a: &str, b: &str, rows: usize) -> Result<String, Fail> {
     let a = table(alloc, a)?;
     let b = table(alloc, b)?;
-    match merged(alloc, &a, &b, rows)? {
+    match merge(alloc, &a, &b, rows)? {
         None => Ok(format!(in alloc; "none")?),
         Some(table) => shown(alloc, &table),
     }
@@ -117,7 +118,7 @@ fn product(alloc: Global, a: &str, b: &str, rows: usize) -> Result<String, Fail>
 #[test]
 fn products_are_as_written_by_hand(rt: HostRuntime) -> Result<(), Fail> {
     let alloc = rt.alloc();
-    let cases: [(&str, &str, usize, &str); 14] = [
+    let cases: [(&str, &str, usize, &str); 16] = [
         // defaults on both sides, and patterns that contradict
         (
             "f0:;a1:3;",
@@ -146,6 +147,14 @@ fn products_are_as_written_by_hand(rt: HostRuntime) -> Result<(), Fail> {
         ("a1:3;f1a1:4;", "", 1, "0 | 0=1 : 3; "),
         ("f1a1:3;a1:4;", "", 2, "0 5 | 5=1 0=1 : 3; 0=1 : 4; "),
         ("a1:3;a1:4;", "a1:7;", 1, "0 | 0=1 : 3 7; "),
+        // a row that asks for two values of one field never acts
+        ("a1a2:3;", "", 0, "| "),
+        (
+            "a1a2:3;a1:4;",
+            "f1:7;",
+            3,
+            "0 5 | 0=1 5=1 : 4 7; 0=1 : 4; 5=1 : 7; ",
+        ),
         // a literal that stands twice
         ("a1a1:3;", "f1a1f1:4;", 2, "0 5 | 0=1 5=1 : 3 4; 0=1 : 3; "),
     ];
@@ -169,7 +178,7 @@ fn many(alloc: Global, field: u32, count: u32) -> Result<Table, Memory> {
 fn rows_of(alloc: Global, a: u32, b: u32, rows: usize) -> Result<Option<usize>, Memory> {
     let a = many(alloc, 0, a)?;
     let b = many(alloc, 5, b)?;
-    match merged(alloc, &a, &b, rows)? {
+    match merge(alloc, &a, &b, rows)? {
         None => Ok(None),
         Some(table) => Ok(Some(table.rows.len())),
     }

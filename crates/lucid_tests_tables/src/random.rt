@@ -3,9 +3,9 @@ ghost use Rattle.std.specs.Prelude.{◌≡◌, ◌<◌, length};
 ghost use Rattle.std.specs.List.{list_all};
 ghost use Rattle.lucid_tables.specs.Rows.{names_fields_below, pattern_is_below};
 
-use crate::rows::merged;
 use lucid_base::{Items, Memory, Width};
 use lucid_code::{Act, Code, Inputs, Literal, Op, Operand};
+use lucid_merge::merge;
 use lucid_tables::{Row, Table, first_match, table_of};
 use std::alloc::Global;
 use std::test::Fail;
@@ -140,7 +140,7 @@ fn means_both(alloc: Global, code: &Code, a: u32, b: u32, fields: &[u64]) -> Res
 {
     let first = table_of(alloc, code, a)?;
     let second = table_of(alloc, code, b)?;
-    match merged(alloc, &first, &second, 64)? {
+    match merge(alloc, &first, &second, 64)? {
         None => Ok(false),
         Some(table) => {
             let mut both = Vec::new(alloc);

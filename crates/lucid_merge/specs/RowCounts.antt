@@ -1,0 +1,31 @@
+-- What the number of rows of a product turns on, so that what a table refused once can be remembered.
+use Rattle.std.specs.Prelude.{◌≡◌, List, [], ◌∷◌, true, false, map, length}
+use Rattle.lucid_code.specs.declared.op.Literal.{Literal}
+use Rattle.lucid_code.specs.Guards.{contradict}
+use Rattle.lucid_tables.specs.declared.table.Row.{Row}
+use Rattle.lucid_tables.specs.Numbers.{is_in}
+use Rattle.lucid_tables.specs.Rows.{named_fields}
+use Rattle.lucid_merge.specs.Product.{has, product}
+
+abbrev pub patterns_of : List Row → List (List Literal)
+patterns_of rows = map (λ (r : Row). r.pattern) rows
+
+-- Of the fields that these rows name, the two patterns have the same literals.
+abbrev pub SameFor : List Row → List Literal → List Literal → Type 0
+SameFor rows p q = (l : Literal) → is_in l.field (named_fields rows) ≡ true → has p l ≡ has q l
+
+-- The pattern has a literal of a field that these rows don't name.
+abbrev pub IsNew : List Row → List Literal → Type 0
+IsNew rows p = (l : Literal) × (has p l ≡ true) × (is_in l.field (named_fields rows) ≡ false)
+
+-- The row could match: its pattern doesn't ask for two values of one field.
+abbrev pub CanMatch : Row → Type 0
+CanMatch r = contradict r.pattern r.pattern ≡ false
+
+pub record RowsAreCounted : Type 0 where
+  -- the patterns of a product turn on the patterns of its tables alone
+  pub patterns : (a b c d : List Row) → patterns_of a ≡ patterns_of c → patterns_of b ≡ patterns_of d
+      → patterns_of (product a b) ≡ patterns_of (product c d)
+  -- and with a row that names a field that is new to the table, their number on the row's literals of the table's fields
+  pub new_field : (a : List Row) (r s : Row) → CanMatch r → CanMatch s → SameFor a r.pattern s.pattern → IsNew a r.pattern → IsNew a s.pattern
+      → length (product a (r ∷ [])) ≡ length (product a (s ∷ []))

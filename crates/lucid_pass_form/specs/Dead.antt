@@ -1,0 +1,51 @@
+-- What `Dead` makes of code: what writes a field that no operation reads goes, until there are none.
+use Rattle.std.specs.Prelude.{◌≡◌, ℕ, zero, suc, IsTrue, false, List, [], ◌∷◌, ◌++◌, Option, None, Bool, true, if◌then◌else◌, nat_eq}
+use Rattle.std.specs.List.{list_all, list_any}
+use Rattle.std.specs.Option.{option_map_or}
+use Rattle.lucid_code.specs.declared.op.Act.{Act}
+use Rattle.lucid_code.specs.declared.op.Act.TheVariants as act
+use Rattle.lucid_code.specs.declared.op.Op.{Op}
+use Rattle.lucid_code.specs.Parts.{Parts}
+use Rattle.lucid_code.specs.Uses.{written_by, read_by}
+
+-- The field that an act writes which does nothing else. A call of an array, an event and a print stay.
+abbrev pub only_writes : Act → Option ℕ
+only_writes (act.Touch array index get get_arg set set_arg to) = None
+only_writes a = written_by a
+
+abbrev pub reads : Op → ℕ → Bool
+reads o k = list_any (λ j. nat_eq j k) (read_by o)
+
+abbrev pub is_read : List Op → ℕ → Bool
+is_read ops k = list_any (λ o. reads o k) ops
+
+-- It does more than write a field, or one of these operations reads the field.
+abbrev pub is_needed : List Op → Op → Bool
+is_needed ops o = option_map_or (is_read ops) (only_writes o.act) true
+
+abbrev pub kept_if : Bool → Op → List Op → List Op
+kept_if b o ops = if b then o ∷ ops else ops
+
+-- From the back, where each operation is kept that is needed behind it: in valid code what an operation writes is read only behind it.
+abbrev pub live : List Op → List Op
+live [] = []
+live (o ∷ ops) = kept_if (is_needed (live ops) o) o (live ops)
+
+abbrev pub alive : Parts → Parts
+alive code = record code { ops = live code.ops }
+
+-- Each of these operations is needed.
+abbrev pub NoneDead : List Op → Type 0
+NoneDead ops = IsTrue (list_all (is_needed ops) ops)
+
+-- So many go, one after another, each of which isn't needed in the list as it then stands.
+abbrev pub Strips : ℕ → List Op → List Op → Type 0
+Strips zero xs ys = xs ≡ ys
+Strips (suc n) xs ys = (front : List Op) × (o : Op) × (back : List Op) × (xs ≡ front ++ o ∷ back) × (is_needed xs o ≡ false) × Strips n (front ++ back) ys
+
+-- What is left, of valid code: none can go, it comes about by operations that go one after another, and in whatever order they go until
+-- none can, the same is left.
+pub record IsLeft (ops left : List Op) : Type 0 where
+  pub none : NoneDead left
+  pub strips : (n : ℕ) × Strips n ops left
+  pub unique : (n : ℕ) (other : List Op) → Strips n ops other → NoneDead other → other ≡ left

@@ -1,0 +1,6 @@
+pub mod Dead
+pub mod Direct
+pub mod Examples
+pub mod Laws
+pub mod Looks
+pub mod Replace

@@ -1,0 +1,16 @@
+mod Alike
+mod AsRows
+pub mod Beside
+pub mod ByArray
+mod Carried
+mod Fields
+mod Handing
+pub mod Idle
+mod Loading
+pub mod Moves
+mod OutLists
+mod Passes
+mod Places
+pub mod Settles
+pub mod Sizes
+mod Together

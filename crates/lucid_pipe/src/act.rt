@@ -1,0 +1,97 @@
+// An act of a stage, on registers and cells.
+ghost use Rattle.std.specs.Prelude.{◌≡◌, length};
+ghost use Rattle.lucid_code.specs.Run.{run_act};
+ghost use Rattle.lucid_tables.specs.Registers.{registers_of};
+ghost use Rattle.lucid_pipe.specs.Blocks.{machine, CanAct};
+
+use crate::read::{arguments, hash, put, target, value};
+use crate::sent::Sent;
+use lucid_base::{Bits, Cells, Event, Items, Out, apply_bin, apply_un, compare};
+use lucid_code::Act;
+use lucid_tables::Placed;
+
+/// Does what an act does.
+pub(crate) fn act(
+    placed: &Placed,
+    act: &Act,
+    registers: &mut Items<u64>,
+    cells: &mut Cells,
+    sent: &mut Sent,
+)
+    requires long { length registers.old ≡ length (registers_of placed.now.code) }
+    requires can { CanAct placed.now.code act.now }
+    ensures machine { machine placed.now.code registers.new cells.new sent.new
+        ≡ run_act placed.now.code.fields act.now (machine placed.now.code registers.old cells.old sent.old) }
+    ensures long { length registers.new ≡ length registers.old }
+{
+    match act {
+        Act::Un(op, width, a, k) => {
+            let a = Bits::low(*width, value(placed, registers.as_slice(), *a));
+            put(placed, registers, *k, apply_un(*op, a).value);
+        }
+        Act::Bin(op, width, a, b, k) => {
+            let a = Bits::low(*width, value(placed, registers.as_slice(), *a));
+            let b = Bits::low(*width, value(placed, registers.as_slice(), *b));
+            put(placed, registers, *k, apply_bin(*op, a, b).value);
+        }
+        Act::Cmp(op, width, a, b, k) => {
+            let a = Bits::low(*width, value(placed, registers.as_slice(), *a));
+            let b = Bits::low(*width, value(placed, registers.as_slice(), *b));
+            put(
+                placed,
+                registers,
+                *k,
+                Bits::from_bool(compare(*op, a, b)).value,
+            );
+        }
+        Act::Cast(a, k) => {
+            let v = value(placed, registers.as_slice(), *a);
+            put(placed, registers, *k, v);
+        }
+        Act::Hash(xs, k) => {
+            let v = hash(placed, registers.as_slice(), xs.as_slice());
+            put(placed, registers, *k, v);
+        }
+        Act::Move(a, k) => {
+            let v = value(placed, registers.as_slice(), *a);
+            put(placed, registers, *k, v);
+        }
+        Act::Touch {
+            array,
+            index,
+            get,
+            get_arg,
+            set,
+            set_arg,
+            to,
+        } => {
+            let index = value(placed, registers.as_slice(), *index);
+            let get_arg = value(placed, registers.as_slice(), *get_arg);
+            let set_arg = value(placed, registers.as_slice(), *set_arg);
+            let stored = cells.get(*array, index);
+            cells.set(*array, index, set.apply_low(stored, set_arg).value);
+            if let Some(k) = to {
+                put(placed, registers, *k, get.apply_low(stored, get_arg).value);
+            }
+        }
+        Act::Gen {
+            slot,
+            event,
+            args,
+            delay,
+            to,
+        } => {
+            let event = Event {
+                id: *event,
+                args: arguments(placed, registers.as_slice(), args.as_slice()),
+            };
+            let delay = value(placed, registers.as_slice(), *delay);
+            let to = target(placed, registers.as_slice(), *to);
+            sent.put(*slot, Out::Gen { event, delay, to });
+        }
+        Act::Say { slot, form, args } => {
+            let args = arguments(placed, registers.as_slice(), args.as_slice());
+            sent.put(*slot, Out::Say { form: *form, args });
+        }
+    }
+}

@@ -1,0 +1,17 @@
+use Rattle.std.proofs.Common.{rules, ◌≡◌}
+use Rattle.std.proofs.lemmas.List.Filters.{dedup_is}
+use Rattle.std.proofs.lemmas.List.Kept.{Contains-dedup_nat}
+use Rattle.std.proofs.lemmas.List.Sorted.{Contains-permutation}
+use Rattle.std.proofs.lemmas.Map.Keys.{IsStrictlyIncreasing-dedup}
+use Rattle.lucid_size.proofs.widths.rising.Goals as goal
+
+pub returns-clause-rise : goal.returns-clause-rise
+returns-clause-rise c =
+    let is = dedup_is _ _ _ c.dedup.ensures.filtered in
+    rw is (IsStrictlyIncreasing-dedup _ c.sort_unstable.ensures.sorted)
+
+pub returns-clause-has : goal.returns-clause-has
+returns-clause-has c =
+    let is = dedup_is _ _ _ c.dedup.ensures.filtered in
+    let both : c.extend_from_slice.new.self.items ≡ c.args.row.now = search rules in
+    λ n h. rw is (Contains-dedup_nat _ n (Contains-permutation _ _ n c.sort_unstable.ensures.permutation (rw both h)))

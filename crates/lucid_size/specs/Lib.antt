@@ -1,0 +1,15 @@
+pub mod Bytes
+pub mod Cutting
+pub mod Examples
+pub mod Expansion
+pub mod Kinds
+pub mod Names
+pub mod Parts
+pub mod Pieces
+pub mod Places
+pub mod Search
+pub mod Steps
+pub mod Suffix
+pub mod Templates
+pub mod Used
+pub mod Widths

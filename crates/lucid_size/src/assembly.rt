@@ -1,0 +1,146 @@
+// The whole expanded text, part by part.
+ghost use Rattle.std.specs.Prelude.{◌≡◌, ◌≤◌, ◌<◌, ◌++◌, [], All, IfOk, None, OnOk, length, map, slice_get};
+ghost use Rattle.lucid_lex.specs.Reading.{Reads, joined};
+ghost use Rattle.lucid_size.specs.Expansion.{written_from};
+ghost use Rattle.lucid_size.specs.Parts as parts;
+ghost use Rattle.lucid_size.specs.Pieces.{pieces_of};
+ghost use Rattle.lucid_size.specs.Places.{AreInOrder, InText};
+ghost use Rattle.lucid_size.specs.Widths.{widths_in};
+
+use crate::names::Names;
+use crate::step::{Instance, Step};
+use crate::steps::{add_steps, end_before};
+use crate::template::Template;
+use crate::widths::{deal, rising};
+use crate::writing::{write_instances, write_steps};
+use lucid_base::{Items, Memory};
+use lucid_lex::{Token, tokens_stand};
+use std::alloc::Global;
+
+/// Writes what stands outside the templates, and in place of each its instances.
+pub(crate) fn write_whole(
+    alloc: Global,
+    text: &[u8],
+    tokens: &[Token],
+    names: &Names,
+    templates: &[Template],
+    bodies: &[Items<Step>],
+    found: &[Instance],
+    underscores: usize,
+) -> Result<Vec<u8>, Memory>
+    requires reads { Reads text.now tokens.now }
+    requires order { AreInOrder tokens.now 0 templates.now }
+    requires bodies { bodies.now ≡ map (parts.body_steps text.now names.now tokens.now) templates.now }
+    requires same { length bodies.now ≡ length templates.now }
+    requires in_text { All (All (InText text.now)) bodies.now }
+    requires within { All (λ i. i.template < length bodies.now) found.now }
+    ensures { IfOk result (λ out. out.items ≡ joined (written_from text.now tokens.now underscores names.now (widths_in found.now) 0 0 templates.now) []) }
+{
+    let dealt = deal(alloc, found, bodies.len())?;
+    let mut out = Vec::new(alloc);
+    let mut from = 0;
+    for at in 0..templates.len() {
+        let template = templates[at];
+        write_between(
+            alloc,
+            &mut out,
+            text,
+            tokens,
+            names,
+            underscores,
+            from,
+            template.first,
+        )?;
+        write_gap(&mut out, text, tokens, template.first)?;
+        let widths = rising(alloc, dealt[at].as_slice())?;
+        write_instances(
+            &mut out,
+            text,
+            underscores,
+            bodies[at].as_slice(),
+            widths.as_slice(),
+        )?;
+        from = template.end;
+    }
+    write_between(
+        alloc,
+        &mut out,
+        text,
+        tokens,
+        names,
+        underscores,
+        from,
+        tokens.len(),
+    )?;
+    write_gap(&mut out, text, tokens, tokens.len())?;
+    Ok(out)
+}
+
+/// Writes the tokens outside all templates from one number up to another.
+fn write_between(
+    alloc: Global,
+    out: &mut Vec<u8>,
+    text: &[u8],
+    tokens: &[Token],
+    names: &Names,
+    underscores: usize,
+    first: usize,
+    end: usize,
+) -> Result<(), Memory>
+    requires reads { Reads text.now tokens.now }
+    requires order { first ≤ end }
+    requires within { end ≤ length tokens.now }
+    ensures { OnOk result (out.new.items ≡ out.old.items ++ joined (pieces_of text.now underscores 0 (parts.steps_between text.now names.now None tokens.now first end)) []) }
+{
+    tokens_stand(text, tokens);
+    let mut steps = Items::new(alloc);
+    add_steps(alloc, &mut steps, names, None, text, tokens, first, end)?;
+    steps_stand(text, tokens, names, first, end, steps.as_slice());
+    write_steps(out, text, underscores, 0, steps.as_slice())
+}
+
+/// A law: the steps outside all templates stand in the text. Nothing runs.
+fn steps_stand(
+    text: &[u8],
+    tokens: &[Token],
+    names: &Names,
+    first: usize,
+    end: usize,
+    steps: &[Step],
+)
+    requires reads { Reads text.now tokens.now }
+    requires order { first ≤ end }
+    requires within { end ≤ length tokens.now }
+    requires steps { steps.now ≡ parts.steps_between text.now names.now None tokens.now first end }
+    ensures { All (InText text.now) steps.now }
+{}
+
+/// Writes the blanks and comments before a token, or at the end of the text.
+fn write_gap(out: &mut Vec<u8>, text: &[u8], tokens: &[Token], at: usize) -> Result<(), Memory>
+    requires reads { Reads text.now tokens.now }
+    requires within { at ≤ length tokens.now }
+    ensures { OnOk result (out.new.items ≡ out.old.items ++ (parts.gap_before text.now tokens.now at).bytes) }
+{
+    gap_stands(text, tokens, at);
+    out.extend_from_slice(&text[end_before(tokens, at)..start_at(text, tokens, at)])?;
+    Ok(())
+}
+
+/// A law: the blanks and comments before a token stand in the text. Nothing runs.
+fn gap_stands(text: &[u8], tokens: &[Token], at: usize)
+    requires reads { Reads text.now tokens.now }
+    requires within { at ≤ length tokens.now }
+    ensures order { parts.end_before at tokens.now ≤ parts.start_of text.now (slice_get tokens.now at) }
+    ensures within { parts.start_of text.now (slice_get tokens.now at) ≤ length text.now }
+{}
+
+/// Where this token begins, or the text ends.
+fn start_at(text: &[u8], tokens: &[Token], at: usize) -> usize
+    ensures { result ≡ parts.start_of text.now (slice_get tokens.now at) }
+{
+    if at < tokens.len() {
+        tokens[at].span.start
+    } else {
+        text.len()
+    }
+}

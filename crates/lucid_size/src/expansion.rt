@@ -1,0 +1,118 @@
+// The expansion of a text.
+ghost use Rattle.std.specs.Prelude.{◌≡◌, ◌⊎◌, ◌<◌, ◌≤◌, ◌+◌, All, IfOk, IsErrOf, IsOkAnd, List, length, ℕ};
+ghost use Rattle.std.specs.List.{sum_by};
+ghost use Rattle.lucid_lex.specs.Piece.{Piece};
+ghost use Rattle.lucid_lex.specs.Reading.{Reads, tokens_from};
+ghost use Rattle.lucid_size.specs.declared.error.SizeError.TheVariants.{Broken, Memory, TooBig, Twice};
+ghost use Rattle.lucid_size.specs.Expansion.{ExpandsTo, IsBroken, IsExpansion, IsTooBig, IsTwice, most};
+ghost use Rattle.lucid_size.specs.Bytes.{instance_len, steps_len};
+ghost use Rattle.lucid_size.specs.Search.{AreUsed, AreWithin};
+
+use crate::assembly::write_whole;
+use crate::error::SizeError;
+use crate::names::names_of;
+use crate::parts::{parts_of, parts_stand, templates_stand};
+use crate::room::room_behind;
+use crate::step::{Instance, Step};
+use crate::templates::templates;
+use crate::underscores::underscores_in;
+use crate::used::find_used;
+use lucid_base::Items;
+use lucid_lex::Token;
+use std::alloc::Global;
+
+/// The most bytes of an expanded text.
+const MOST: usize = 8_388_608;
+
+/// The expanded text: in place of each template of the text stand the instances of it that are used, and all else stays. `tokens` are
+/// those that `lex` gives of the text; so `lex` reads what comes out, too, as the tokens of its pieces.
+///
+/// The causes of an error are tried in this order. `Broken` has the number, from 1, of the first `fun` whose template has no name, no `{`
+/// or no `}`. `Twice` has the first name that an earlier template has. `TooBig` says that the expanded text has more than 8,388,608
+/// bytes. Memory is the one answer without a cause. No more memory is taken than for the tokens and for some 12 MiB of text.
+pub fn expand(alloc: Global, text: &[u8], tokens: &[Token]) -> Result<Vec<u8>, SizeError>
+    requires { Reads text.now tokens.now }
+    // What is answered is so.
+    ensures ok { IfOk result (λ out. ExpandsTo text.now tokens.now out.items) }
+    ensures small { IfOk result (λ out. length out.items ≤ most) }
+    ensures broken { (n : ℕ) → IsErrOf result (Broken n) → IsBroken tokens.now n }
+    ensures twice { (name : List ℕ) → IsErrOf result (Twice name) → IsTwice text.now tokens.now name }
+    ensures too_big { IsErrOf result TooBig → IsTooBig text.now tokens.now }
+
+    // What is so is answered, unless memory runs out.
+    ensures if_text { (out : List ℕ) → ExpandsTo text.now tokens.now out → length out ≤ most → IsOkAnd result (λ o. o.items ≡ out) ⊎ IsErrOf result Memory }
+    ensures if_broken { (n : ℕ) → IsBroken tokens.now n → IsErrOf result (Broken n) ⊎ IsErrOf result Memory }
+    ensures if_twice { (name : List ℕ) → IsTwice text.now tokens.now name → IsErrOf result (Twice name) ⊎ IsErrOf result Memory }
+    ensures if_big { IsTooBig text.now tokens.now → IsErrOf result TooBig ⊎ IsErrOf result Memory }
+
+    // What comes out is read as the tokens of its pieces.
+    ensures read { IfOk result (λ out. (pieces : List Piece) → IsExpansion text.now tokens.now pieces → Reads out.items (tokens_from 0 pieces)) }
+{
+    written_out(alloc, text, tokens)
+}
+
+/// The expanded text, or one reason why there is none. That no other answer is right follows from these clauses alone.
+fn written_out(alloc: Global, text: &[u8], tokens: &[Token]) -> Result<Vec<u8>, SizeError>
+    requires { Reads text.now tokens.now }
+    ensures ok { IfOk result (λ out. ExpandsTo text.now tokens.now out.items) }
+    ensures small { IfOk result (λ out. length out.items ≤ most) }
+    ensures broken { (n : ℕ) → IsErrOf result (Broken n) → IsBroken tokens.now n }
+    ensures twice { (name : List ℕ) → IsErrOf result (Twice name) → IsTwice text.now tokens.now name }
+    ensures too_big { IsErrOf result TooBig → IsTooBig text.now tokens.now }
+{
+    let templates = templates(alloc, tokens)?;
+    templates_stand(text, tokens, templates.as_slice());
+    let names = names_of(alloc, text, tokens, templates.as_slice())?;
+    let parts = parts_of(alloc, text, tokens, &names, templates.as_slice())?;
+    parts_stand(
+        text,
+        tokens,
+        templates.as_slice(),
+        parts.outside.as_slice(),
+        parts.bodies.as_slice(),
+    );
+    let underscores = underscores_in(text, tokens);
+    let found = found_in(
+        alloc,
+        parts.outside.as_slice(),
+        parts.bodies.as_slice(),
+        underscores,
+    )?;
+    let out = write_whole(
+        alloc,
+        text,
+        tokens,
+        &names,
+        templates.as_slice(),
+        parts.bodies.as_slice(),
+        found.as_slice(),
+        underscores,
+    )?;
+    if out.len() > MOST {
+        return Err(SizeError::TooBig);
+    }
+    Ok(out)
+}
+
+/// The used instances; or TooBig, where they and what stands outside the templates have more bytes than an expanded text may have.
+fn found_in(
+    alloc: Global,
+    outside: &[Step],
+    bodies: &[Items<Step>],
+    underscores: usize,
+) -> Result<Vec<Instance>, SizeError>
+    requires outside { AreWithin (length bodies.now) outside.now }
+    requires bodies { All (AreWithin (length bodies.now)) bodies.now }
+    requires steps { All (All (λ s. s.from ≤ s.token.span.end)) bodies.now }
+    requires outer { All (λ s. s.from ≤ s.token.span.end) outside.now }
+    ensures found { IfOk result (λ f. AreUsed outside.now bodies.now f.items) }
+    ensures within { IfOk result (λ f. All (λ i. i.template < length bodies.now) f.items) }
+    ensures too_big { IsErrOf result TooBig → (found : List Instance) → AreUsed outside.now bodies.now found → most < steps_len underscores 0 outside.now + sum_by (instance_len underscores bodies.now) found }
+    ensures no_broken { (n : ℕ) → IsErrOf result (Broken n) → ⊥ }
+    ensures no_twice { (name : List ℕ) → IsErrOf result (Twice name) → ⊥ }
+{
+    match room_behind(underscores, 0, outside, MOST) {
+        None => Err(SizeError::TooBig),
+        Some(room) => find_used(alloc, outside, bodies, underscores, room),
+    }
+}

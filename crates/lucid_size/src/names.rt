@@ -1,0 +1,97 @@
+// The names of the templates of a text.
+ghost use Rattle.std.specs.Prelude.{◌≡◌, ◌∷◌, ◌++◌, [], All, IfErr, IfOk, None, OnOk, bytes_eq, position};
+ghost use Rattle.lucid_lex.specs.Reading.{IsTokenOf};
+ghost use Rattle.lucid_size.specs.Expansion.{first_repeat};
+ghost use Rattle.lucid_size.specs.Names.{Repeats};
+ghost use Rattle.lucid_size.specs.Parts as parts;
+ghost use Rattle.lucid_size.specs.Places.{IsWhole};
+
+use crate::error::SizeError;
+use crate::template::Template;
+use lucid_base::{Id, Memory};
+use lucid_lex::{Token, text_of};
+use std::alloc::Global;
+use std::collections::HashMap;
+use std::marker::Model;
+
+/// The names of templates, which contracts see as the list of their bytes in the order of the text. A name is found at once, however
+/// many there are.
+#[derive(Drop)]
+pub(crate) struct Names {
+    names: Vec<Id>,
+    // For each name its place in `names`.
+    places: HashMap<Id, usize>,
+}
+
+impl Model for Names {
+    ghost use Rattle.std.specs.Prelude.{List, ℕ};
+
+    ghost Value = { List (List ℕ) };
+
+    ghost use Rattle.lucid_size.specs.Names.{IsIndexed};
+
+    ghost view = { λ t. t.names.items };
+
+    ghost invariant = { λ t. IsIndexed t.names.items t.places };
+}
+
+impl Names {
+    /// No names.
+    pub(crate) fn new(alloc: Global) -> Names
+        ensures { result ≡ [] }
+    {
+        Names {
+            names: Vec::new(alloc),
+            places: HashMap::new(alloc),
+        }
+    }
+
+    /// The number of the template with this name, from 0.
+    pub(crate) fn place_of(&self, name: &Id) -> Option<usize>
+        ensures { result ≡ position (bytes_eq name.now) self.now }
+    {
+        self.places.get(name).copied()
+    }
+
+    /// Adds a name that is new.
+    pub(crate) fn add(&mut self, alloc: Global, name: &Id) -> Result<(), Memory>
+        requires { position (bytes_eq name.now) self.old ≡ None }
+        ensures { OnOk result (self.new ≡ self.old ++ name.now ∷ []) }
+    {
+        let key = name.copy(alloc)?;
+        let form = name.copy(alloc)?;
+        let place = self.names.len();
+        self.names.push(form)?;
+        match self.places.insert(key, place) {
+            Ok(_) => Ok(()),
+            Err(_) => {
+                self.names.pop();
+                Err(Memory)
+            }
+        }
+    }
+}
+
+/// The names of the templates, in their order; or the first that an earlier template has.
+pub(crate) fn names_of(
+    alloc: Global,
+    text: &[u8],
+    tokens: &[Token],
+    templates: &[Template],
+) -> Result<Names, SizeError>
+    requires stand { All (IsTokenOf text.now) tokens.now }
+    requires whole { All (IsWhole tokens.now) templates.now }
+    ensures names { IfOk result (λ names. names ≡ parts.names_of text.now tokens.now templates.now) }
+    ensures distinct { IfOk result (λ _. first_repeat [] (parts.names_of text.now tokens.now templates.now) ≡ None) }
+    ensures err { IfErr result (λ e. Repeats (first_repeat [] (parts.names_of text.now tokens.now templates.now)) e) }
+{
+    let mut names = Names::new(alloc);
+    for template in templates {
+        let name = Id::new(alloc, text_of(text, tokens[template.name]))?;
+        if names.place_of(&name).is_some() {
+            return Err(SizeError::Twice { name });
+        }
+        names.add(alloc, &name)?;
+    }
+    Ok(names)
+}

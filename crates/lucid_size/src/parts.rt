@@ -1,0 +1,139 @@
+// A text, cut into its templates and what stands outside them.
+ghost use Rattle.std.specs.Prelude.{◌≡◌, ◌≤◌, All, IfOk, Ok, length, map};
+ghost use Rattle.lucid_lex.specs.Reading.{IsTokenOf, Reads};
+ghost use Rattle.lucid_size.specs.Parts as spec;
+ghost use Rattle.lucid_size.specs.Places.{AreInOrder, InText, IsWhole};
+ghost use Rattle.lucid_size.specs.Search.{AreWithin};
+ghost use Rattle.lucid_size.specs.Templates as cutting;
+
+use crate::names::Names;
+use crate::step::{Form, Step};
+use crate::steps::{add_steps, end_before};
+use crate::template::Template;
+use lucid_base::{Items, Memory};
+use lucid_lex::{Token, text_of, tokens_stand};
+use std::alloc::Global;
+
+/// The steps outside the templates, and those of each template's body.
+#[derive(Drop)]
+pub(crate) struct Parts {
+    pub(crate) outside: Items<Step>,
+    pub(crate) bodies: Vec<Items<Step>>,
+}
+
+/// Cuts a text into its parts.
+pub(crate) fn parts_of(
+    alloc: Global,
+    text: &[u8],
+    tokens: &[Token],
+    names: &Names,
+    templates: &[Template],
+) -> Result<Parts, Memory>
+    requires stand { All (IsTokenOf text.now) tokens.now }
+    requires order { AreInOrder tokens.now 0 templates.now }
+    ensures outside { IfOk result (λ p. p.outside ≡ spec.outside_from text.now names.now tokens.now 0 templates.now) }
+    ensures bodies { IfOk result (λ p. p.bodies.items ≡ map (spec.body_steps text.now names.now tokens.now) templates.now) }
+{
+    let mut outside = Items::new(alloc);
+    let mut bodies = Vec::new(alloc);
+    let mut from = 0;
+    for template in templates {
+        add_steps(
+            alloc,
+            &mut outside,
+            names,
+            None,
+            text,
+            tokens,
+            from,
+            template.first,
+        )?;
+        bodies.push(body_steps(alloc, text, tokens, names, *template)?)?;
+        from = template.end;
+    }
+    add_steps(
+        alloc,
+        &mut outside,
+        names,
+        None,
+        text,
+        tokens,
+        from,
+        tokens.len(),
+    )?;
+    Ok(Parts { outside, bodies })
+}
+
+/// What becomes of a template's tokens behind its first `>>`.
+fn body_steps(
+    alloc: Global,
+    text: &[u8],
+    tokens: &[Token],
+    names: &Names,
+    template: Template,
+) -> Result<Items<Step>, Memory>
+    requires stand { All (IsTokenOf text.now) tokens.now }
+    requires whole { IsWhole tokens.now template }
+    ensures { IfOk result (λ steps. steps ≡ spec.body_steps text.now names.now tokens.now template) }
+{
+    let mut steps = Items::new(alloc);
+    let width = text_of(text, tokens[template.first + 2]);
+    add_steps(
+        alloc,
+        &mut steps,
+        names,
+        Some(width),
+        text,
+        tokens,
+        template.first + 4,
+        template.name,
+    )?;
+    let from = end_before(tokens, template.name);
+    steps.push(Step {
+        from,
+        token: tokens[template.name],
+        form: Form::Named,
+    })?;
+    add_steps(
+        alloc,
+        &mut steps,
+        names,
+        Some(width),
+        text,
+        tokens,
+        template.name + 1,
+        template.end,
+    )?;
+    Ok(steps)
+}
+
+/// A law: the templates of a text stand one behind another. Nothing runs.
+pub(crate) fn templates_stand(text: &[u8], tokens: &[Token], templates: &[Template])
+    requires reads { Reads text.now tokens.now }
+    requires whole { cutting.templates tokens.now ≡ Ok templates.now }
+    ensures stand { All (IsTokenOf text.now) tokens.now }
+    ensures order { AreInOrder tokens.now 0 templates.now }
+    ensures whole { All (IsWhole tokens.now) templates.now }
+{
+    tokens_stand(text, tokens);
+}
+
+/// A law: the steps of a text stand in it, and use its templates alone. Nothing runs.
+pub(crate) fn parts_stand(
+    text: &[u8],
+    tokens: &[Token],
+    templates: &[Template],
+    outside: &[Step],
+    bodies: &[Items<Step>],
+)
+    requires reads { Reads text.now tokens.now }
+    requires whole { cutting.templates tokens.now ≡ Ok templates.now }
+    requires outside { outside.now ≡ spec.outside_from text.now (spec.names_of text.now tokens.now templates.now) tokens.now 0 templates.now }
+    requires bodies { bodies.now ≡ map (spec.body_steps text.now (spec.names_of text.now tokens.now templates.now) tokens.now) templates.now }
+    ensures outer { All (λ s. s.from ≤ s.token.span.end) outside.now }
+    ensures inner { All (All (λ s. s.from ≤ s.token.span.end)) bodies.now }
+    ensures in_text { All (All (InText text.now)) bodies.now }
+    ensures outside { AreWithin (length bodies.now) outside.now }
+    ensures bodies { All (AreWithin (length bodies.now)) bodies.now }
+    ensures same { length bodies.now ≡ length templates.now }
+{}
