@@ -103,26 +103,3 @@ impl Sink for MemSink {
         self.put(piece)
     }
 }
-
-#[cfg(test)]
-mod tests {
-    use super::MemSink;
-    use crate::{WriteFault, put_all};
-    use std::test::Fail;
-
-    #[test]
-    fn writes_to_a_sink_in_memory(rt: HostRuntime) -> Result<(), Fail> {
-        let alloc = rt.alloc();
-        let mut sink = MemSink::new(alloc, 6, [1].to_vec(alloc)?)?;
-        for (piece, want, held) in [
-            (b"[0]".as_slice(), Ok(()), b"[0]".as_slice()),
-            (b" s0".as_slice(), Err(WriteFault), b"[0]".as_slice()),
-            (b" s0 pkt".as_slice(), Err(WriteFault), b"[0] s0".as_slice()),
-            (b"".as_slice(), Ok(()), b"[0] s0".as_slice()),
-        ] {
-            assert_eq!(rt; put_all(&mut sink, piece), want);
-            assert_eq!(rt; sink.bytes(), held);
-        }
-        Ok(())
-    }
-}

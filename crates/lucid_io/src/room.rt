@@ -83,36 +83,3 @@ pub fn release<S: Sink>(sink: &mut S, room: &mut Room) -> Result<(), WriteFault>
     room.len = 0;
     put
 }
-
-#[cfg(test)]
-mod tests {
-    use super::{Room, hold, release};
-    use crate::{MemSink, WriteFault};
-    use std::test::Fail;
-
-    #[test]
-    fn pieces_that_fit_are_one_write(rt: HostRuntime) -> Result<(), Fail> {
-        let alloc = rt.alloc();
-
-        // Write 0 goes well, and write 1 fails.
-        let mut sink = MemSink::new(alloc, 8192, [1].to_vec(alloc)?)?;
-        let mut room = Room::new();
-        for _ in 0..512 {
-            assert_eq!(rt; hold(&mut sink, &mut room, b"s0 a[0] "), Ok(()));
-        }
-        assert!(rt; sink.bytes().is_empty());
-        assert_eq!(rt; hold(&mut sink, &mut room, b"\n"), Ok(()));
-        assert_eq!(rt; sink.bytes().len(), 4096);
-        assert_eq!(rt; release(&mut sink, &mut room), Err(WriteFault));
-        assert_eq!(rt; release(&mut sink, &mut room), Ok(()));
-
-        // A piece that is longer than the room.
-        let long = vec![in alloc; b'x'; 4000]?;
-        assert_eq!(rt; hold(&mut sink, &mut room, long.as_slice()), Ok(()));
-        assert_eq!(rt; hold(&mut sink, &mut room, long.as_slice()), Ok(()));
-        assert_eq!(rt; sink.bytes().len(), 8096);
-        assert_eq!(rt; release(&mut sink, &mut room), Err(WriteFault));
-        assert_eq!(rt; sink.bytes().len(), 8192);
-        Ok(())
-    }
-}
