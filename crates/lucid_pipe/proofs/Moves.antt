@@ -23,7 +23,7 @@ use Rattle.lucid_pipe.specs.Settled.{settled, with_left, with_pass}
 use Rattle.lucid_pipe.specs.Slots.{free_slots, block_at, handed, taken}
 use Rattle.lucid_pipe.specs.Views.{packet_of, passed_of, told_by, in_slot, pipe_of, IsBlock, IsPipe}
 use Rattle.lucid_pipe.proofs.Sizes.{made_sizes}
-use Rattle.lucid_pipe.proofs.Handing.{blocks_of, same_length, stay_apart, stay_there, block_below, blocks_stay, moved_view, entered_view, own_block, packet_in, no_packet}
+use Rattle.lucid_pipe.proofs.Handing.{block_there, blocks_of, same_length, stay_apart, stay_there, block_below, blocks_stay, moved_view, entered_view, own_block, packet_in, no_packet}
 
 pub zeros_long : (arrays : List ArrayDef) → length (zero_cells arrays) ≡ length arrays
 zeros_long [] = refl
@@ -193,13 +193,8 @@ starts placed cells blocks n long none =
 pub same_count : (code : Parts) (blocks : List Block) (slots : List Slot) → AllByRecursion (λ (s : Slot). s.block < length blocks) slots →
     taken slots ≡ length (filter_map (λ slot. slot) (map (in_slot code blocks) slots))
 same_count code blocks [] h = refl
-same_count code blocks (s ∷ slots) h = by s.taken (slice_get blocks s.block) (there blocks s.block h.0) (same_count code blocks slots h.1)
+same_count code blocks (s ∷ slots) h = by s.taken (slice_get blocks s.block) (block_there blocks s.block h.0) (same_count code blocks slots h.1)
   where
-    there : (bs : List Block) (k : ℕ) → k < length bs → (d : Block) × (slice_get bs k ≡ Some d)
-    there [] k l = absurd (omega (arith, l))
-    there (b ∷ bs) zero l = (b, refl)
-    there (b ∷ bs) (suc k) l = there bs k (omega (arith, l))
-
     none : (d : Block) → None ≡ Some d → ⊥
     none d e = cc
 
