@@ -1,7 +1,7 @@
 -- What a move of a packet leaves of a pipe.
 use Rattle.std.proofs.Common.{◌≡◌, ℕ, zero, suc, ◌+◌, ◌<◌, ◌≤◌, List, [], ◌∷◌, Option, None, Some, IfSome, if◌then◌else◌, Bool, true, false, not, cond, length, map, nat_eq, nat_lt, replicate, slice_get, slice_set, slice_index_or, refl, sym, ap, ap₂, subst, ◌∙◌, arith}
 use Rattle.std.specs.List.{AllByRecursion, cons_option, filter, filter_map, range_with_len}
-use Rattle.std.specs.Option.{option_map, option_map_or}
+use Rattle.std.specs.Option.{option_map}
 use Rattle.std.proofs.lemmas.Bool.{and_from, or_from, ne_eqb}
 use Rattle.std.proofs.lemmas.List.{length-map, length-set}
 use Rattle.std.proofs.lemmas.List.FromFn.{length-map-range_with_len}
@@ -9,14 +9,12 @@ use Rattle.lucid_base.specs.Cells.{row_of, zero_cells}
 use Rattle.lucid_base.specs.declared.array.ArrayDef.{ArrayDef}
 use Rattle.lucid_base.specs.declared.event.Event.{Event}
 use Rattle.lucid_code.specs.Parts.{Parts}
-use Rattle.lucid_code.specs.Run.{Machine}
 use Rattle.lucid_tables.specs.Numbers.{is_in, all_differ}
 use Rattle.lucid_tables.specs.Placed.{PlacedParts, stage_of}
-use Rattle.lucid_tables.specs.Stages.{stage}
 use Rattle.lucid_pipe.specs.declared.block.Block.{Block}
 use Rattle.lucid_pipe.specs.declared.passed.Passed.{Passed}
 use Rattle.lucid_pipe.specs.declared.slots.Slot.{Slot}
-use Rattle.lucid_pipe.specs.Packets.{Packet, meets, left_by, told, entering}
+use Rattle.lucid_pipe.specs.Packets.{Packet, left_by, told, entering}
 use Rattle.lucid_pipe.specs.Pipe.{PipeParts, empty_pipe, packet_at, gone, comes_out, runs_stage, sizes}
 use Rattle.lucid_pipe.specs.Laws.{MovesKeep}
 use Rattle.lucid_pipe.specs.Settled.{settled, with_left, with_pass}

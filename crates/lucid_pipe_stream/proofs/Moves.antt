@@ -1,5 +1,5 @@
 -- One move after another, from the last stage to the first, is a move of all.
-use Rattle.std.proofs.Common.{◌≡◌, ℕ, zero, suc, ◌+◌, ◌-◌, ◌<◌, ◌≤◌, List, [], ◌∷◌, length, Option, None, Some, slice_get, refl, sym, ◌∙◌, ap, arith, add-one}
+use Rattle.std.proofs.Common.{◌≡◌, ℕ, zero, suc, ◌+◌, ◌-◌, ◌<◌, ◌≤◌, List, [], ◌∷◌, length, Option, None, slice_get, refl, sym, ◌∙◌, ap, arith, add-one}
 use Rattle.std.specs.Option.{option_and_then}
 use Rattle.lucid_pipe_stream.specs.Moves.{advance, backs, goes, through}
 use Rattle.lucid_pipe_stream.specs.Rows.{Row, Steps, after_first, row}
