@@ -1,5 +1,5 @@
 // Flights: packets that overlap, step by step, against what is worked by hand.
-ghost use Rattle.std.specs.Prelude.{◌≡◌, ◌<◌, [], ◌∷◌};
+ghost use Rattle.std.specs.Prelude.{◌≡◌, ◌<◌};
 ghost use Rattle.lucid_code.specs.Inputs.{IsInput};
 ghost use Rattle.lucid_tests_pipe.specs.Totals.{totals};
 

@@ -1,7 +1,6 @@
 // The placed code of the tests, built by hand.
 ghost use Rattle.std.specs.Prelude.{◌≡◌, ◌<◌, [], ◌∷◌, Some, None, length, IfOk, IfSome};
 ghost use Rattle.lucid_code.specs.Examples as codes;
-ghost use Rattle.lucid_code.specs.Inputs.{IsInput};
 ghost use Rattle.lucid_tables.specs.Examples as examples;
 ghost use Rattle.lucid_tables.specs.Placed.{IsPlaced};
 ghost use Rattle.lucid_tables.specs.Rows.{rows_of, guard_of};
@@ -12,7 +11,7 @@ use lucid_code::{Act, Code, Inputs, Op, Operand};
 use lucid_tables::{Placed, StageCode, table_of};
 use std::alloc::Global;
 
-/// The stages are placed, and each number of 16 bits is an input. It does nothing.
+/// The stages are placed. It does nothing.
 pub fn totals_are_placed()
     ensures { IsPlaced totals stages }
 {}
