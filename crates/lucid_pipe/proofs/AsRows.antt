@@ -1,7 +1,7 @@
 -- A pipe moves as its rows do.
 use Rattle.std.proofs.Common.{◌≡◌, ℕ, zero, suc, ◌+◌, ◌<◌, ◌≤◌, List, [], ◌∷◌, Bool, true, false, Option, None, Some, if◌then◌else◌, length, slice_get, slice_set, refl, sym, ap, ap₂, subst, ◌∙◌, ⊎_elim, arith}
 use Rattle.std.specs.List.{AllByRecursion}
-use Rattle.std.specs.Option.{option_map, option_map_or}
+use Rattle.std.specs.Option.{option_map}
 use Rattle.std.proofs.lemmas.Bool.{lt-ltb, le-ltb, cases_lt, true≢false}
 use Rattle.std.proofs.lemmas.List.{length-set, set_past}
 use Rattle.std.proofs.lemmas.Option.{slice_get_within}
@@ -22,7 +22,7 @@ use Rattle.lucid_pipe.specs.Rows.{chosen, own, owns, steps_of, rows_of, pipe_row
 use Rattle.lucid_pipe_stream.specs.Moves.{goes, entered_by}
 use Rattle.lucid_pipe_stream.specs.Rows.{Row, row, whole}
 use Rattle.lucid_pipe.proofs.Beside.{Cells, IsApart, by_test, same_cells, stage_length, pass_length, pass_leaves, first_apart, rest_apart}
-use Rattle.lucid_pipe.proofs.Settles.{there_full}
+use Rattle.lucid_pipe.proofs.Settles.{some_inj, there_full}
 
 -- ---- the cells of a stage's own arrays
 
@@ -94,9 +94,6 @@ module _ (code : Parts) where
       (same_own t (stage code (meets cells p) s).cells cells (stage_length code (meets cells p) s) (λ g i. keeps.others (meets cells p) g
       (by_test (is_in g s.arrays) (is_in g s.arrays ≡ false) (λ e. absurd (true≢false (sym i ∙ apart.0 g e))) (λ e. e))))
       (rows_stay s stages slots cells p keeps apart.1)
-
-  some_inj : (a b : Option Packet) → Some a ≡ Some b → a ≡ b
-  some_inj a b e = cc
 
   -- a packet that goes on
   rows_on : (stages : List StageCode) (slots : List (Option Packet)) (cells : Cells) (k : ℕ) (p : Packet) →

@@ -14,3 +14,4 @@ mod Places
 pub mod Settles
 pub mod Sizes
 mod Together
+mod Zeros

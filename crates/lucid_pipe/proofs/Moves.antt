@@ -1,7 +1,7 @@
 -- What a move of a packet leaves of a pipe.
 use Rattle.std.proofs.Common.{◌≡◌, ℕ, zero, suc, ◌+◌, ◌<◌, ◌≤◌, List, [], ◌∷◌, Option, None, Some, IfSome, if◌then◌else◌, Bool, true, false, not, cond, length, map, nat_eq, nat_lt, replicate, slice_get, slice_set, slice_index_or, refl, sym, ap, ap₂, subst, ◌∙◌, arith}
 use Rattle.std.specs.List.{AllByRecursion, cons_option, filter, filter_map, range_with_len}
-use Rattle.std.specs.Option.{option_map, option_map_or}
+use Rattle.std.specs.Option.{option_map}
 use Rattle.std.proofs.lemmas.Bool.{and_from, or_from, ne_eqb}
 use Rattle.std.proofs.lemmas.List.{length-map, length-set}
 use Rattle.std.proofs.lemmas.List.FromFn.{length-map-range_with_len}
@@ -9,21 +9,19 @@ use Rattle.lucid_base.specs.Cells.{row_of, zero_cells}
 use Rattle.lucid_base.specs.declared.array.ArrayDef.{ArrayDef}
 use Rattle.lucid_base.specs.declared.event.Event.{Event}
 use Rattle.lucid_code.specs.Parts.{Parts}
-use Rattle.lucid_code.specs.Run.{Machine}
 use Rattle.lucid_tables.specs.Numbers.{is_in, all_differ}
 use Rattle.lucid_tables.specs.Placed.{PlacedParts, stage_of}
-use Rattle.lucid_tables.specs.Stages.{stage}
 use Rattle.lucid_pipe.specs.declared.block.Block.{Block}
 use Rattle.lucid_pipe.specs.declared.passed.Passed.{Passed}
 use Rattle.lucid_pipe.specs.declared.slots.Slot.{Slot}
-use Rattle.lucid_pipe.specs.Packets.{Packet, meets, left_by, told, entering}
+use Rattle.lucid_pipe.specs.Packets.{Packet, left_by, told, entering}
 use Rattle.lucid_pipe.specs.Pipe.{PipeParts, empty_pipe, packet_at, gone, comes_out, runs_stage, sizes}
 use Rattle.lucid_pipe.specs.Laws.{MovesKeep}
 use Rattle.lucid_pipe.specs.Settled.{settled, with_left, with_pass}
 use Rattle.lucid_pipe.specs.Slots.{free_slots, block_at, handed, taken}
 use Rattle.lucid_pipe.specs.Views.{packet_of, passed_of, told_by, in_slot, pipe_of, IsBlock, IsPipe}
 use Rattle.lucid_pipe.proofs.Sizes.{made_sizes}
-use Rattle.lucid_pipe.proofs.Handing.{blocks_of, same_length, stay_apart, stay_there, block_below, blocks_stay, moved_view, entered_view, own_block, packet_in, no_packet}
+use Rattle.lucid_pipe.proofs.Handing.{block_there, blocks_of, same_length, stay_apart, stay_there, block_below, blocks_stay, moved_view, entered_view, own_block, packet_in, no_packet}
 
 pub zeros_long : (arrays : List ArrayDef) → length (zero_cells arrays) ≡ length arrays
 zeros_long [] = refl
@@ -193,13 +191,8 @@ starts placed cells blocks n long none =
 pub same_count : (code : Parts) (blocks : List Block) (slots : List Slot) → AllByRecursion (λ (s : Slot). s.block < length blocks) slots →
     taken slots ≡ length (filter_map (λ slot. slot) (map (in_slot code blocks) slots))
 same_count code blocks [] h = refl
-same_count code blocks (s ∷ slots) h = by s.taken (slice_get blocks s.block) (there blocks s.block h.0) (same_count code blocks slots h.1)
+same_count code blocks (s ∷ slots) h = by s.taken (slice_get blocks s.block) (block_there blocks s.block h.0) (same_count code blocks slots h.1)
   where
-    there : (bs : List Block) (k : ℕ) → k < length bs → (d : Block) × (slice_get bs k ≡ Some d)
-    there [] k l = absurd (omega (arith, l))
-    there (b ∷ bs) zero l = (b, refl)
-    there (b ∷ bs) (suc k) l = there bs k (omega (arith, l))
-
     none : (d : Block) → None ≡ Some d → ⊥
     none d e = cc
 

@@ -9,9 +9,9 @@ use Rattle.lucid_tables.specs.Placed.{PlacedParts}
 use Rattle.lucid_tables.specs.Stages.{pass}
 use Rattle.lucid_tables.specs.declared.stage.StageCode.{StageCode}
 use Rattle.lucid_pipe.specs.Laws.{MovesKeep, MovesArePasses}
-use Rattle.lucid_pipe.specs.Moves.{Flight, Move, enter, go, no_moves, outs_left, enters, goes_on, moved, after_moves}
+use Rattle.lucid_pipe.specs.Moves.{Flight, Move, enter, go, no_moves, outs_left, enters, goes_on, moved}
 use Rattle.lucid_pipe.specs.Packets.{Packet}
-use Rattle.lucid_pipe.specs.Pipe.{PipeParts, packet_at, gone, comes_out, entered}
+use Rattle.lucid_pipe.specs.Pipe.{packet_at, gone, comes_out}
 use Rattle.lucid_pipe.specs.Settled.{Settled, settled_from, settled, with_left, with_pass}
 use Rattle.lucid_pipe.specs.declared.passed.Passed.{Passed}
 

@@ -21,15 +21,18 @@ chosen mine g (cells ∷ rest) = (if mine g then cells else []) ∷ chosen mine 
 abbrev pub own : StageCode → List (List ℕ) → List (List ℕ)
 own s cells = chosen (λ g. is_in g s.arrays) 0 cells
 
+-- Those of each stage, in order.
 abbrev pub owns : List StageCode → List (List ℕ) → List (List (List ℕ))
 owns [] cells = []
 owns (s ∷ stages) cells = own s cells ∷ owns stages cells
 
+-- What stage k makes of cells and a packet.
 abbrev pub steps_of : Parts → List StageCode → Steps (List (List ℕ)) Packet
 steps_of code stages k cells p =
     let m = runs_stage code stages cells k p in
     (m.cells, left_by m p)
 
+-- Each stage's own cells, and what is in its slot.
 abbrev pub rows_of : List StageCode → List (Option Packet) → List (List ℕ) → List (Row (List (List ℕ)) Packet)
 rows_of [] slots cells = []
 rows_of (s ∷ stages) [] cells = []

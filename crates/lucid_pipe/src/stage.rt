@@ -1,8 +1,8 @@
 // A stage, executed on registers and cells: each table's first row that matches acts.
-ghost use Rattle.std.specs.Prelude.{◌≡◌, ◌<◌, length, slice_get, Some};
+ghost use Rattle.std.specs.Prelude.{◌≡◌, ◌<◌, length, slice_get};
 ghost use Rattle.std.specs.List.{fold};
 ghost use Rattle.std.specs.Option.{option_map_or};
-ghost use Rattle.lucid_code.specs.Guards.{all_hold, holds};
+ghost use Rattle.lucid_code.specs.Guards.{all_hold};
 ghost use Rattle.lucid_tables.specs.Registers.{registers_of};
 ghost use Rattle.lucid_tables.specs.Stages.{stage};
 ghost use Rattle.lucid_pipe.specs.Blocks.{machine, fields_of};

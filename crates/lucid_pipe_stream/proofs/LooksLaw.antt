@@ -1,5 +1,5 @@
 -- What a look in the middle of flight sees.
-use Rattle.std.proofs.Common.{◌≡◌, ℕ, zero, suc, ◌+◌, ◌<◌, ◌≤◌, List, [], ◌∷◌, ◌++◌, length, take, get_or, Option, None, Some, slice_get, slice_set, refl, sym, ◌∙◌, ap, subst, arith, length-append}
+use Rattle.std.proofs.Common.{◌≡◌, ℕ, zero, suc, ◌+◌, ◌≤◌, List, [], ◌∷◌, ◌++◌, length, take, get_or, Option, None, Some, refl, sym, ◌∙◌, ap, subst, arith, length-append}
 use Rattle.std.proofs.lemmas.List.{append-nil, take_all, take_at}
 use Rattle.lucid_pipe_stream.specs.Rows.{Row, row, Steps, after_first, whole, settled, settled_row}
 use Rattle.lucid_pipe_stream.specs.Picture.{cells_after, outs_of, after, waiting, IsPicture, Looks, KeepsPicture, LeavesPicture, EntersPicture, SettlesToAll}

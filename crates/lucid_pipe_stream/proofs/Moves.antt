@@ -1,17 +1,10 @@
 -- One move after another, from the last stage to the first, is a move of all.
-use Rattle.std.proofs.Common.{◌≡◌, ℕ, zero, suc, ◌+◌, ◌-◌, ◌<◌, ◌≤◌, List, [], ◌∷◌, length, Option, None, Some, slice_get, refl, sym, ◌∙◌, ap, arith, add-one}
+use Rattle.std.proofs.Common.{◌≡◌, ℕ, zero, suc, ◌+◌, ◌-◌, ◌<◌, ◌≤◌, List, [], ◌∷◌, length, Option, None, slice_get, refl, sym, ◌∙◌, ap, arith, add-one}
 use Rattle.std.specs.Option.{option_and_then}
 use Rattle.lucid_pipe_stream.specs.Moves.{advance, backs, goes, through}
 use Rattle.lucid_pipe_stream.specs.Rows.{Row, Steps, after_first, row}
 
 module _ {C P : Type 0} where
-  -- nothing has moved yet
-  pub backs_none : (step : Steps C P) (k : ℕ) (rows : List (Row C P)) → length rows ≤ k → backs step k rows ≡ (rows, None)
-  backs_none step zero [] le = refl
-  backs_none step zero (r ∷ rs) le = absurd (omega (arith, le))
-  backs_none step (suc k) [] le = refl
-  backs_none step (suc k) (r ∷ rs) le = ap (λ (l : List (Row C P) × Option P). (r ∷ l.0, l.1)) (backs_none (after_first step) k rs (omega (arith, le)))
-
   -- one more
   pub backs_goes : (step : Steps C P) (k : ℕ) (rows : List (Row C P)) → suc k < length rows →
       ((goes step k (backs step (suc k) rows).0).0 ≡ (backs step k rows).0) × ((backs step (suc k) rows).1 ≡ (backs step k rows).1)
@@ -29,12 +22,6 @@ module _ {C P : Type 0} where
   backs_last step zero (r ∷ q ∷ rs) is = absurd (omega (arith, is))
   backs_last step (suc k) (r ∷ rs) is =
       let rest = backs_last (after_first step) k rs (omega (arith, is)) in (ap (λ (l : List (Row C P)). r ∷ l) rest.0, rest.1)
-
-  pub goes_long : (step : Steps C P) (k : ℕ) (rows : List (Row C P)) → length (goes step k rows).0 ≡ length rows
-  goes_long step k [] = refl
-  goes_long step zero (r ∷ []) = refl
-  goes_long step zero (r ∷ q ∷ rs) = refl
-  goes_long step (suc k) (r ∷ rs) = ap suc (goes_long (after_first step) k rs)
 
   -- the first move
   pub moves_first : (step : Steps C P) (rows now : List (Row C P)) (out : Option P) (n : ℕ) → length rows ≡ n → 0 < n → now ≡ (goes step (n - 1) rows).0 → out ≡ (goes step (n - 1) rows).1 →

@@ -1,7 +1,7 @@
 -- A pipe between two ticks.
-use Rattle.std.proofs.Common.{◌≡◌, ℕ, zero, suc, ◌+◌, ◌-◌, ◌<◌, List, [], ◌∷◌, length, get_or, Option, None, Some, option_map, sym, ◌∙◌, ap, subst, arith, refl}
+use Rattle.std.proofs.Common.{◌≡◌, ℕ, zero, suc, ◌+◌, ◌-◌, List, [], ◌∷◌, length, get_or, Option, None, Some, option_map, sym, ◌∙◌, ap, arith, refl}
 use Rattle.lucid_pipe_stream.specs.Moves.{through}
-use Rattle.lucid_pipe_stream.specs.Rows.{Row, Steps, after_first}
+use Rattle.lucid_pipe_stream.specs.Rows.{Steps, after_first}
 use Rattle.lucid_pipe_stream.specs.Sights.{pasts, FlightLaw, StageLaw, SnapLaw}
 use Rattle.lucid_pipe_stream.specs.Stream.{ran, next, cells_at}
 use Rattle.lucid_pipe_stream.proofs.Stream.{settles_to}

@@ -1,5 +1,5 @@
 -- One pipe, tick by tick.
-use Rattle.std.proofs.Common.{◌≡◌, ℕ, zero, suc, ◌+◌, ◌<◌, ◌≤◌, List, [], ◌∷◌, length, Option, None, Some, option_map, refl, sym, ◌∙◌, ap, subst, arith}
+use Rattle.std.proofs.Common.{◌≡◌, ℕ, zero, suc, ◌+◌, ◌<◌, ◌≤◌, List, [], ◌∷◌, length, Option, None, Some, option_map, refl, sym, ◌∙◌, ap, arith}
 use Rattle.lucid_pipe_stream.specs.Moves.{through, advance, entered_by}
 use Rattle.lucid_pipe_stream.specs.Rows.{Row, row, Steps, after_first, empty_pipe, settled, settled_row}
 use Rattle.lucid_pipe_stream.specs.Stream.{ran, next, cells_at, ends, late, picture, passed, Advances, Passes, SettlesTo}
