@@ -1,5 +1,5 @@
 -- Fields that are written, what holds the locals, and what ops leave alone.
-use Rattle.std.proofs.Common.{◌≡◌, ℕ, zero, suc, ◌+◌, ◌^◌, ◌<◌, ◌≤◌, List, [], ◌∷◌, ◌++◌, Bool, true, false, not, ◌&&◌, Option, None, Some, length, map, refl, sym, ap, ap₂, ◌∙◌, arith, length-append, slice_index, slice_index_or, slice_set, nat_eq, nat_lt, if◌then◌else◌, is_some, true≢false, mod-eq_of_lt, le-ltb}
+use Rattle.std.proofs.Common.{◌≡◌, ℕ, zero, suc, ◌+◌, ◌^◌, ◌<◌, ◌≤◌, List, [], ◌∷◌, ◌++◌, Bool, true, false, ◌&&◌, Option, None, Some, length, map, refl, sym, ap, ap₂, ◌∙◌, arith, length-append, slice_index, slice_index_or, slice_set, nat_eq, nat_lt, if◌then◌else◌, is_some, true≢false, mod-eq_of_lt, le-ltb}
 use Rattle.std.specs.List.{AllByRecursion}
 use Rattle.std.proofs.lemmas.Bool.{ne_eqb}
 use Rattle.std.proofs.lemmas.List.{get_or_append_left}
