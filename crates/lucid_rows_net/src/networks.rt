@@ -10,23 +10,28 @@ use lucid_lex::lex;
 use lucid_net::{Net, NetError};
 use lucid_parse::parse;
 use lucid_parse_tree::Tree;
+use lucid_pipe::NoWatch;
 use lucid_types::elaborate;
 use std::alloc::Global;
 use std::test::Fail;
 
-/// Event `hit` adds to a cell; the others send it: to a switch, to the own switch, after a delay, to a group, and behind a print.
+/// Event `hit` adds to a cell; the others send it: to a switch, to the own switch, after a delay, to a group, behind a print, twice to a switch,
+/// and to a switch after a delay.
 const PROGRAM: &str =
     "global Array.t<<32>> x = Array.create(2); memop plus(int stored, int v) { return stored + v; } group near = { 1, 2 }; \
     event hit(int v); event far(int to, int v); event soon(int v); event late(int<<64>> d); event spread(int v); event tell(int v); \
+    event twice(int to, int v); event later(int to, int<<64>> d); \
     handle hit(int v) { Array.setm(x, 0, plus, v); } \
     handle far(int to, int v) { generate Event.locate(hit(v), to); } \
     handle soon(int v) { generate hit(v); } \
     handle late(int<<64>> d) { generate Event.delay(hit(1), d); } \
     handle spread(int v) { generate Event.locate(hit(v), near); } \
-    handle tell(int v) { printf(\"%d\", v); generate Event.locate(hit(v), SELF); }";
+    handle tell(int v) { printf(\"%d\", v); generate Event.locate(hit(v), SELF); } \
+    handle twice(int to, int v) { generate Event.locate(hit(v), to); generate Event.locate(hit(v + 1), to); } \
+    handle later(int to, int<<64>> d) { generate Event.delay(Event.locate(hit(1), to), d); }";
 
 /// Limits and a scenario, and the log.
-const ROWS: [(&str, &str, &str); 16] = [
+const ROWS: [(&str, &str, &str); 20] = [
     // No tick: what was to come is pending.
     (
         "{}",
@@ -133,6 +138,41 @@ const ROWS: [(&str, &str, &str); 16] = [
         "[0] s0 far(63,7)\n  generate hit(7) delay 0 to 63\n[0] s63 far(0,6)\n  generate hit(6) delay 0 to 0\n\
         [2] s0 hit(6)\n[2] s63 hit(7)\ns0 x[0] = 6\ns63 x[0] = 7\nentered 4 lost 0 pending 0\n",
     ),
+    // Of two that are ready at one tick the one that was sent earlier goes first, though its sender has the higher number.
+    (
+        r#"{"stages":1}"#,
+        r#"{"switches":3,"stop":7,"links":[[0,2,2],[1,2,3]],"events":[
+            {"at":0,"switch":1,"name":"far","args":[2,5]},
+            {"at":1,"switch":0,"name":"far","args":[2,6]}]}"#,
+        "[0] s1 far(2,5)\n  generate hit(5) delay 0 to 2\n[1] s0 far(2,6)\n  generate hit(6) delay 0 to 2\n\
+        [4] s2 hit(5)\n[5] s2 hit(6)\ns2 x[0] = 11\nentered 4 lost 0 pending 0\n",
+    ),
+    // Of those sent at one tick, those of the lower switch go first, and of one sender's the one that it sent first.
+    (
+        r#"{"stages":1}"#,
+        r#"{"switches":3,"stop":7,"links":[[0,2,1],[1,2,1]],"events":[
+            {"at":0,"switch":0,"name":"twice","args":[2,5]},
+            {"at":0,"switch":1,"name":"twice","args":[2,7]}]}"#,
+        "[0] s0 twice(2,5)\n  generate hit(5) delay 0 to 2\n  generate hit(6) delay 0 to 2\n\
+        [0] s1 twice(2,7)\n  generate hit(7) delay 0 to 2\n  generate hit(8) delay 0 to 2\n\
+        [2] s2 hit(5)\n[3] s2 hit(6)\n[4] s2 hit(7)\n[5] s2 hit(8)\ns2 x[0] = 26\nentered 6 lost 0 pending 0\n",
+    ),
+    // A delay counts over a link too.
+    (
+        r#"{"stages":1}"#,
+        r#"{"switches":2,"stop":7,"links":[[0,1,1]],"events":[{"at":0,"switch":0,"name":"later","args":[1,3]}]}"#,
+        "[0] s0 later(1,3)\n  generate hit(1) delay 3 to 1\n[5] s1 hit(1)\ns1 x[0] = 1\nentered 2 lost 0 pending 0\n",
+    ),
+    // A window takes what departs in it once its delay is over, and each window of a link does.
+    (
+        r#"{"stages":1}"#,
+        r#"{"version":2,"switches":2,"stop":12,"links":[[0,1,1]],"down":[[0,1,4,5],[0,1,8,9]],"events":[
+            {"at":0,"switch":0,"name":"later","args":[1,3]},
+            {"at":1,"switch":0,"name":"later","args":[1,3]},
+            {"at":2,"switch":0,"name":"later","args":[1,5]}]}"#,
+        "[0] s0 later(1,3)\n  generate hit(1) delay 3 to 1 lost\n[1] s0 later(1,3)\n  generate hit(1) delay 3 to 1\n\
+        [2] s0 later(1,5)\n  generate hit(1) delay 5 to 1 lost\n[6] s1 hit(1)\ns1 x[0] = 1\nentered 4 lost 2 pending 0\n",
+    ),
 ];
 
 fn tree_of(alloc: Global, program: &str) -> Result<Tree, Fail> {
@@ -163,7 +203,7 @@ fn run_writes(
 {
     let mut sink = sink_of(alloc, 4096)?;
     let net = Net::whole(alloc, core, scene, limits)?;
-    net.run(&mut sink, &mut ())?;
+    net.run(&mut sink, &mut NoWatch)?;
     Ok(sink.bytes() == log.as_bytes())
 }
 
@@ -231,7 +271,7 @@ fn full_sink_has(
 {
     let mut sink = sink_of(alloc, log.len())?;
     let net = Net::whole(alloc, core, scene, limits)?;
-    match net.run(&mut sink, &mut ()) {
+    match net.run(&mut sink, &mut NoWatch) {
         Ok(()) => Ok(false),
         Err(error) => Ok(error == NetError::WriteFault && sink.bytes() == log),
     }
