@@ -74,7 +74,8 @@ pub(crate) fn put_last<S: Sink>(
 /// The pipe of each switch in order is shown; nothing where handlers run whole.
 pub(crate) fn show<V: Watch>(now: &Machines<'_>, watch: &mut V)
     requires { FewPipes now.now }
-    ensures { ShowsAll (V.seen watch.old) (V.seen watch.new) (shown now.now) }
+    ensures shows { ShowsAll (V.seen watch.old) (V.seen watch.new) (shown now.now) }
+    ensures still { placed_of now.now ≡ None → watch.new ≡ watch.old }
 {
     match now {
         Machines::Whole(_) => {}

@@ -182,7 +182,8 @@ impl<'a> Net<'a> {
     /// The watch is shown the pipe of each switch in order.
     fn show<V: Watch>(&self, watch: &mut V)
         requires { self.now.failed ≡ false }
-        ensures { ShowsAll (V.seen watch.old) (V.seen watch.new) (sights (network self.now) self.now.placed self.now.at) }
+        ensures shows { ShowsAll (V.seen watch.old) (V.seen watch.new) (sights (network self.now) self.now.placed self.now.at) }
+        ensures still { self.now.placed ≡ None → watch.new ≡ watch.old }
     {
         show(&self.machines, watch);
     }
@@ -245,6 +246,7 @@ impl<'a> Net<'a> {
         requires sound { self.failed ≡ false }
         ensures log { Writes S.written S.faults sink.old sink.new (log (network self.entry)) result }
         ensures sights { ShowsRun (network self.entry) self.entry.placed (V.seen watch.old) (V.seen watch.new) result }
+        ensures still { self.entry.placed ≡ None → watch.new ≡ watch.old }
         ensures memory { self.entry.placed ≢ None → result ≡ Err memory_error → MayStop (network self.entry) }
     {
         let mut net = self;
@@ -280,6 +282,7 @@ fn all_ticks<S: Sink, V: Watch>(
     ensures at { OnOk result (net.new.at ≡ net.old.scene.stop) }
     ensures writes { Writes S.written S.faults sink.old sink.new (pieces (late_text (network net.old) (lag net.old)) 0 net.old.scene.stop) result }
     ensures sights { ShowsRun (network net.old) net.old.placed (V.seen watch.old) (V.seen watch.new) result }
+    ensures still { net.old.placed ≡ None → watch.new ≡ watch.old }
     ensures memory { net.old.placed ≢ None → result ≡ Err memory_error → MayStop (network net.old) }
 {
     let stop = net.stop();
