@@ -1,5 +1,6 @@
 mod Drained
 mod Ended
+mod Holding
 mod Keeping
 mod Leaver
 mod Loops

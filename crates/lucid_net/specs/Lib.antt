@@ -1,4 +1,5 @@
 pub mod Entering
+pub mod Holds
 pub mod Kept
 pub mod Leaving
 pub mod Numbered

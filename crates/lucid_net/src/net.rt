@@ -7,6 +7,7 @@ ghost use Rattle.lucid_net_flight.specs.Runs.{entering, late_text};
 ghost use Rattle.lucid_net_log.specs.Log.{log, ticks};
 ghost use Rattle.lucid_net_log.specs.Pieces.{pieces};
 ghost use Rattle.lucid_normal_form.specs.Stands.{StandsFor};
+ghost use Rattle.lucid_net.specs.Holds.{Holds};
 ghost use Rattle.lucid_net.specs.Numbered.{PipeIs, WithinPipes};
 ghost use Rattle.lucid_net.specs.Rows.{PipeStands};
 ghost use Rattle.lucid_net.specs.Seen.{AreSame, IsStart, lag, last_text, network};
@@ -159,12 +160,14 @@ impl<'a> Net<'a> {
     }
 
     /// The pipe of a switch. None exactly where handlers run whole. It is the pipe in which all that entered this switch in the network whose
-    /// events run whole moved once a tick (`PipeStands`): which packets are in flight, at which places, and all cells.
+    /// events run whole moved once a tick (`PipeStands`). So in flight is what entered in the last ticks, each packet at its place, and cells are
+    /// those of the network whose events run whole, at the tick to which a stage has come (`Holds`).
     pub fn pipe(&self, switch: u32) -> Option<&Pipe<'a>>
         requires within { switch < self.now.scene.switches }
         requires sound { self.now.failed ≡ false }
         ensures mode { is_some result ≡ is_some self.now.placed }
         ensures stands { IfSome result (λ p. IfSome self.now.placed (λ placed. PipeStands (network self.now) placed switch self.now.at p.now)) }
+        ensures holds { IfSome result (λ p. IfSome self.now.placed (λ placed. Holds (network self.now) placed self.now.at switch p.now)) }
     {
         pipe_of(&self.machines, switch)
     }
