@@ -5,15 +5,17 @@ use Rattle.lucid_core.specs.Fits.{event_fits}
 use Rattle.lucid_core.specs.Parts.{Parts}
 use Rattle.lucid_io.proofs.Leaves.{Leaves-whole, Leaves-after, Leaves-nothing}
 use Rattle.lucid_io.specs.Puts.{Leaves, PutsAll}
+use Rattle.lucid_net_log.proofs.Passing.{first_of, without_passes}
+use Rattle.lucid_net_log.proofs.Telling.{pieces-all, pieces-next, pieces-none, turn_untold, turns_pieces}
 use Rattle.lucid_net_log.specs.Log.{State, enters, turn, turns}
+use Rattle.lucid_net_log.specs.Older.{is_older}
+use Rattle.lucid_net_log.specs.Pieces.{pieces, turn_text, untold}
 use Rattle.lucid_net_log.specs.Ways.{Network}
 use Rattle.lucid_queue.specs.Waiting.{is_ready, without_first}
 use Rattle.lucid_queue.specs.declared.pending.Pending.{Pending}
 use Rattle.lucid_net.specs.Entering.{entered_text, with_entered}
-use Rattle.lucid_net.specs.Kept.{IsKept, is_kept, is_older}
-use Rattle.lucid_net.specs.Pieces.{pieces, turn_text, untold}
-use Rattle.lucid_net.proofs.Keeping.{first_of, found_passes, kept_switch, kept_tick, unfound, without_passes}
-use Rattle.lucid_net.proofs.Telling.{pieces-all, pieces-next, pieces-none, turn_untold, turns_pieces}
+use Rattle.lucid_net.specs.Kept.{IsKept, is_kept}
+use Rattle.lucid_net.proofs.Keeping.{found_passes, kept_switch, kept_tick, unfound}
 
 -- this waits in place of what waited
 abbrev pub with_pending : State → List Pending → State

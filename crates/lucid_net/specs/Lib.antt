@@ -1,8 +1,14 @@
 pub mod Entering
+pub mod Holds
 pub mod Kept
-pub mod Laws
-pub mod Pieces
+pub mod Leaving
+pub mod Numbered
+pub mod Pipes
+pub mod Rows
 pub mod Seen
 pub mod Sent
+pub mod Sights
+pub mod Stands
+pub mod Wanting
 pub mod Ways
 pub mod Writes

@@ -1,53 +1,56 @@
 -- What contracts see of a network in code.
-use Rattle.std.specs.Prelude.{◌≡◌, ℕ, ◌≤◌, Bool, false, []}
-use Rattle.lucid_conf.specs.Kept.{IsScene}
+use Rattle.std.specs.Prelude.{◌≡◌, ℕ, ◌+◌, List, ◌++◌, Option, None, Some, Bool, false}
 use Rattle.lucid_conf.specs.declared.limits.Limits.{Limits}
 use Rattle.lucid_conf.specs.declared.scene.Scene.{Scene}
 use Rattle.lucid_core.specs.Parts.{Parts}
-use Rattle.lucid_net_log.specs.Log.{State, start, ticks, whole}
+use Rattle.lucid_net_flight.specs.Runs.{late_text}
+use Rattle.lucid_net_log.specs.Log.{end_text, ticks, whole}
+use Rattle.lucid_net_log.specs.Pieces.{pieces}
 use Rattle.lucid_net_log.specs.Ways.{Network}
-use Rattle.lucid_net.specs.Kept.{IsKept}
-use Rattle.lucid_net.specs.Pieces.{untold}
-use Rattle.lucid_net.specs.declared.switches.Switches.{Switches}
+use Rattle.lucid_tables.specs.Placed.{PlacedParts}
+use Rattle.lucid_net.specs.Stands.{placed_of}
+use Rattle.lucid_net.specs.declared.machines.Machines.{Machines}
 use Rattle.lucid_net.specs.declared.world.World.{World}
 
--- What it runs, how many ticks are done, whether one failed, and the state after them, whose text is with the sink.
+-- What it runs, the placed code of its pipes, where it has pipes, how many ticks are done, and whether one failed.
 pub record Seen : Type 0 where
   pub parts : Parts
   pub scene : Scene
   pub limits : Limits
+  pub placed : Option PlacedParts
   pub at : ℕ
   pub failed : Bool
-  pub state : State
 
 abbrev pub network : Seen → Network
 network net = whole net.parts net.scene net.limits
 
--- The state of the switches, with nothing written.
-abbrev pub state_of : Switches → State
-state_of now = record { cells = now.cells.items; pending = now.queue; text = []; entered = now.entered; lost = now.lost }
+-- How many ticks pass before what entered is written: as many as there are stages, and none where handlers run whole.
+abbrev pub lag_by : Limits → Option PlacedParts → ℕ
+lag_by limits None = 0
+lag_by limits (Some placed) = limits.stages
 
--- A network keeps what its scenario keeps, and until a tick fails its state is that of the definition.
-pub record Stands (net : Seen) : Type 0 where
-  pub scene : IsScene net.parts net.scene
-  pub within : net.at ≤ net.scene.stop
-  pub state : net.failed ≡ false → net.state ≡ untold (ticks (network net) net.at)
-  pub kept : net.failed ≡ false → IsKept net.parts net.scene.switches net.at 0 net.state
+abbrev pub lag : Seen → ℕ
+lag net = lag_by net.limits net.placed
 
-abbrev pub seen : World → Switches → ℕ → Bool → Seen
-seen world now at failed = record { parts = world.core.now; scene = world.scene.now; limits = world.limits.now; at = at; failed = failed; state = state_of now }
+abbrev pub seen : World → Machines → ℕ → Bool → Seen
+seen world now at failed = record { parts = world.core.now; scene = world.scene.now; limits = world.limits.now; placed = placed_of now; at = at; failed = failed }
 
 -- They run the same.
 pub record AreSame (old new : Seen) : Type 0 where
   pub parts : new.parts ≡ old.parts
   pub scene : new.scene ≡ old.scene
   pub limits : new.limits ≡ old.limits
+  pub placed : new.placed ≡ old.placed
 
 -- It runs these, and no tick is done.
-pub record IsStart (program : Parts) (scenario : Scene) (target : Limits) (net : Seen) : Type 0 where
+pub record IsStart (program : Parts) (scenario : Scene) (target : Limits) (code : Option PlacedParts) (net : Seen) : Type 0 where
   pub parts : net.parts ≡ program
   pub scene : net.scene ≡ scenario
   pub limits : net.limits ≡ target
+  pub placed : net.placed ≡ code
   pub at : net.at ≡ 0
   pub failed : net.failed ≡ false
-  pub state : net.state ≡ start (whole program scenario target)
+
+-- What is written once the last tick is done: what is in flight, and the end.
+abbrev pub last_text : Network → ℕ → List ℕ
+last_text net late = pieces (late_text net late) net.scene.stop late ++ end_text net (ticks net net.scene.stop)

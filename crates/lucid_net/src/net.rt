@@ -1,32 +1,45 @@
 // A network of switches, run tick by tick or all at once.
-ghost use Rattle.std.specs.Prelude.{◌≡◌, ◌+◌, ◌<◌, ◌++◌, false, IfOk, OnOk, OnErr};
+ghost use Rattle.std.specs.Prelude.{length, ◌≡◌, ◌≢◌, ◌+◌, ◌-◌, ◌<◌, ◌++◌, false, IfOk, IfSome, None, Some, Err, OnErr, OnOk, is_some};
 ghost use Rattle.std.specs.Result.{is_err};
 ghost use Rattle.lucid_conf.specs.Kept.{IsScene};
-ghost use Rattle.lucid_io.specs.Puts.{PutsAll, PutsPart};
-ghost use Rattle.lucid_net_log.specs.Log.{end_text, log, ticks};
-ghost use Rattle.lucid_net.specs.Pieces.{tick_text, untold};
-ghost use Rattle.lucid_net.specs.Seen.{AreSame, IsStart, network};
+ghost use Rattle.lucid_conf.specs.Reading.{IsBetween};
+ghost use Rattle.lucid_net_flight.specs.Runs.{entering, late_text};
+ghost use Rattle.lucid_net_log.specs.Log.{log, ticks};
+ghost use Rattle.lucid_net_log.specs.Pieces.{pieces};
+ghost use Rattle.lucid_normal_form.specs.Stands.{StandsFor};
+ghost use Rattle.lucid_net.specs.Holds.{Holds};
+ghost use Rattle.lucid_net.specs.Numbered.{PipeIs, WithinPipes};
+ghost use Rattle.lucid_net.specs.Rows.{PipeStands};
+ghost use Rattle.lucid_net.specs.Seen.{AreSame, IsStart, lag, last_text, network};
+ghost use Rattle.lucid_net.specs.Sights.{ShowsAll, ShowsRun, in_last, sights};
+ghost use Rattle.lucid_net.specs.Stands.{placed_of};
+ghost use Rattle.lucid_net.specs.Wanting.{MayStop, SomeMade};
 ghost use Rattle.lucid_net.specs.Writes.{Writes};
+ghost use Rattle.lucid_net.specs.declared.error.NetError.TheVariants.{Memory as memory_error};
 
 use crate::NetError;
-use crate::ending::put_end;
-use crate::starting::{all_cells, all_events};
+use crate::leaving::Counts;
+use crate::machines::{Machines, packets, put_last, show, tick_all};
+use crate::pipes::Pipes;
+use crate::starting::{all_cells, all_events, all_pipes};
 use crate::switches::Switches;
-use crate::turns::all_turns;
 use crate::world::World;
 use lucid_base::Memory;
 use lucid_conf::{Limits, Scene};
-use lucid_core::Core;
+use lucid_core::{Core, outs_fit};
 use lucid_io::Sink;
+use lucid_net_pass::pass_does_as;
+use lucid_pipe::{Pipe, Watch};
+use lucid_tables::Placed;
 use std::alloc::Global;
 use std::marker::Model;
 
-/// A network that runs the handlers of a program whole. Contracts see what it runs, how many ticks are done, whether one failed, and the
-/// state after them: the definition's, until a tick fails.
+/// A network of switches that run the handlers of a program whole, or that have a pipe each. Contracts see what it runs, the placed code of its
+/// pipes, how many ticks are done, and whether one failed (`Seen`): until then its switches are those of the definition (`Stands`).
 #[derive(Drop)]
 pub struct Net<'a> {
     world: World<'a>,
-    switches: Switches,
+    machines: Machines<'a>,
     at: u64,
     failed: bool,
 }
@@ -34,15 +47,16 @@ pub struct Net<'a> {
 impl<'a> Model for Net<'a> {
     ghost use Rattle.lucid_core.specs.contracts.body.Stmt as stmt;
     ghost use Rattle.std.specs.Coded.{codes};
-    ghost use Rattle.lucid_net.specs.Seen.{Seen, Stands, seen};
+    ghost use Rattle.lucid_net.specs.Seen.{Seen, seen};
+    ghost use Rattle.lucid_net.specs.Stands.{Stands};
 
     ghost Value = { Seen };
 
     ghost coded = { Prim.hlevel (codes, stmt.the_row.coded) };
 
-    ghost view = { λ n. seen n.world n.switches n.at n.failed };
+    ghost view = { λ n. seen n.world n.machines n.at n.failed };
 
-    ghost invariant = { λ n. Stands (seen n.world n.switches n.at n.failed) };
+    ghost invariant = { λ n. Stands n.world n.machines n.at n.failed };
 }
 
 impl<'a> Net<'a> {
@@ -55,7 +69,7 @@ impl<'a> Net<'a> {
         limits: &'a Limits,
     ) -> Result<Net<'a>, Memory>
         requires { IsScene core.now scene.now }
-        ensures { IfOk result (IsStart core.now scene.now limits.now) }
+        ensures { IfOk result (IsStart core.now scene.now limits.now None) }
     {
         let cells = all_cells(alloc, core, scene.switches)?;
         let queue = all_events(alloc, core, scene.switches, scene.events.as_slice())?;
@@ -66,12 +80,60 @@ impl<'a> Net<'a> {
                 scene,
                 limits,
             },
-            switches: Switches {
+            machines: Machines::Whole(Switches {
                 cells,
                 queue,
                 entered: 0,
                 lost: 0,
+            }),
+            at: 0,
+            failed: false,
+        })
+    }
+
+    /// The network before tick 0 (`IsStart`) where each switch has a pipe of this placed code, with no packet and all cells 0. The code stands for
+    /// the program, has its arrays, and is placed in as many stages as the limits have. Memory is its one error; it also stands for more events
+    /// of the scenario, or of the program, than 32 bits can number.
+    pub fn piped(
+        alloc: Global,
+        core: &'a Core,
+        placed: &'a Placed,
+        scene: &'a Scene,
+        limits: &'a Limits,
+    ) -> Result<Net<'a>, Memory>
+        requires scene { IsScene core.now scene.now }
+        requires limits { IsBetween 1 32 limits.now.stages }
+        requires stands { StandsFor placed.now.code core.now }
+        requires arrays { placed.now.code.arrays ≡ core.now.arrays }
+        requires stages { length placed.now.stages ≡ limits.now.stages }
+        ensures { IfOk result (IsStart core.now scene.now limits.now (Some placed.now)) }
+    {
+        if scene.events.as_slice().len() > u32::MAX as usize {
+            return Err(Memory);
+        }
+        if core.events().len() > u32::MAX as usize {
+            return Err(Memory);
+        }
+        outs_fit(core);
+        pass_does_as(core, placed);
+        let pipes = all_pipes(alloc, placed, scene.switches)?;
+        let queue = all_events(alloc, core, scene.switches, scene.events.as_slice())?;
+        Ok(Net {
+            world: World {
+                alloc,
+                core,
+                scene,
+                limits,
             },
+            machines: Machines::Piped(Pipes {
+                placed,
+                pipes,
+                queue,
+                counts: Counts {
+                    entered: 0,
+                    lost: 0,
+                },
+            }),
             at: 0,
             failed: false,
         })
@@ -97,27 +159,54 @@ impl<'a> Net<'a> {
         self.world.scene.stop
     }
 
-    /// How many packets are in flight at the switch: none, since each event runs whole as it enters.
-    pub fn packets(&self, _switch: u32) -> usize
-        requires { _switch < self.now.scene.switches }
-        ensures { result ≡ 0 }
+    /// The pipe of a switch. None exactly where handlers run whole. It is the pipe in which all that entered this switch in the network whose
+    /// events run whole moved once a tick (`PipeStands`). So in flight is what entered in the last ticks, each packet at its place, and cells are
+    /// those of the network whose events run whole, at the tick to which a stage has come (`Holds`).
+    pub fn pipe(&self, switch: u32) -> Option<&Pipe<'a>>
+        requires within { switch < self.now.scene.switches }
+        requires sound { self.now.failed ≡ false }
+        ensures mode { is_some result ≡ is_some self.now.placed }
+        ensures stands { IfSome result (λ p. IfSome self.now.placed (λ placed. PipeStands (network self.now) placed switch self.now.at p.now)) }
+        ensures holds { IfSome result (λ p. IfSome self.now.placed (λ placed. Holds (network self.now) placed self.now.at switch p.now)) }
     {
-        0
+        pipe_of(&self.machines, switch)
     }
 
-    /// One tick, the turn of each switch in order (`tick_text` is what it writes). After an error a part of that was written, a proper one
-    /// where a write failed, and the network has failed.
+    /// How many packets are in flight at a switch: those of the events that entered it in as many of the last ticks as there are stages, and
+    /// none where handlers run whole.
+    pub fn packets(&self, switch: u32) -> usize
+        requires within { switch < self.now.scene.switches }
+        requires sound { self.now.failed ≡ false }
+        ensures { result ≡ in_last (entering (network self.now) switch) self.now.at (lag self.now) }
+    {
+        packets(&self.machines, switch)
+    }
+
+    /// The watch is shown the pipe of each switch in order.
+    fn show<V: Watch>(&self, watch: &mut V)
+        requires { self.now.failed ≡ false }
+        ensures shows { ShowsAll (V.seen watch.old) (V.seen watch.new) (sights (network self.now) self.now.placed self.now.at) }
+        ensures still { self.now.placed ≡ None → watch.new ≡ watch.old }
+    {
+        show(&self.machines, watch);
+    }
+
+    /// One tick, the turn of each switch in order. It writes what the tick so many ticks before it did in the definition (`late_text`): as many as
+    /// there are stages, none where handlers run whole. After an error a part of that was written, a proper one where a write failed, the
+    /// network has failed, and no tick was counted. A network with pipes finds no memory only where what left sent out an event that waits
+    /// (`SomeMade`).
     pub fn tick<S: Sink>(&mut self, sink: &mut S) -> Result<(), NetError>
         requires before { self.old.at < self.old.scene.stop }
         requires sound { self.old.failed ≡ false }
         ensures same { AreSame self.old self.new }
         ensures failed { self.new.failed ≡ is_err result }
         ensures at { OnOk result (self.new.at ≡ self.old.at + 1) }
-        ensures state { OnOk result (self.new.state ≡ untold (ticks (network self.old) (self.old.at + 1))) }
-        ensures writes { Writes S.written S.faults sink.old sink.new (tick_text (network self.old) self.old.at) result }
-        ensures so_far { (ticks (network self.old) (self.old.at + 1)).text ≡ (ticks (network self.old) self.old.at).text ++ tick_text (network self.old) self.old.at }
+        ensures stays { OnErr result (self.new.at ≡ self.old.at) }
+        ensures writes { Writes S.written S.faults sink.old sink.new (late_text (network self.old) (lag self.old) self.old.at) result }
+        ensures so_far { (ticks (network self.old) (self.old.at + 1 - lag self.old)).text ≡ (ticks (network self.old) (self.old.at - lag self.old)).text ++ late_text (network self.old) (lag self.old) self.old.at }
+        ensures memory { self.old.placed ≢ None → result ≡ Err memory_error → SomeMade (network self.old) self.old.at }
     {
-        match all_turns(&self.world, &mut self.switches, sink, self.at) {
+        match tick_all(&self.world, &mut self.machines, sink, self.at) {
             Ok(()) => {
                 self.at += 1;
                 Ok(())
@@ -129,41 +218,82 @@ impl<'a> Net<'a> {
         }
     }
 
-    /// The end, once all ticks are done: the cells that aren't 0, and how many events entered, were lost, and never entered.
+    /// The end, once all ticks are done: packets in flight finish and are written, and then come the cells that aren't 0, and how many events
+    /// entered, were lost, and never entered (`last_text`). It takes no memory.
     pub fn drain<S: Sink>(self, sink: &mut S) -> Result<(), NetError>
         requires done { self.at ≡ self.scene.stop }
         requires sound { self.failed ≡ false }
-        ensures { let net = network self.entry in Writes S.written S.faults sink.old sink.new (end_text net (ticks net net.scene.stop)) result }
+        ensures writes { Writes S.written S.faults sink.old sink.new (last_text (network self.entry) (lag self.entry)) result }
+        ensures memory { result ≢ Err memory_error }
     {
-        put_end(&self.world, &self.switches, sink)?;
-        Ok(())
+        let mut net = self;
+        net.end(sink)
     }
 
-    /// All ticks and the end: the whole log, or a part of it, a proper one where a write failed. The watch sees nothing.
-    pub fn run<S: Sink, V>(self, sink: &mut S, _watch: &mut V) -> Result<(), NetError>
+    /// The end of a network that is used no more.
+    fn end<S: Sink>(&mut self, sink: &mut S) -> Result<(), NetError>
+        requires done { self.old.at ≡ self.old.scene.stop }
+        requires sound { self.old.failed ≡ false }
+        ensures writes { Writes S.written S.faults sink.old sink.new (last_text (network self.old) (lag self.old)) result }
+        ensures memory { result ≢ Err memory_error }
+    {
+        self.failed = true;
+        put_last(&self.world, &mut self.machines, sink)
+    }
+
+    /// All ticks and the end: the whole log (`log`), the same whether handlers run whole or packets move through pipes; or a part of it, a proper
+    /// one where a write failed. After each tick the watch is shown the pipe of each switch in order (`ShowsRun`), and nothing where handlers
+    /// run whole. A network with pipes finds no memory only where one of its ticks may (`MayStop`).
+    pub fn run<S: Sink, V: Watch>(self, sink: &mut S, watch: &mut V) -> Result<(), NetError>
         requires begins { self.at ≡ 0 }
         requires sound { self.failed ≡ false }
         ensures log { Writes S.written S.faults sink.old sink.new (log (network self.entry)) result }
-        ensures watch { _watch.new ≡ _watch.old }
+        ensures sights { ShowsRun (network self.entry) self.entry.placed (V.seen watch.old) (V.seen watch.new) result }
+        ensures still { self.entry.placed ≡ None → watch.new ≡ watch.old }
+        ensures memory { self.entry.placed ≢ None → result ≡ Err memory_error → MayStop (network self.entry) }
     {
         let mut net = self;
-        all_ticks(&mut net, sink)?;
-        net.drain(sink)
+        match all_ticks(&mut net, sink, watch) {
+            Ok(()) => net.drain(sink),
+            Err(error) => Err(error),
+        }
+    }
+}
+
+/// The pipe of a switch, if there are pipes.
+fn pipe_of<'a, 'm>(machines: &'m Machines<'a>, switch: u32) -> Option<&'m Pipe<'a>>
+    requires { WithinPipes machines.now switch }
+    ensures mode { is_some result ≡ is_some (placed_of machines.now) }
+    ensures pipe { IfSome result (λ p. PipeIs machines.now switch p.now) }
+{
+    match machines {
+        Machines::Whole(_) => None,
+        Machines::Piped(pipes) => Some(&pipes.pipes[switch as usize]),
     }
 }
 
 /// All ticks.
-fn all_ticks<S: Sink>(net: &mut Net<'_>, sink: &mut S) -> Result<(), NetError>
+fn all_ticks<S: Sink, V: Watch>(
+    net: &mut Net<'_>,
+    sink: &mut S,
+    watch: &mut V,
+) -> Result<(), NetError>
     requires begins { net.old.at ≡ 0 }
     requires sound { net.old.failed ≡ false }
     ensures same { AreSame net.old net.new }
     ensures sound { OnOk result (net.new.failed ≡ false) }
     ensures at { OnOk result (net.new.at ≡ net.old.scene.stop) }
-    ensures writes { Writes S.written S.faults sink.old sink.new (ticks (network net.old) net.old.scene.stop).text result }
+    ensures writes { Writes S.written S.faults sink.old sink.new (pieces (late_text (network net.old) (lag net.old)) 0 net.old.scene.stop) result }
+    ensures sights { ShowsRun (network net.old) net.old.placed (V.seen watch.old) (V.seen watch.new) result }
+    ensures still { net.old.placed ≡ None → watch.new ≡ watch.old }
+    ensures memory { net.old.placed ≢ None → result ≡ Err memory_error → MayStop (network net.old) }
 {
     let stop = net.stop();
     for _tick in 0..stop {
-        net.tick(sink)?;
+        match net.tick(sink) {
+            Ok(()) => net.show(watch),
+            Err(error) => return Err(error),
+        }
     }
     Ok(())
 }

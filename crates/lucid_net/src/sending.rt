@@ -1,15 +1,16 @@
 // What an event sends out: it waits, or is lost.
-ghost use Rattle.std.specs.Prelude.{◌≡◌, ◌+◌, ◌<◌, ◌≤◌, ◌^◌, All, IfOk, IfSome, IsTrue, OnOk, false, true, if◌then◌else◌, length};
+ghost use Rattle.std.specs.Prelude.{◌≡◌, ◌≢◌, ◌+◌, ◌<◌, ◌≤◌, ◌^◌, [], All, IfOk, IfSome, IsSome, IsTrue, OnErr, OnOk, false, true, if◌then◌else◌, length};
 ghost use Rattle.std.specs.List.{list_all, list_any};
-ghost use Rattle.std.specs.Option.{option_map, option_to_list};
+ghost use Rattle.std.specs.Option.{option_to_list};
 ghost use Rattle.lucid_base.specs.declared.event.Out.TheVariants.{Gen};
 ghost use Rattle.lucid_core.specs.Fits.{event_fits, out_fits};
 ghost use Rattle.lucid_net_log.specs.Log.{losses, made as all_made, put_all};
-ghost use Rattle.lucid_net_log.specs.Ways.{arrival, departure as departure_of, is_lost as loses, lost_marks, pending_out};
+ghost use Rattle.lucid_net_log.specs.Older.{IsNew};
+ghost use Rattle.lucid_net_log.specs.Ways.{is_lost as loses, lost_marks, pending_out};
 ghost use Rattle.lucid_queue.specs.Order.{has_place, is_before};
 ghost use Rattle.lucid_queue.specs.Waiting.{put_in};
-ghost use Rattle.lucid_net.specs.Kept.{IsNew, is_kept};
-ghost use Rattle.lucid_net.specs.Sent.{net_of, run_of};
+ghost use Rattle.lucid_net.specs.Kept.{is_kept};
+ghost use Rattle.lucid_net.specs.Sent.{makes, net_of, run_of};
 
 use crate::ways::{arrival as arrival_at, departure};
 use crate::world::{Ran, World};
@@ -119,6 +120,7 @@ fn send_event(
     ensures waits { OnOk result (queue.new ≡ put_all (option_to_list (pending_out (net_of world.now) (run_of ran.now) index (Gen event delay to))) queue.old) }
     ensures lost { IfOk result (λ lost. lost ≡ loses (net_of world.now) (run_of ran.now) (Gen event delay to)) }
     ensures kept { OnOk result (list_all (is_kept world.now.core.now ran.now.tick ran.now.switch (index + 1)) queue.new ≡ true) }
+    ensures some { OnErr result (IsSome (pending_out (net_of world.now) (run_of ran.now) index (Gen event delay to))) }
 {
     match waiting(world, ran, index, event, delay, to) {
         Some(p) => {
@@ -142,6 +144,7 @@ fn send_out(
     ensures waits { OnOk result (queue.new ≡ put_all (option_to_list (pending_out (net_of world.now) (run_of ran.now) index out.now)) queue.old) }
     ensures lost { IfOk result (λ lost. lost ≡ loses (net_of world.now) (run_of ran.now) out.now) }
     ensures kept { OnOk result (list_all (is_kept world.now.core.now ran.now.tick ran.now.switch (index + 1)) queue.new ≡ true) }
+    ensures some { OnErr result (IsSome (pending_out (net_of world.now) (run_of ran.now) index out.now)) }
 {
     match *out {
         Out::Gen { event, delay, to } => send_event(world, queue, ran, index, event, delay, to),
@@ -159,6 +162,7 @@ pub(crate) fn send(world: &World, queue: &mut Queue, ran: &Ran) -> Result<Lost, 
     ensures count { IfOk result (λ lost. lost.count ≡ losses (net_of world.now) (run_of ran.now)) }
     ensures marks { IfOk result (λ lost. lost.marks ≡ lost_marks (net_of world.now) (run_of ran.now) 0 ran.now.outs.now) }
     ensures few { IfOk result (λ lost. lost.count ≤ 8) }
+    ensures some { OnErr result (all_made (net_of world.now) (run_of ran.now) ≢ []) }
 {
     let mut lost = Lost { count: 0, marks: 0 };
     for (index, out) in ran.outs.iter().enumerate() {
@@ -166,4 +170,59 @@ pub(crate) fn send(world: &World, queue: &mut Queue, ran: &Ran) -> Result<Lost, 
         lost = lost.with(index, is_lost);
     }
     Ok(lost)
+}
+
+/// What becomes of the outs of a run: how many are lost, and which; and how many wait.
+#[derive(Clone, Copy)]
+pub(crate) struct Told {
+    pub(crate) lost: Lost,
+    pub(crate) made: u64,
+}
+
+/// Whether an out of a run is an event that is lost.
+fn is_lost(world: &World, ran: &Ran, out: &Out) -> bool
+    ensures { result ≡ loses (net_of world.now) (run_of ran.now) out.now }
+{
+    match *out {
+        Out::Gen { delay, to, .. } => {
+            arrival_at(
+                world.scene,
+                ran.switch,
+                departure(world.limits, ran.tick, delay),
+                to,
+            )
+            .is_none()
+        }
+        Out::Say { .. } => false,
+    }
+}
+
+/// Whether an out of a run is an event that waits.
+fn is_made(world: &World, ran: &Ran, out: &Out) -> bool
+    ensures { result ≡ makes (net_of world.now) (run_of ran.now) out.now }
+{
+    match *out {
+        Out::Gen { .. } => !is_lost(world, ran, out),
+        Out::Say { .. } => false,
+    }
+}
+
+/// What a run sends out is counted, and waits nowhere. It takes no memory.
+pub(crate) fn tell(world: &World, ran: &Ran) -> Told
+    requires few { length ran.now.outs.now ≤ 8 }
+    ensures made { result.made ≡ length (all_made (net_of world.now) (run_of ran.now)) }
+    ensures count { result.lost.count ≡ losses (net_of world.now) (run_of ran.now) }
+    ensures marks { result.lost.marks ≡ lost_marks (net_of world.now) (run_of ran.now) 0 ran.now.outs.now }
+    ensures few { result.lost.count ≤ 8 }
+    ensures fewer { result.made ≤ 8 }
+{
+    let mut lost = Lost { count: 0, marks: 0 };
+    let mut made = 0;
+    for (index, out) in ran.outs.iter().enumerate() {
+        lost = lost.with(index, is_lost(world, ran, out));
+        if is_made(world, ran, out) {
+            made += 1;
+        }
+    }
+    Told { lost, made }
 }

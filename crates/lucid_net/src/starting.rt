@@ -1,10 +1,11 @@
 // How a network begins: all cells are 0, and the events of the file wait.
-ghost use Rattle.std.specs.Prelude.{◌≡◌, ◌+◌, ◌<◌, [], All, IfOk, IsTrue, OnOk, true, false, replicate};
+ghost use Rattle.std.specs.Prelude.{◌≡◌, ◌+◌, [], All, IfOk, IsTrue, OnOk, true, false, replicate};
 ghost use Rattle.std.specs.List.{list_all};
 ghost use Rattle.lucid_base.specs.Cells.{zero_cells};
 ghost use Rattle.lucid_conf.specs.Kept.{IsFileEvent};
 ghost use Rattle.lucid_core.specs.Fits.{event_fits};
 ghost use Rattle.lucid_net_log.specs.Log.{file_event, file_events, put_all};
+ghost use Rattle.lucid_pipe.specs.Pipe.{empty_pipe};
 ghost use Rattle.lucid_queue.specs.Order.{is_before};
 ghost use Rattle.lucid_queue.specs.Waiting.{put_in};
 ghost use Rattle.lucid_net.specs.Kept.{is_kept, is_of_file};
@@ -13,7 +14,9 @@ use crate::sending::push;
 use lucid_base::Memory;
 use lucid_conf::FileEvent;
 use lucid_core::{Cells, Core};
+use lucid_pipe::Pipe;
 use lucid_queue::{PendKey, Pending, Queue};
+use lucid_tables::Placed;
 use std::alloc::Global;
 
 /// The cells of so many switches, all 0.
@@ -24,6 +27,22 @@ pub(crate) fn all_cells(alloc: Global, core: &Core, switches: u32) -> Result<Vec
     for _index in 0..switches {
         let cells = core.cells(alloc)?;
         all.push(cells)?;
+    }
+    Ok(all)
+}
+
+/// The pipes of so many switches, with no packet and all cells 0.
+pub(crate) fn all_pipes<'a>(
+    alloc: Global,
+    placed: &'a Placed,
+    switches: u32,
+) -> Result<Vec<Pipe<'a>>, Memory>
+    ensures { IfOk result (λ all. all.items ≡ replicate switches (empty_pipe placed.now)) }
+{
+    let mut all = Vec::new(alloc);
+    for _index in 0..switches {
+        let pipe = Pipe::new(alloc, placed)?;
+        all.push(pipe)?;
     }
     Ok(all)
 }

@@ -2,11 +2,11 @@
 ghost use Rattle.std.specs.Prelude.{◌≡◌, ◌+◌, ◌*◌, ◌<◌, ◌≤◌, All, IfOk, IsTrue, OnOk, length};
 ghost use Rattle.lucid_core.specs.Fits.{event_fits, out_fits};
 ghost use Rattle.lucid_net_log.specs.Log.{done_at, turn as turn_of, turns};
+ghost use Rattle.lucid_net_log.specs.Pieces.{untold};
 ghost use Rattle.lucid_net.specs.Entering.{entered_text, with_cells, with_entered};
 ghost use Rattle.lucid_net.specs.Kept.{IsKept};
-ghost use Rattle.lucid_net.specs.Pieces.{untold};
-ghost use Rattle.lucid_net.specs.Seen.{state_of};
 ghost use Rattle.lucid_net.specs.Sent.{net_of};
+ghost use Rattle.lucid_net.specs.Stands.{state_of};
 ghost use Rattle.lucid_net.specs.Writes.{Writes};
 
 use crate::NetError;

@@ -16,19 +16,19 @@ use Rattle.lucid_queue.specs.Waiting.{put_in, without_first, is_ready}
 use Rattle.lucid_queue.specs.declared.pending.Pending.{Pending}
 
 -- none of the list stands before p
-abbrev NoneBefore : Pending → List Pending → Type 0
+abbrev pub NoneBefore : Pending → List Pending → Type 0
 NoneBefore p ps = AllByRecursion (λ q. is_before q p ≡ false) ps
 
-law : IsStrictWeakOrder is_before
-law = ranks_by pending_total (λ p. p)
+pub is_strict_order : IsStrictWeakOrder is_before
+is_strict_order = ranks_by pending_total (λ p. p)
 
-if_true : {A : Type 0} (b : Bool) (x y : A) → b ≡ true → (if b then x else y) ≡ x
+pub if_true : {A : Type 0} (b : Bool) (x y : A) → b ≡ true → (if b then x else y) ≡ x
 if_true b x y is = ap (λ (b : Bool). if b then x else y) is
 
-if_false : {A : Type 0} (b : Bool) (x y : A) → b ≡ false → (if b then x else y) ≡ y
+pub if_false : {A : Type 0} (b : Bool) (x y : A) → b ≡ false → (if b then x else y) ≡ y
 if_false b x y is = ap (λ (b : Bool). if b then x else y) is
 
-either : (P : Type 0) (b : Bool) → (b ≡ true → P) → (b ≡ false → P) → P
+pub either : (P : Type 0) (b : Bool) → (b ≡ true → P) → (b ≡ false → P) → P
 either P true here there = here refl
 either P false here there = there refl
 
@@ -37,7 +37,7 @@ false_true e = cc
 
 -- x before y, and z not before y: then z is not before x
 through : (x y z : Pending) → is_before x y ≡ true → is_before z y ≡ false → is_before z x ≡ false
-through x y z before not_before = law.chain z y x not_before (law.one_way x y before)
+through x y z before not_before = is_strict_order.chain z y x not_before (is_strict_order.one_way x y before)
 
 none_through : (x y : Pending) (zs : List Pending) → is_before x y ≡ true → NoneBefore y zs → NoneBefore x zs
 none_through x y [] before none = tt
@@ -51,17 +51,17 @@ none_put x y (z ∷ zs) not_before none = put (is_before x z) (none_put x y zs n
     put true rest = (not_before, none)
     put false rest = (none.0, rest)
 
-put_stays : (x : Pending) (ys : List Pending) → IsInOrder ys → IsInOrder (put_in is_before x ys)
+pub put_stays : (x : Pending) (ys : List Pending) → IsInOrder ys → IsInOrder (put_in is_before x ys)
 put_stays x [] ordered = (tt, tt)
 put_stays x (y ∷ ys) ordered = either _ (is_before x y) early (late (put_stays x ys ordered.1))
   where
     early : is_before x y ≡ true → IsInOrder (put_in is_before x (y ∷ ys))
-    early before = subst IsInOrder (sym (if_true (is_before x y) _ _ before)) ((law.one_way x y before, none_through x y ys before ordered.0), ordered)
+    early before = subst IsInOrder (sym (if_true (is_before x y) _ _ before)) ((is_strict_order.one_way x y before, none_through x y ys before ordered.0), ordered)
 
     late : IsInOrder (put_in is_before x ys) → is_before x y ≡ false → IsInOrder (put_in is_before x (y ∷ ys))
     late tail not_before = subst IsInOrder (sym (if_false (is_before x y) _ _ not_before)) (none_put x y ys not_before ordered.0, tail)
 
-all_stay : (xs ys : List Pending) → IsInOrder ys → IsInOrder (put_all xs ys)
+pub all_stay : (xs ys : List Pending) → IsInOrder ys → IsInOrder (put_all xs ys)
 all_stay [] ys ordered = ordered
 all_stay (x ∷ xs) ys ordered = all_stay xs (put_in is_before x ys) (put_stays x ys ordered)
 
@@ -73,7 +73,7 @@ none_without may p (q ∷ qs) none = at (may q) (none_without may p qs none.1)
     at true rest = none.1
     at false rest = (none.0, rest)
 
-without_stays : (may : Pending → Bool) (ps : List Pending) → IsInOrder ps → IsInOrder (without_first may ps)
+pub without_stays : (may : Pending → Bool) (ps : List Pending) → IsInOrder ps → IsInOrder (without_first may ps)
 without_stays may [] ordered = tt
 without_stays may (p ∷ ps) ordered = at (may p) (none_without may p ps ordered.0) (without_stays may ps ordered.1)
   where

@@ -1,3 +1,8 @@
 mod ExampleProofs
-mod InOrder
-mod Numbers
+mod Free
+pub mod InOrder
+pub mod Numbers
+pub mod Older
+pub mod Passing
+pub mod Telling
+mod Windows

@@ -10,6 +10,7 @@ use lucid_lex::lex;
 use lucid_net::{Net, NetError};
 use lucid_parse::parse;
 use lucid_parse_tree::Tree;
+use lucid_pipe::NoWatch;
 use lucid_types::elaborate;
 use std::alloc::Global;
 use std::test::Fail;
@@ -163,7 +164,7 @@ fn run_writes(
 {
     let mut sink = sink_of(alloc, 4096)?;
     let net = Net::whole(alloc, core, scene, limits)?;
-    net.run(&mut sink, &mut ())?;
+    net.run(&mut sink, &mut NoWatch)?;
     Ok(sink.bytes() == log.as_bytes())
 }
 
@@ -231,7 +232,7 @@ fn full_sink_has(
 {
     let mut sink = sink_of(alloc, log.len())?;
     let net = Net::whole(alloc, core, scene, limits)?;
-    match net.run(&mut sink, &mut ()) {
+    match net.run(&mut sink, &mut NoWatch) {
         Ok(()) => Ok(false),
         Err(error) => Ok(error == NetError::WriteFault && sink.bytes() == log),
     }

@@ -16,6 +16,7 @@ use lucid_conf::{Limits, Scene};
 use lucid_core::Core;
 use lucid_io::Sink;
 use lucid_net::{Net, NetError};
+use lucid_pipe::NoWatch;
 use std::alloc::Global;
 
 /// Writes the log of the network that the third text sets up for the program of the first, under the limits of the second.
@@ -83,5 +84,5 @@ fn put<W: Sink>(alloc: Global, out: &mut W, network: &Network) -> Result<(), Net
         Writes W.written W.faults out.old out.new text result }
 {
     let net = Net::whole(alloc, &network.core, &network.scene, &network.limits)?;
-    net.run(out, &mut ())
+    net.run(out, &mut NoWatch)
 }

@@ -1,11 +1,12 @@
 use Rattle.std.proofs.Common.{◌+◌, ◌-◌, ◌≡◌, ℕ, List, Err, rules, refl, subst, arith}
+use Rattle.lucid_net_log.proofs.Telling.{pieces-next}
 use Rattle.lucid_net_log.specs.Log.{turns}
+use Rattle.lucid_net_log.specs.Pieces.{pieces, turn_text}
 use Rattle.lucid_net.specs.Kept.{IsKept}
-use Rattle.lucid_net.specs.Pieces.{pieces, turn_text}
-use Rattle.lucid_net.specs.Seen.{state_of}
 use Rattle.lucid_net.specs.Sent.{net_of}
+use Rattle.lucid_net.specs.Stands.{state_of}
 use Rattle.lucid_net.specs.Writes.{Writes}
-use Rattle.lucid_net.proofs.Telling.{Writes-stop, pieces-next}
+use Rattle.lucid_net.proofs.Telling.{Writes-stop}
 use Rattle.lucid_net.proofs.Turning.{ticked_kept, turn_piece, turning_first, turning_next}
 use Rattle.lucid_net.proofs.turns.all_turns.Goals as goal
 

@@ -1,9 +1,9 @@
 use Rattle.std.proofs.Common.{◌+◌, List, ℕ, refl, sym, ◌∙◌, ap, subst}
+use Rattle.lucid_net_log.specs.Pieces.{untold}
 use Rattle.lucid_queue.specs.declared.pending.Pending.{Pending}
 use Rattle.lucid_net.specs.Kept.{IsKept}
-use Rattle.lucid_net.specs.Pieces.{untold}
-use Rattle.lucid_net.specs.Seen.{state_of}
 use Rattle.lucid_net.specs.Sent.{net_of}
+use Rattle.lucid_net.specs.Stands.{state_of}
 use Rattle.lucid_net.specs.Writes.{Writes}
 use Rattle.lucid_net.proofs.Turning.{passed_kept, popped_fits, popped_kept, turn_enters, turn_passes, unfound_pending, with_pending}
 use Rattle.lucid_net.proofs.turns.turn.Goals as goal
