@@ -50,8 +50,13 @@ lost_more net t s w (Some p) few = omega (arith, count_few (is_lost net (run_at 
 pending_more : (net : Network) (t s : ℕ) (w : State) (o : Option Pending) → SendsFew net → length (enters net t s w o).pending ≤ length w.pending + 8
 pending_more net t s w None few = omega arith
 pending_more net t s w (Some p) few =
-    omega (arith, length-put_all (made net (run_at net t s w p.event)) (without_first (is_ready s t) w.pending), length-without (is_ready s t) w.pending,
-    made_few net (run_at net t s w p.event) 0 (run_at net t s w p.event).outs, few (get_or w.cells s []) t s p.event)
+    omega (
+      arith,
+      length-put_all (made net (run_at net t s w p.event)) (without_first (is_ready s t) w.pending),
+      length-without (is_ready s t) w.pending,
+      made_few net (run_at net t s w p.event) 0 (run_at net t s w p.event).outs,
+      few (get_or w.cells s []) t s p.event,
+    )
 
 length-file : (index : ℕ) (es : List FileEvent) → length (file_events index es) ≡ length es
 length-file index [] = refl
@@ -60,17 +65,26 @@ length-file index (e ∷ es) = ap suc (length-file (index + 1) es)
 pub most_entered : (net : Network) (i : ℕ) → (nth net i).entered ≤ i
 most_entered net zero = omega arith
 most_entered net (suc i) =
-    omega (arith, most_entered net i,
-    entered_most net (i / net.scene.switches) (i % net.scene.switches) (nth net i) (find (is_ready (i % net.scene.switches) (i / net.scene.switches)) (nth net i).pending))
+    omega (
+      arith,
+      most_entered net i,
+      entered_most net (i / net.scene.switches) (i % net.scene.switches) (nth net i) (find (is_ready (i % net.scene.switches) (i / net.scene.switches)) (nth net i).pending),
+    )
 
 pub most_lost : (net : Network) (i : ℕ) → SendsFew net → (nth net i).lost ≤ 8 * i
 most_lost net zero few = omega arith
 most_lost net (suc i) few =
-    omega (arith, most_lost net i few,
-    lost_more net (i / net.scene.switches) (i % net.scene.switches) (nth net i) (find (is_ready (i % net.scene.switches) (i / net.scene.switches)) (nth net i).pending) few)
+    omega (
+      arith,
+      most_lost net i few,
+      lost_more net (i / net.scene.switches) (i % net.scene.switches) (nth net i) (find (is_ready (i % net.scene.switches) (i / net.scene.switches)) (nth net i).pending) few,
+    )
 
 pub most_pending : (net : Network) (i : ℕ) → SendsFew net → length (nth net i).pending ≤ length net.scene.events + 8 * i
 most_pending net zero few = omega (arith, length-put_all (file_events 0 net.scene.events) [], length-file 0 net.scene.events)
 most_pending net (suc i) few =
-    omega (arith, most_pending net i few,
-    pending_more net (i / net.scene.switches) (i % net.scene.switches) (nth net i) (find (is_ready (i % net.scene.switches) (i / net.scene.switches)) (nth net i).pending) few)
+    omega (
+      arith,
+      most_pending net i few,
+      pending_more net (i / net.scene.switches) (i % net.scene.switches) (nth net i) (find (is_ready (i % net.scene.switches) (i / net.scene.switches)) (nth net i).pending) few,
+    )

@@ -197,9 +197,9 @@ module _ {C P : Type 0} where
     λ u below. (
       cells_at st.step st.cells (fed net st u) t,
       is.pipes u below ∙ ap (picture st.step st.cells (fed net st u)) (clock_start t u)
-      ∙ empties st.step st.cells (fed net st u) net.scene.stop t (λ e le. fed_late net st u e le) (omega (arith, sound.long)),
+          ∙ empties st.step st.cells (fed net st u) net.scene.stop t (λ e le. fed_late net st u e le) (omega (arith, sound.long)),
       ap st.view (cells_stay net st u net.limits.stages ∙ ap (cells_at st.step st.cells (fed net st u)) (sym (clock_start net.scene.stop u)))
-      ∙ sym ((whole_at net st Good Fits net.scene.stop sound.does sound.fit (omega arith)).cells u below),
+          ∙ sym ((whole_at net st Good Fits net.scene.stop sound.does sound.fit (omega arith)).cells u below),
     ),
     is.lost ∙ ap (λ (m : ℕ). (nth net m).lost) all ∙ ap (λ (w : State). w.lost) (by_number net net.scene.stop 0 (omega arith)),
     omega (arith, is.counted, none),

@@ -48,10 +48,10 @@ steps_as parts placed stay passes law stands_for arrays few = record {
         (by_array placed.code.arrays placed.stages e.0 ≡ d.cells) × (run_of_packet e.1 ≡ record { tick = tick; switch = switch; event = event; outs = d.outs }) × IsGood placed parts e.0)
     passed tick switch cs event before within good fit =
         subst (Goal cs) (sym made) (
-        subst (λ (c : Cells). by_array placed.code.arrays placed.stages (owns placed.stages m.cells) ≡ (step parts c tick switch event).cells) (sym now_is) (law.view m.cells long rest ∙ cells),
-        subst (λ (c : Cells). run_of_packet (left_by m begins) ≡ record { tick = tick; switch = switch; event = event; outs = (step parts c tick switch event).outs }) (sym now_is)
-        (ap (λ (o : List Out). record { tick = tick; switch = switch; event = event; outs = o }) outs),
-        record { all = m.cells; fit = subst (λ (c : Cells). IsTrue (cells_fit parts c)) (sym cells) (stay.step good.all tick switch event good.fit); parted = refl; long = long; rest = rest },
+          subst (λ (c : Cells). by_array placed.code.arrays placed.stages (owns placed.stages m.cells) ≡ (step parts c tick switch event).cells) (sym now_is) (law.view m.cells long rest ∙ cells),
+          subst (λ (c : Cells). run_of_packet (left_by m begins) ≡ record { tick = tick; switch = switch; event = event; outs = (step parts c tick switch event).outs }) (sym now_is)
+              (ap (λ (o : List Out). record { tick = tick; switch = switch; event = event; outs = o }) outs),
+          record { all = m.cells; fit = subst (λ (c : Cells). IsTrue (cells_fit parts c)) (sym cells) (stay.step good.all tick switch event good.fit); parted = refl; long = long; rest = rest },
         )
       where
         begins : Packet
