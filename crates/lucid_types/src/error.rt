@@ -3,7 +3,7 @@ use lucid_base::Memory as WantOfMemory;
 use lucid_types_rules::What;
 
 /// Why a tree has no core. Declarations are counted from 1, and so are lines; a declaration's line is that of its first token.
-#[derive(Clone, Copy, Debug)]
+#[derive(Clone, Copy, Debug, PartialEq, Eq)]
 pub enum TypeError {
     /// This declaration is the first that is refused, and no rule gives it anything.
     NoRule { decl: u32, line: u32 },

@@ -10,4 +10,5 @@ mod parts;
 mod program;
 
 pub use error::TypeError;
+pub use lucid_types_rules::What;
 pub use program::elaborate;

@@ -18,7 +18,7 @@ use lucid_types_expressions::Fault;
 use lucid_types_function::declarations_are_computed;
 use lucid_types_limits::Limits;
 use lucid_types_rules::the_first_refusal_is_found;
-use lucid_types_statements::next;
+use lucid_types_scope::next;
 use lucid_types_valid::typed_programs_are_valid;
 use std::alloc::Global;
 

@@ -15,7 +15,7 @@ use Rattle.lucid_types_function.specs.Sending.{is_none}
 use Rattle.lucid_types_function.specs.Statement.{body_of}
 use Rattle.lucid_types_expressions.specs.declared.fault.Fault.{Fault}
 use Rattle.lucid_types_expressions.specs.Gives.{Fails}
-use Rattle.lucid_types_statements.specs.Bodies.{numbered_of}
+use Rattle.lucid_types_scope.specs.Numbered.{numbered_of}
 use Rattle.lucid_types_declarations.specs.declared.known.Known.{Known}
 
 -- The body of a handler of an event of these widths.

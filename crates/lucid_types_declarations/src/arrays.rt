@@ -9,8 +9,7 @@ use lucid_base::{ArrayDef, ArrayName, Id, Width};
 use lucid_parse_tree::Size;
 use lucid_types_expressions::Fault;
 use lucid_types_rules::Entry;
-use lucid_types_scope::Scope;
-use lucid_types_statements::number;
+use lucid_types_scope::{Scope, number};
 use std::alloc::Global;
 
 /// NoRule where the width is none, or the size is none: 1 to 65,536, or a constant's number.

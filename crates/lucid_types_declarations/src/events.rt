@@ -17,8 +17,8 @@ use lucid_core::{EventDef, HandlerDef, Stmt};
 use lucid_parse_tree::{P, S};
 use lucid_types_expressions::Fault;
 use lucid_types_rules::{Body, Entry};
-use lucid_types_scope::Scope;
-use lucid_types_statements::{block, number};
+use lucid_types_scope::{Scope, number};
+use lucid_types_statements::block;
 use std::alloc::Global;
 use std::mem;
 

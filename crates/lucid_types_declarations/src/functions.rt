@@ -14,7 +14,8 @@ use lucid_core::{Ending, FunDef};
 use lucid_parse_tree::{P, S, Ty};
 use lucid_types_expressions::Fault;
 use lucid_types_rules::{Body, Entry, Param, ValueType};
-use lucid_types_statements::{block, number, type_of, width_of};
+use lucid_types_scope::number;
+use lucid_types_statements::{block, type_of, width_of};
 use std::alloc::Global;
 use std::mem;
 

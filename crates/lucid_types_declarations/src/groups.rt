@@ -1,6 +1,5 @@
 // Groups of switches.
 ghost use Rattle.std.specs.Prelude.{◌≡◌};
-ghost use Rattle.lucid_core.specs.Numbers.{are_distinct, is_in};
 ghost use Rattle.lucid_types_function.specs.Declaration.{group};
 ghost use Rattle.lucid_types_expressions.specs.Gives.{Gives};
 ghost use Rattle.lucid_types_declarations.specs.Groups.{small_ones};
@@ -11,6 +10,7 @@ use crate::known::enter;
 use lucid_base::{Id, Items};
 use lucid_types_expressions::Fault;
 use lucid_types_rules::Entry;
+use lucid_types_scope::are_distinct;
 use std::alloc::Global;
 
 /// NoRule where there are more than 8 members or none, one twice, or one above 63.
@@ -21,7 +21,7 @@ pub fn group(alloc: Global, known: &mut Known, n: &Id, members: &[u64]) -> Resul
         return Err(Fault::NoRule);
     }
     let small = small_ones(alloc, members)?;
-    if !are_distinct(members) {
+    if !are_distinct(alloc, members)? {
         return Err(Fault::NoRule);
     }
     enter(alloc, &mut known.scope, n, Entry::Group(small))?;
@@ -40,29 +40,4 @@ fn small_ones(alloc: Global, members: &[u64]) -> Result<Items<u32>, Fault>
         small.push(*member as u32)?;
     }
     Ok(small)
-}
-
-/// Whether no number stands twice.
-fn are_distinct(numbers: &[u64]) -> bool
-    ensures { result ≡ are_distinct numbers.now }
-{
-    let mut at = 0usize;
-    'numbers: while at < numbers.len() {
-        if has(&numbers[at + 1..], numbers[at]) {
-            return false;
-        }
-        at += 1;
-    }
-    true
-}
-
-fn has(numbers: &[u64], one: u64) -> bool
-    ensures { result ≡ is_in numbers.now one }
-{
-    for number in numbers {
-        if *number == one {
-            return true;
-        }
-    }
-    false
 }

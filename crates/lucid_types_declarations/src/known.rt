@@ -7,8 +7,7 @@ ghost use Rattle.lucid_types_declarations.specs.Known.{made_of};
 use lucid_base::{ArrayDef, Id, Items, Memory};
 use lucid_core::{EventDef, FunDef, HandlerDef, MemopDef};
 use lucid_types_rules::{Entry, Named};
-use lucid_types_scope::Scope;
-use lucid_types_statements::{Numbering, Texts};
+use lucid_types_scope::{Numbering, Scope, Texts};
 use std::alloc::Global;
 
 /// The names in scope, what is numbered, and the parts of the core so far. The numbered locals are those of the last body.

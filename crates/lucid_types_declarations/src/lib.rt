@@ -1,6 +1,6 @@
 // Declarations: what each makes behind what was made before, as the typing function gives it, or that it gives none.
-// Stands on lucid_base, lucid_parse_tree, lucid_core, lucid_core_laws, lucid_memop, lucid_types_rules, lucid_types_function, lucid_types_scope, lucid_types_expressions,
-// lucid_types_statements and lucid_types_statements.
+// Stands on lucid_base, lucid_parse_tree, lucid_core, lucid_memop, lucid_types_rules, lucid_types_function, lucid_types_scope,
+// lucid_types_expressions and lucid_types_statements.
 #![tactic(auto)]
 
 mod arrays;

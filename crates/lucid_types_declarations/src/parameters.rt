@@ -13,8 +13,8 @@ use lucid_base::{ArrayName, Id, Items, Memory, Width};
 use lucid_parse_tree::P;
 use lucid_types_expressions::Fault;
 use lucid_types_rules::{Entry, Param, ValueType};
-use lucid_types_scope::Scope;
-use lucid_types_statements::{next, type_of, width_of};
+use lucid_types_scope::{Scope, next};
+use lucid_types_statements::{type_of, width_of};
 use std::alloc::Global;
 
 /// The kinds of the parameters, whose names are added to the scope. NoRule where a width is none.

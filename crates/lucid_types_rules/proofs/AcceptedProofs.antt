@@ -1,5 +1,5 @@
 -- The accepted forms, rule by rule, and the limits, counted.
-use Rattle.std.proofs.Common.{◌≡◌, ℕ, ◌<◌, ◌^◌, List, [], Option, None, Some, Bool, true, false, refl, sym, ap, subst, ◌∙◌, ◌&&◌, codes, arith, length, map, nat_le, replicate}
+use Rattle.std.proofs.Common.{◌≡◌, ℕ, ◌<◌, ◌^◌, List, [], ◌∷◌, Option, None, Some, Bool, true, false, refl, sym, ap, subst, ◌∙◌, ◌&&◌, codes, arith, length, map, nat_le, replicate}
 use Rattle.std.specs.List.{list_all}
 use Rattle.lucid_core.proofs.Folds.{folds}
 use Rattle.lucid_parse_tree.specs.declared.tree.A.{A}
@@ -9,25 +9,30 @@ use Rattle.lucid_parse_tree.specs.declared.tree.Infix.{Infix}
 use Rattle.lucid_parse_tree.specs.declared.tree.Pre.{Pre}
 use Rattle.lucid_parse_tree.specs.declared.tree.E.{E, roll-E}
 use Rattle.lucid_parse_tree.specs.declared.tree.E.TheVariants as e
-use Rattle.lucid_parse_tree.specs.declared.tree.No.TheOpen.{S-F}
+use Rattle.lucid_parse_tree.specs.declared.tree.C.{fold-roll-C}
+use Rattle.lucid_parse_tree.specs.declared.tree.No.{fold-No, fold-roll-No}
+use Rattle.lucid_parse_tree.specs.declared.tree.No.TheOpen.{No-F, S-F}
+use Rattle.lucid_parse_tree.specs.declared.tree.No.TheVariants as no
 use Rattle.lucid_parse_tree.specs.declared.tree.S.{S, fold-roll-S}
 use Rattle.lucid_parse_tree.specs.declared.tree.S.TheVariants as s
 use Rattle.lucid_core.specs.declared.body.Expr.TheVariants as core
 use Rattle.lucid_core.specs.Numbers.{all_hold}
-use Rattle.lucid_types_rules.specs.Accepted.{five, gives, returns, sending, sets_n, three, to_n, TypedStatements, HidingNames, PassedLimits, SentEvents, TypedExpressions}
+use Rattle.lucid_types_rules.specs.Accepted.{five, gives, returns, sending, sets_n, three, to_n, TypedStatements, TypedMemops, HidingNames, PassedLimits, SentEvents, TypedExpressions}
 use Rattle.lucid_core.specs.declared.ending.Ending.TheVariants.{Never, Always}
 use Rattle.lucid_types_rules.specs.declared.scope.ValueType.{ValueType}
 use Rattle.lucid_types_rules.specs.declared.scope.ValueType.TheVariants.{Int}
-use Rattle.lucid_types_rules.specs.Block.{Block}
+use Rattle.lucid_types_rules.specs.Block.{Block, if_of}
 use Rattle.lucid_types_rules.specs.Block as block
 use Rattle.lucid_types_rules.specs.Leaves.{FreeWidth, OnlyNumbers}
 use Rattle.lucid_types_rules.specs.Leaves as leaves
 use Rattle.lucid_types_rules.specs.Limits.{cases_are_few, cases_of_choice, cases_of_no, cases_of_statement}
-use Rattle.lucid_types_rules.specs.Refused.{done, i, n, sight}
+use Rattle.lucid_types_rules.specs.Memop as memop
+use Rattle.lucid_types_rules.specs.Refused.{done, i, n, sight, yes}
 use Rattle.lucid_types_rules.specs.Sends as sends
 use Rattle.lucid_types_rules.specs.Typed.{Free}
 use Rattle.lucid_types_rules.specs.Typed as rule
 use Rattle.lucid_types_rules.specs.Types.{IsWidth}
+use Rattle.lucid_types_rules.specs.Types as types
 use Rattle.lucid_types_rules.proofs.Leaves.{Inside, inside, no_name}
 
 byte : IsWidth 8
@@ -107,12 +112,29 @@ typed_statements = record {
       (block.choose _ _ _ _ _ _ _ _ _ (rule.local _ _ _ refl) (block.block _ _ _ _ _ _ _ _ (returns_k 1 (omega arith)) (returns_k 2 (omega arith)))) (λ is. cc);
   one_returns = block.stops _ _ _ _ _
       (block.choose _ _ _ _ _ _ _ _ _ (rule.local _ _ _ refl) (block.block _ _ _ _ _ _ _ _ (returns_k 1 (omega arith)) (sets (Some (Int 8)) 2 (omega arith)))) (λ is. cc);
+  some_path_returns = block.stops _ _ _ _ _
+      (block.choose _ _ _ _ _ _ _ _ _ (rule.local _ _ _ refl) (block.alone _ _ _ _ _
+      (block.stops _ _ _ _ _
+      (block.choose _ _ _ _ _ _ _ _ _ (rule.local _ _ _ refl) (block.block _ _ _ _ _ _ _ _ (returns_k 1 (omega arith)) (sets (Some (Int 8)) 2 (omega arith)))) (λ is. cc))
+      (λ is. cc))) (λ is. cc);
   text_again = block.goes_on _ _ _ _ _ _ _ _ (block.printf _ _ _ _ _ rule.none refl) refl (block.end _ _);
   value_is_dropped = block.goes_on _ _ _ _ _ _ _ _ (block.array _ _ _ _ _ (rule.get _ _ _ _ _ _ refl free_i)) refl (block.end _ _);
 }
 
 pub hiding_names : HidingNames
-hiding_names = record { newest = rule.local _ _ _ refl; older_ones_stay = rule.local _ _ _ refl }
+hiding_names = record {
+  newest = rule.local _ _ _ refl;
+  older_ones_stay = rule.local _ _ _ refl;
+  parameters = types.value _ _ _ _ _ _ _ _ _ (types.int None wide) (types.value _ _ _ _ _ _ _ _ _ (types.int (Some 8) byte) (types.none _ _ _));
+}
+
+pub typed_memops : TypedMemops
+typed_memops = record {
+  choice = memop.choice _ _ _ _ _ _ (memop.compare _ _ _ _ _ _ refl (rule.local _ _ _ refl) (rule.local _ _ _ refl)) (memop.returned _ _ (rule.local _ _ _ refl))
+      (memop.returned _ _ (rule.local _ _ _ refl));
+  guard = memop.guard _ _ _ _ _ _ (memop.paren _ _ (memop.compare _ _ _ _ _ _ refl (rule.local _ _ _ refl) (rule.local _ _ _ refl)))
+      (memop.returned _ _ (rule.local _ _ _ refl)) (memop.returned _ _ (rule.local _ _ _ refl));
+}
 
 done_is : sends.Sends sight done sending
 done_is = sends.call (codes "done") _ _ _ _ refl rule.nothing
@@ -133,6 +155,12 @@ few_cases : (cases : List (ℕ × List S)) →
     cases_are_few (s.Match i cases None) ≡ nat_le (length (each_case cases)) 32 && list_all (λ (c : ℕ × List Bool). all_hold c.1) (each_case cases) && true
 few_cases cases = ap cases_are_few (sym (s.rolls-Match i cases None)) ∙ fold-roll-S Bool Bool Bool cases_of_no cases_of_statement cases_of_choice (S-F.Match i cases None)
 
+few_behind : (x : S) → cases_are_few (if_of yes [] (no.Block (x ∷ []))) ≡ all_hold (cases_are_few x ∷ [])
+few_behind x =
+    ap cases_are_few (sym (s.rolls-Cond _)) ∙ fold-roll-S _ _ _ cases_of_no cases_of_statement cases_of_choice (S-F.«S::Cond» _)
+    ∙ fold-roll-C _ _ _ cases_of_no cases_of_statement cases_of_choice (record { test = yes; yes = []; no = no.Block (x ∷ []) })
+    ∙ ap (fold-No Bool Bool Bool cases_of_no cases_of_statement cases_of_choice) (sym (no.rolls-Block (x ∷ []))) ∙ fold-roll-No _ _ _ cases_of_no cases_of_statement cases_of_choice (No-F.Block (x ∷ []))
+
 pub passed_limits : PassedLimits
 passed_limits = record {
   arrays_64 = refl;
@@ -149,6 +177,7 @@ passed_limits = record {
   outs_9 = simp folds refl;
   cases_32 = rw (few_cases (replicate 32 (0, []))) refl;
   cases_33 = rw (few_cases (replicate 33 (0, []))) refl;
+  cases_33_behind = rw (few_behind (s.Match i (replicate 33 (0, [])) None), few_cases (replicate 33 (0, []))) refl;
   arrays_first = refl;
   array_parameters_before_values = refl;
   cases_last = simp folds refl;

@@ -27,9 +27,11 @@ use Rattle.lucid_parse_tree.specs.declared.tree.DeclKind.TheVariants as d
 use Rattle.lucid_parse_tree.specs.declared.tree.E.{E}
 use Rattle.lucid_parse_tree.specs.declared.tree.E.TheVariants as e
 use Rattle.lucid_parse_tree.specs.declared.tree.Infix.TheVariants as sign
+use Rattle.lucid_parse_tree.specs.declared.tree.P.TheVariants as p
 use Rattle.lucid_parse_tree.specs.declared.tree.Pre.TheVariants.{Minus, Tilde, Not}
 use Rattle.lucid_parse_tree.specs.declared.tree.S.{S}
 use Rattle.lucid_parse_tree.specs.declared.tree.S.TheVariants as s
+use Rattle.lucid_parse_tree.specs.declared.tree.Ty.TheVariants as ty
 use Rattle.lucid_parse_tree.specs.declared.tree.V.TheVariants as v
 use Rattle.lucid_types_rules.specs.declared.body.Destination.TheVariants.{Here, Switch, Group}
 use Rattle.lucid_types_rules.specs.declared.body.Sending.{Sending}
@@ -40,10 +42,12 @@ use Rattle.lucid_types_rules.specs.declared.scope.ValueType.TheVariants.{Int}
 use Rattle.lucid_types_rules.specs.declared.scope.ValueType.TheVariants as vt
 use Rattle.lucid_types_rules.specs.Declaration.{parts_of, start}
 use Rattle.lucid_types_rules.specs.Limits.{passed}
+use Rattle.lucid_types_rules.specs.Memop.{MemopBody, memop_names}
 use Rattle.lucid_types_rules.specs.Names.{called}
 use Rattle.lucid_types_rules.specs.Refused.{done, i, n, sight, yes}
 use Rattle.lucid_types_rules.specs.Sends.{Sends}
 use Rattle.lucid_types_rules.specs.Typed.{Touched, Typed, returning, touching, zero_of}
+use Rattle.lucid_types_rules.specs.Types.{Parameters, ints}
 
 -- ---- expressions; local 0 is `i`, of 32 bits, local 1 `n`, of 8
 
@@ -111,6 +115,9 @@ pub record TypedStatements : Type 0 where
   pub both_return : Becomes (Some (Int 8)) (if_of yes (returns 1) (no.Block (returns 2))) (stmt.If (core.Local 2) (gives 1) (gives 2) ∷ []) Always
   -- a return on some path stands last
   pub one_returns : Becomes (Some (Int 8)) (if_of yes (returns 1) (no.Block (to_n 2))) (stmt.If (core.Local 2) (gives 1) (sets_n 2) ∷ []) Sometimes
+  -- also one inside an if without a second branch, which is no guard
+  pub some_path_returns : Becomes (Some (Int 8)) (if_of yes (if_of yes (returns 1) (no.Block (to_n 2)) ∷ []) no.Absent)
+      (stmt.If (core.Local 2) (stmt.If (core.Local 2) (gives 1) (sets_n 2) ∷ []) [] ∷ []) Sometimes
   pub text_again : Becomes None (s.Printf (codes "x") []) (stmt.Say 0 [] ∷ []) Never
   pub value_is_dropped : Becomes None (s.Array (a.Get (codes "b") i))
       (stmt.Drop (core.Array (touching (Global 1) (core.Local 0) (returning 8 Stored) (zero_of 8) (returning 8 Stored) (zero_of 8) true)) ∷ []) Never
@@ -120,6 +127,28 @@ pub record TypedStatements : Type 0 where
 pub record HidingNames : Type 0 where
   pub newest : Typed (called (codes "n") (entry.Local 9 vt.Bool) ∷ sight) vt.Bool n (core.Local 9)
   pub older_ones_stay : Typed (called (codes "m") (entry.Local 9 vt.Bool) ∷ sight) (Int 8) n (core.Local 1)
+  -- int p, int<<8>> p: both are parameters, and the body sees the second
+  pub parameters : Parameters 0 0 [] (p.Value (ty.Int None) (codes "p") ∷ p.Value (ty.Int (Some 8)) (codes "p") ∷ []) (ints (32 ∷ 8 ∷ []))
+      (called (codes "p") (entry.Local 1 (Int 8)) ∷ called (codes "p") (entry.Local 0 (Int 32)) ∷ [])
+
+-- ---- memops with a condition; the stored value is local 0, `p`, the other local 1, `q`
+
+abbrev pub operand : List ℕ → List S
+operand n = s.Return (Some (e.Name n)) ∷ []
+
+abbrev pub lesser : E
+lesser = e.Infix sign.Less (e.Name (codes "p")) (e.Name (codes "q"))
+
+abbrev pub chosen : List Stmt
+chosen = stmt.If (core.Cmp Lt (core.Local 0) (core.Local 1)) (stmt.Return (Some (core.Local 1)) ∷ []) (stmt.Return (Some (core.Local 0)) ∷ []) ∷ []
+
+abbrev pub IsMemop : List S → List Stmt → Type 0
+IsMemop = MemopBody (memop_names 32 (codes "p") (codes "q") []) 32
+
+pub record TypedMemops : Type 0 where
+  pub choice : IsMemop (if_of lesser (operand (codes "q")) (no.Block (operand (codes "p"))) ∷ []) chosen
+  -- the second return may stand behind the if
+  pub guard : IsMemop (if_of (e.Paren lesser) (operand (codes "q")) no.Absent ∷ operand (codes "p")) chosen
 
 -- ---- what is sent
 
@@ -172,6 +201,9 @@ print_of k = say 0 (replicate k (number 0))
 abbrev pub match_of : ℕ → DeclKind
 match_of k = d.Handle [] [] (s.Match i (replicate k (0, [])) None ∷ [])
 
+abbrev pub behind_else : ℕ → DeclKind
+behind_else k = d.Handle [] [] (if_of yes [] (no.Block (s.Match i (replicate k (0, [])) None ∷ [])) ∷ [])
+
 pub record PassedLimits : Type 0 where
   pub arrays_64 : passed other (record nothing { arrays = replicate 64 (array 1) }) ≡ None
   pub arrays_65 : passed other (record nothing { arrays = replicate 65 (array 1) }) ≡ Some what.Arrays
@@ -187,6 +219,8 @@ pub record PassedLimits : Type 0 where
   pub outs_9 : passed other (record nothing { funs = fun_of 0 0 (replicate 9 (generate 0 [])) ∷ [] }) ≡ Some what.Outs
   pub cases_32 : passed (match_of 32) nothing ≡ None
   pub cases_33 : passed (match_of 33) nothing ≡ Some what.Cases
+  -- also behind an else
+  pub cases_33_behind : passed (behind_else 33) nothing ≡ Some what.Cases
   -- the first of several
   pub arrays_first : passed (match_of 33) (record nothing { arrays = replicate 65 (array 1); funs = fun_of 9 9 [] ∷ [] }) ≡ Some what.Arrays
   pub array_parameters_before_values : passed other (record nothing { funs = fun_of 9 9 [] ∷ [] }) ≡ Some what.ArrayParameters

@@ -1,5 +1,5 @@
 // The rules on what is worked by hand: a program, forms with their cores and limits, and what breaks one rule each.
-ghost use Rattle.lucid_types_rules.specs.Accepted.{HidingNames, PassedLimits, SentEvents, TypedExpressions, TypedStatements};
+ghost use Rattle.lucid_types_rules.specs.Accepted.{HidingNames, PassedLimits, SentEvents, TypedExpressions, TypedMemops, TypedStatements};
 ghost use Rattle.lucid_types_rules.specs.Examples.{worked, worked_core};
 ghost use Rattle.lucid_types_rules.specs.Makes.{IsTyped};
 ghost use Rattle.lucid_types_rules.specs.Refused.{RefusedDeclarations, RefusedExpressions, RefusedStatements};
@@ -11,6 +11,7 @@ fn a_program_is_typed()
 fn forms_have_their_cores()
     ensures expressions { TypedExpressions }
     ensures statements { TypedStatements }
+    ensures memops { TypedMemops }
     ensures names { HidingNames }
     ensures events { SentEvents }
     ensures limits { PassedLimits }

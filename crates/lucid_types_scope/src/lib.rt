@@ -1,8 +1,16 @@
-// The names in scope while a program is typed. Each is found as the rules see it, at once however many there are, and the names of a
-// block end with it.
-// Stands on lucid_base and lucid_types_rules.
+// What is known on the way while a program is typed: the names in scope, each found as the rules see it, at once however many there
+// are, and gone with the end of its block; the locals and texts that are numbered; numbers of 32 bits for what is counted.
+// Stands on lucid_base, lucid_core and lucid_types_rules.
 #![tactic(auto)]
 
+mod distinct;
+mod numbering;
+mod numbers;
 mod scope;
+mod texts;
 
+pub use distinct::are_distinct;
+pub use numbering::Numbering;
+pub use numbers::{next, number};
 pub use scope::Scope;
+pub use texts::Texts;

@@ -5,10 +5,10 @@ ghost use Rattle.std.specs.Str.{bytes_eq};
 ghost use Rattle.lucid_types_rules.specs.Names.{seen};
 ghost use Rattle.lucid_types_scope.specs.Places.{newest_of};
 
+use indexmap::IndexMap;
 use lucid_base::{Id, Memory};
 use lucid_types_rules::{Entry, Named};
 use std::alloc::Global;
-use std::collections::HashMap;
 use std::marker::Model;
 
 /// The names in scope, which contracts see as the rules do: the newest first. A name is found at once, however many there are.
@@ -17,7 +17,7 @@ pub struct Scope {
     alloc: Global,
     kept: Vec<Kept>,
     // For each name the place in `kept` of its newest entry, if one is left.
-    newest: HashMap<Id, Option<usize>>,
+    newest: IndexMap<Id, Option<usize>>,
 }
 
 // A name in scope, and the place of the entry of the same name that it hides.
@@ -47,7 +47,7 @@ impl Scope {
         Scope {
             alloc,
             kept: Vec::new(alloc),
-            newest: HashMap::new(alloc),
+            newest: IndexMap::new(alloc),
         }
     }
 
@@ -104,7 +104,7 @@ impl Scope {
 }
 
 // The place of the newest entry of this name.
-fn place_of(newest: &HashMap<Id, Option<usize>>, name: &Id) -> Option<usize>
+fn place_of(newest: &IndexMap<Id, Option<usize>>, name: &Id) -> Option<usize>
     ensures { result ≡ newest_of newest.now name.now }
 {
     match newest.get(name) {
@@ -114,7 +114,7 @@ fn place_of(newest: &HashMap<Id, Option<usize>>, name: &Id) -> Option<usize>
 }
 
 // Once this entry has ended, the newest entry of its name, which has a place, is the one that it hid.
-fn uncover(newest: &mut HashMap<Id, Option<usize>>, ended: Kept)
+fn uncover(newest: &mut IndexMap<Id, Option<usize>>, ended: Kept)
     requires { IsSome (newest_of newest.old ended.named.name) }
     ensures { (name : List ℕ) → newest_of newest.new name ≡ if bytes_eq ended.named.name name then ended.hides else newest_of newest.old name }
 {

@@ -5,4 +5,3 @@ pub mod Kept
 pub mod MatchArms
 pub mod Matches
 pub mod Onto
-pub mod Places

@@ -1,22 +1,11 @@
 -- What calls on bodies answer.
-use Rattle.std.specs.Prelude.{◌≡◌, ℕ, Bool, ◌&&◌, nat_eq, List, [], Option, Some, Result, Ok, Err}
-use Rattle.lucid_base.specs.declared.memory.Memory.{Memory}
-use Rattle.lucid_types_rules.specs.Block.{Numbered, form_number, one_form}
+use Rattle.std.specs.Prelude.{◌≡◌, ℕ, Bool, ◌&&◌, nat_eq, Option, Some, Result, Ok, Err}
+use Rattle.lucid_types_rules.specs.Block.{Numbered}
 use Rattle.lucid_types_rules.specs.Names.{Names}
 use Rattle.lucid_types_function.specs.declared.part.Part.{Part}
 use Rattle.lucid_types_function.specs.Statement.{Taken}
 use Rattle.lucid_types_expressions.specs.declared.fault.Fault.{Fault}
 use Rattle.lucid_types_expressions.specs.Gives.{Fails}
-use Rattle.lucid_types_statements.specs.declared.numbering.Numbering.{Numbering}
-
--- As the rules have it.
-abbrev pub numbered_of : Numbering → Numbered
-numbered_of n = record { locals = n.locals; forms = n.forms }
-
--- A text has this number, and these are the texts with it.
-abbrev pub IsNumbered : Result ℕ Memory → List ℕ → List (List ℕ) → List (List ℕ) → Type 0
-IsNumbered (Ok k) text old new = (k ≡ form_number text old) × (new ≡ (one_form text (record { locals = []; forms = old })).forms)
-IsNumbered (Err e) text old new = Unit {0}
 
 -- A statement so taken, with these names and this numbered behind it.
 abbrev pub Takes : Result Part Fault → Names → Numbered → Option Taken → Type 0

@@ -3,4 +3,3 @@ pub mod Assembly
 pub mod Bodies
 pub mod Kept
 pub mod MatchArms
-pub mod Places

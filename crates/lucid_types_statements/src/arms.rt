@@ -1,20 +1,18 @@
 // The arms of a `match`.
 ghost use Rattle.std.specs.Prelude.{◌≡◌, ◌∷◌, [], ◌<◌, IfOk, length, map};
 ghost use Rattle.lucid_core.specs.declared.body.Stmt.TheVariants as core;
-ghost use Rattle.lucid_core.specs.Numbers.{are_distinct, is_in};
 ghost use Rattle.lucid_types_rules.specs.Block.{before, is_number};
 ghost use Rattle.lucid_types_statements.specs.Arms.{Begins};
 ghost use Rattle.lucid_types_statements.specs.Assembly.{chained};
-ghost use Rattle.lucid_types_statements.specs.Bodies.{numbered_of};
+ghost use Rattle.lucid_types_scope.specs.Numbered.{numbered_of};
 
-use crate::Numbering;
 use crate::assembly::either;
 use lucid_base::{Bits, Boxed, CmpOp, Items, Memory, Width};
 use lucid_core::{Expr, Stmt};
 use lucid_parse_tree::{E, S};
 use lucid_types_expressions::{Fault, free, free_width};
 use lucid_types_rules::Body;
-use lucid_types_scope::Scope;
+use lucid_types_scope::{Numbering, Scope, are_distinct};
 use std::alloc::Global;
 
 /// A number and what is done where it is met.
@@ -24,29 +22,15 @@ pub struct Arm {
     pub body: Body,
 }
 
-/// Whether no case has the number of another.
-pub fn are_apart(cases: &[(u64, Items<S>)]) -> bool
-    ensures { result ≡ are_distinct (map (λ z. z.0) cases.now) }
+/// The numbers of the cases.
+fn numbers(alloc: Global, cases: &[(u64, Items<S>)]) -> Result<Vec<u64>, Memory>
+    ensures { IfOk result (λ numbers. numbers.items ≡ map (λ z. z.0) cases.now) }
 {
-    let mut at = 0usize;
-    'cases: while at < cases.len() {
-        if has(&cases[at + 1..], cases[at].0) {
-            return false;
-        }
-        at += 1;
-    }
-    true
-}
-
-fn has(cases: &[(u64, Items<S>)], number: u64) -> bool
-    ensures { result ≡ is_in (map (λ z. z.0) cases.now) number }
-{
+    let mut numbers: Vec<u64> = Vec::with_capacity(alloc, cases.len())?;
     for case in cases {
-        if case.0 == number {
-            return true;
-        }
+        numbers.push(case.0)?;
     }
-    false
+    Ok(numbers)
 }
 
 /// The choices between these arms on a local, and what is done where none is met.
@@ -126,7 +110,11 @@ pub fn begin(
 ) -> Result<Tested, Fault>
     ensures { Begins result test.now (map (λ z. z.0) cases.now) scope.now (numbered_of numbering.old) (numbered_of numbering.new) }
 {
-    if cases.is_empty() || !are_apart(cases) {
+    if cases.is_empty() {
+        return Err(Fault::NoRule);
+    }
+    let numbers = numbers(alloc, cases)?;
+    if !are_distinct(alloc, &numbers)? {
         return Err(Fault::NoRule);
     }
     match Width::new(free_width(scope, test)) {

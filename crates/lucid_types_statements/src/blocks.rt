@@ -5,12 +5,12 @@ ghost use Rattle.lucid_types_rules.specs.Block.{before};
 ghost use Rattle.lucid_types_statements.specs.Assembly.{chained};
 ghost use Rattle.lucid_types_function.specs.Statement.{body_of, choosing, chosen, declared, last_arm, other, other_of, parts, taking};
 ghost use Rattle.lucid_types_statements.specs.MatchArms.{arms_of, cases_taken};
-ghost use Rattle.lucid_types_statements.specs.Bodies.{Leaves, Takes, numbered_of};
+ghost use Rattle.lucid_types_scope.specs.Numbered.{numbered_of};
+ghost use Rattle.lucid_types_statements.specs.Bodies.{Leaves, Takes};
 ghost use Rattle.lucid_types_statements.specs.Kept.{Keeps};
 
 use crate::arms::{Arm, Tested, begin, behind_test, chain};
 use crate::assembly::{assemble, chosen};
-use crate::numbering::Numbering;
 use crate::simple::{assign, declare, does, drop_call, drop_touch, generate, give_back, print};
 use lucid_base::{Id, Items, Memory, Width};
 use lucid_core::{Ending, Expr};
@@ -18,7 +18,7 @@ use lucid_parse_tree::{C, E, No, S, Ty};
 use lucid_types_expressions::{Fault, expression};
 use lucid_types_function::Part;
 use lucid_types_rules::{Body, ValueType};
-use lucid_types_scope::Scope;
+use lucid_types_scope::{Numbering, Scope};
 use std::alloc::Global;
 
 #[cycle(block)]

@@ -6,15 +6,10 @@
 mod arms;
 mod assembly;
 mod blocks;
-mod numbering;
-mod numbers;
+mod print_holes;
 mod sendings;
 mod simple;
-mod texts;
 mod types;
 
 pub use blocks::block;
-pub use numbering::Numbering;
-pub use numbers::{next, number};
-pub use texts::Texts;
 pub use types::{type_of, width_of};

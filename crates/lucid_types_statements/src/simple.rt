@@ -5,11 +5,11 @@ ghost use Rattle.lucid_core.specs.declared.ending.Ending.TheVariants.{Never};
 ghost use Rattle.lucid_types_function.specs.declared.part.Part.TheVariants.{Does};
 ghost use Rattle.lucid_types_function.specs.Statement.{assigned, call_dropped, declared, generated, printed, returned, touch_dropped};
 ghost use Rattle.lucid_types_expressions.specs.Gives.{Gives};
-ghost use Rattle.lucid_types_statements.specs.Bodies.{Leaves, Takes, numbered_of};
+ghost use Rattle.lucid_types_scope.specs.Numbered.{numbered_of};
+ghost use Rattle.lucid_types_statements.specs.Bodies.{Leaves, Takes};
 
-use crate::Numbering;
+use crate::print_holes::holes;
 use crate::sendings::{self, sending};
-use crate::texts::holes;
 use crate::types::{type_of, width_of};
 use lucid_base::{Boxed, Id, Items, Memory};
 use lucid_core::{Ending, Expr, Stmt};
@@ -17,7 +17,7 @@ use lucid_parse_tree::{A, E, Ty, V};
 use lucid_types_expressions::{Fault, all_free, call, expression, touch};
 use lucid_types_function::Part;
 use lucid_types_rules::{Body, Entry, Named, ValueType};
-use lucid_types_scope::Scope;
+use lucid_types_scope::{Numbering, Scope};
 use std::alloc::Global;
 
 /// A body of one statement.

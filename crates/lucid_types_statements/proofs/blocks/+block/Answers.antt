@@ -2,7 +2,7 @@
 use Rattle.std.proofs.Common.{ℕ, List, rules, sym, ap, ◌∙◌}
 use Rattle.lucid_parse_tree.specs.declared.tree.S.{S}
 use Rattle.lucid_parse_tree.specs.declared.tree.S.TheVariants as form
-use Rattle.lucid_types_statements.specs.Bodies.{numbered_of}
+use Rattle.lucid_types_scope.specs.Numbered.{numbered_of}
 use Rattle.lucid_types_statements.proofs.Matches.{arms_fail, last_fails, match_done}
 use Rattle.lucid_types_statements.proofs.blocks.+block.Goals as goal
 

@@ -2,7 +2,7 @@
 -- the tree, and a rank among the functions.
 use Rattle.std.proofs.Common.{◌≡◌, ◌+◌, ◌*◌, drop, map}
 use Rattle.lucid_types_function.specs.Statement.{parts, taking}
-use Rattle.lucid_types_statements.specs.Bodies.{numbered_of}
+use Rattle.lucid_types_scope.specs.Numbered.{numbered_of}
 use Rattle.lucid_types_statements.specs.MatchArms.{arms_of, cases_taken, with_arms, with_parts}
 use Rattle.lucid_types_statements.specs.Kept.{Keeps}
 use Rattle.lucid_types_statements.proofs.blocks.+block.Given as goal

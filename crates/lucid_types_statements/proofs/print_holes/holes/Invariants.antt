@@ -1,7 +1,7 @@
 -- What is left of the text is counted still.
 use Rattle.std.proofs.Common.{◌≡◌, ◌+◌, ◌-◌, ◌≤◌, drop, length}
 use Rattle.lucid_core.specs.Texts.{holes_of}
-use Rattle.lucid_types_statements.proofs.texts.holes.Given as goal
+use Rattle.lucid_types_statements.proofs.print_holes.holes.Given as goal
 
 abbrev pub invariant-text : goal.invariant-text
 invariant-text l = record {

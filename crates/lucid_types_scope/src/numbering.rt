@@ -1,8 +1,7 @@
 // What is numbered on the way through a body.
-ghost use Rattle.std.specs.Prelude.{◌≡◌, IfOk, length};
-ghost use Rattle.std.specs.Prelude.{OnOk, OnErr};
+ghost use Rattle.std.specs.Prelude.{◌≡◌, IfOk, OnOk, length};
 ghost use Rattle.lucid_types_rules.specs.Block.{one_local};
-ghost use Rattle.lucid_types_statements.specs.Bodies.{numbered_of};
+ghost use Rattle.lucid_types_scope.specs.Numbered.{numbered_of};
 
 use crate::numbers::number;
 use crate::texts::Texts;

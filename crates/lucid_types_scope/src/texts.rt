@@ -1,38 +1,13 @@
 // The texts of prints.
 ghost use Rattle.std.specs.Prelude.{◌≡◌, ◌∷◌, ◌++◌, [], None, OnOk, bytes_eq, length, position};
-ghost use Rattle.lucid_core.specs.Texts.{holes_of};
 ghost use Rattle.lucid_types_rules.specs.Block.{form_number, one_form};
-ghost use Rattle.lucid_types_statements.specs.Bodies.{IsNumbered, is_hole};
+ghost use Rattle.lucid_types_scope.specs.Numbered.{IsNumbered};
 
 use crate::numbers::number;
+use indexmap::IndexMap;
 use lucid_base::{Id, Memory};
 use std::alloc::Global;
-use std::collections::HashMap;
 use std::marker::Model;
-
-/// How often `%d` stands in a text.
-#[tactic(auto, using(crate::proofs::Holes::holes_at, crate::proofs::Holes::no_holes, std::proofs::lemmas::Grind::common_steps))]
-pub fn holes(text: &[u8]) -> usize
-    ensures { result ≡ holes_of text.now }
-{
-    let mut count = 0usize;
-    let mut at = 0usize;
-    'text: while at + 1 < text.len() {
-        if is_hole(text[at], text[at + 1]) {
-            count += 1;
-            at += 2;
-        } else {
-            at += 1;
-        }
-    }
-    count
-}
-
-fn is_hole(first: u8, second: u8) -> bool
-    ensures { result ≡ is_hole first second }
-{
-    first == b'%' && second == b'd'
-}
 
 /// The texts of a program so far, which contracts see as the list of their bytes in the order of their numbers. A text is found at
 /// once, however many there are.
@@ -40,7 +15,7 @@ fn is_hole(first: u8, second: u8) -> bool
 pub struct Texts {
     texts: Vec<Id>,
     // For each text its place in `texts`.
-    places: HashMap<Id, usize>,
+    places: IndexMap<Id, usize>,
 }
 
 impl Model for Texts {
@@ -48,7 +23,7 @@ impl Model for Texts {
 
     ghost Value = { List (List ℕ) };
 
-    ghost use Rattle.lucid_types_statements.specs.Places.{IsIndexed};
+    ghost use Rattle.lucid_types_scope.specs.TextPlaces.{IsIndexed};
 
     ghost view = { λ t. t.texts.items };
 
@@ -62,7 +37,7 @@ impl Texts {
     {
         Texts {
             texts: Vec::new(alloc),
-            places: HashMap::new(alloc),
+            places: IndexMap::new(alloc),
         }
     }
 

@@ -1,0 +1,24 @@
+// Whether numbers are told apart: those of the cases of a `match`, and the members of a group.
+ghost use Rattle.std.specs.Prelude.{◌≡◌, IfOk};
+ghost use Rattle.lucid_core.specs.Numbers.{are_distinct};
+
+use lucid_base::Memory;
+use std::alloc::Global;
+use std::collections::HashSet;
+
+/// Whether no number stands twice. The work is in proportion to the numbers.
+#[tactic(auto, using(crate::proofs::Apart::one_more, crate::proofs::Apart::twice, crate::proofs::Apart::first_of))]
+pub fn are_distinct(alloc: Global, numbers: &[u64]) -> Result<bool, Memory>
+    ensures { IfOk result (λ distinct. distinct ≡ are_distinct numbers.now) }
+{
+    // The numbers from the last back to this place.
+    let mut seen: HashSet<u64> = HashSet::new(alloc);
+    let mut left = numbers.len();
+    'numbers: while left > 0 {
+        left -= 1;
+        if !seen.insert(numbers[left])? {
+            return Ok(false);
+        }
+    }
+    Ok(true)
+}
