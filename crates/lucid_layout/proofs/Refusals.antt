@@ -1,15 +1,14 @@
 -- What is remembered of a table that refused a row, is true of it.
-use Rattle.std.proofs.Common.{◌≡◌, ℕ, zero, suc, ◌+◌, ◌<◌, ◌≤◌, List, [], ◌∷◌, ◌++◌, Bool, true, false, ◌&&◌, ◌||◌, Some, None, if◌then◌else◌, cond, length, map, take, slice_index_or, refl, sym, ap, subst, ◌∙◌, arith}
+use Rattle.std.proofs.Common.{◌≡◌, ℕ, zero, suc, ◌+◌, ◌<◌, ◌≤◌, List, [], ◌∷◌, ◌++◌, Bool, true, false, ◌&&◌, ◌||◌, cond, length, map, take, slice_index_or, refl, sym, ap, subst, ◌∙◌, arith}
 use Rattle.std.specs.List.{flat_map, list_all}
-use Rattle.std.proofs.lemmas.Bool.{or_left, or_right, true≢false, lt-leb}
-use Rattle.std.proofs.lemmas.List.{length-map, take_more_same, take_all, map-append}
+use Rattle.std.proofs.lemmas.Bool.{or_left, or_right, true≢false}
+use Rattle.std.proofs.lemmas.List.{length-map, take_more_same, take_all}
 use Rattle.lucid_code.specs.declared.op.Literal.{Literal}
 use Rattle.lucid_tables.specs.declared.table.Row.{Row}
-use Rattle.std.specs.Option.{option_map}
 use Rattle.lucid_tables.specs.Numbers.{is_in, with_numbers}
-use Rattle.lucid_tables.specs.Rows.{named_fields, table}
+use Rattle.lucid_tables.specs.Rows.{named_fields}
 use Rattle.lucid_tables.proofs.Rising.{in_with_numbers}
-use Rattle.lucid_merge.specs.Product.{is_same, has, includes, product, within}
+use Rattle.lucid_merge.specs.Product.{is_same, has, includes, product}
 use Rattle.lucid_merge.specs.RowCounts.{patterns_of, SameFor, IsNew, CanMatch, RowsAreCounted}
 use Rattle.lucid_merge.proofs.Literals.{literal_is, included, same_refl}
 use Rattle.lucid_layout.proofs.Settling.{numbers_append}
@@ -88,9 +87,6 @@ patterns_turn rows patterns at r p l h e f same t = take_more_same (patterns_of 
 pub patterns_end : (rows : List Row) (patterns : List (List Literal)) (at : ℕ) → length patterns ≡ length rows → length rows ≤ at → take at (patterns_of rows) ≡ take at patterns → patterns_of rows ≡ patterns
 patterns_end rows patterns at l h t = sym (take_all at (patterns_of rows) (omega (arith, length-map rows (λ (r : Row). r.pattern), h))) ∙ t ∙ take_all at patterns (omega (arith, h, l))
 
-fields_append : (p q : List Literal) → map (λ (l : Literal). l.field) (p ++ q) ≡ map (λ (l : Literal). l.field) p ++ map (λ (l : Literal). l.field) q
-fields_append p q = map-append (λ (l : Literal). l.field) p q
-
 pub more_fields : (p : List Literal) (ps : List (List Literal)) (xs : List ℕ) →
     with_numbers xs (flat_map (λ p. map (λ (l : Literal). l.field) p) (p ∷ ps)) ≡ with_numbers (with_numbers xs (map (λ (l : Literal). l.field) p)) (flat_map (λ p. map (λ (l : Literal). l.field) p) ps)
 more_fields p ps xs = numbers_append xs (map (λ (l : Literal). l.field) p) (flat_map (λ p. map (λ (l : Literal). l.field) p) ps)
@@ -102,6 +98,3 @@ pub refused : (rows other : ℕ) (patterns : List (List Literal)) (fields : List
 refused rows other patterns fields literals shares_of a r h f o plain e new s g i =
     subst (λ n. n < length (product a (r ∷ []))) o
     (h a r plain e (shares fields a patterns r.pattern literals e f (ap (includes literals) (sym s) ∙ g) i) (is_new fields a patterns r.pattern e f new))
-
-pub none_within : (rows : ℕ) (p : List Row) → rows < length p → None ≡ within rows p
-none_within rows p h = ap (λ b. option_map table (if b then Some p else None)) (sym (lt-leb (length p) rows h))

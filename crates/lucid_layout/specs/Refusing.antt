@@ -1,4 +1,4 @@
--- What is remembered of a table that refused a row.
+-- What is remembered of a table that refused a row, so that it isn't merged in vain again. Of the search alone.
 use Rattle.std.specs.Prelude.{◌≡◌, ℕ, ◌<◌, List, [], ◌∷◌, length, map}
 use Rattle.std.specs.List.{filter, flat_map}
 use Rattle.lucid_code.specs.declared.op.Literal.{Literal}

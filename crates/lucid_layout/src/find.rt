@@ -13,7 +13,7 @@ use lucid_merge::merge;
 use lucid_tables::Table;
 use std::alloc::Global;
 
-/// A table of the stage, or the next new one, merged with this, where it has few enough rows.
+/// A table of the stage, or the next new one, merged with this, and None where it then has more than `rows` rows.
 #[tactic(auto, using(crate::proofs::Searching::within_none, crate::proofs::Searching::within_some))]
 fn merged_at(
     alloc: Global,

@@ -26,8 +26,8 @@ pub(crate) struct Layout {
     pub(crate) stages: Vec<Stage>,
 }
 
-/// The least place that node number `at` may have, and its table then. `ends` has the last node that writes each field, `low` the
-/// first stage above those that have their places.
+/// The least place that node number `at` may have, and its table then. `ends` has for each field the number behind the last node that
+/// writes it, and `low` the first stage above all nodes that have their places and write it.
 fn next(
     alloc: Global,
     known: &mut Known,

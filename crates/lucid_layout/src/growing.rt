@@ -21,6 +21,7 @@ fn can_match(row: &Row) -> bool
     !contradict(pattern, pattern)
 }
 
+/// Whether a field is one of these.
 fn is_field(fields: &[u32], field: u32) -> bool
     ensures { result ≡ is_in field fields.now }
 {
@@ -47,6 +48,7 @@ fn shared(alloc: Global, fields: &[u32], pattern: &[Literal]) -> Result<Items<Li
     Ok(literals)
 }
 
+/// Whether two patterns are the same, literal by literal.
 fn same_pattern(p: &[Literal], q: &[Literal]) -> bool
     ensures { IsTrue result → p.now ≡ q.now }
 {
@@ -76,7 +78,7 @@ fn same_patterns(patterns: &[Items<Literal>], rows: &[Row]) -> bool
     true
 }
 
-/// The fields that these patterns name, in rising order.
+/// The fields that the patterns of these rows name, in rising order.
 #[tactic(auto, using(crate::proofs::Refusals::more_fields))]
 fn fields_of(alloc: Global, rows: &[Row]) -> Result<Vec<u32>, Memory>
     ensures { IfOk result (λ fields. fields.items ≡ fields_of (patterns_of rows.now)) }
@@ -88,6 +90,7 @@ fn fields_of(alloc: Global, rows: &[Row]) -> Result<Vec<u32>, Memory>
     Ok(fields)
 }
 
+/// Puts the fields of a pattern at their places.
 fn put_fields(pattern: &[Literal], fields: &mut Vec<u32>) -> Result<(), Memory>
     requires { IsTrue (rises fields.old.items) }
     ensures value { OnOk result (fields.new.items ≡ with_numbers fields.old.items (map (λ l. l.field) pattern.now)) }
@@ -99,6 +102,7 @@ fn put_fields(pattern: &[Literal], fields: &mut Vec<u32>) -> Result<(), Memory>
     Ok(())
 }
 
+/// The patterns of these rows, in memory of their own.
 fn patterns_of(alloc: Global, rows: &[Row]) -> Result<Items<Items<Literal>>, Memory>
     ensures { IfOk result (λ patterns. patterns ≡ patterns_of rows.now) }
 {
@@ -125,6 +129,7 @@ fn is_refused(
     }
 }
 
+/// Whether a refusal tells that a table has more than so many rows with this row.
 fn refuses(
     alloc: Global,
     known: &Refusal,

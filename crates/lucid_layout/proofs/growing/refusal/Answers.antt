@@ -1,6 +1,5 @@
 use Rattle.std.proofs.Common.{◌≡◌, ◌∙◌, List, ℕ, sym, ap, ap₂, subst, refl}
 use Rattle.std.specs.List.{list_all}
-use Rattle.lucid_code.specs.Guards.{contradict}
 use Rattle.lucid_tables.specs.Numbers.{is_in}
 use Rattle.lucid_code.specs.declared.op.Literal.{Literal}
 use Rattle.lucid_merge.specs.RowCounts.{patterns_of}
