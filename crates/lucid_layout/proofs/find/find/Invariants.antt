@@ -1,0 +1,7 @@
+use Rattle.std.proofs.Common.{◌<◌}
+use Rattle.lucid_layout.specs.declared.stage.Pair.{Pair}
+use Rattle.lucid_layout.specs.Search.{Fits}
+use Rattle.lucid_layout.proofs.find.find.Given as goal
+
+abbrev pub invariant-loop-k : goal.invariant-loop-k
+invariant-loop-k l = (q : Pair) → q.stage < l.k → Fits l.limits l.stages l.low l.array l.more.rows q → ⊥

@@ -1,0 +1,114 @@
+// The least place for a node among stages as they stand.
+ghost use Rattle.std.specs.Prelude.{◌≡◌, ◌<◌, ◌≤◌, ℕ, true, None, Ok, length, IfOk, IfSome, IsSome};
+ghost use Rattle.lucid_tables.specs.Rows.{table as table_of_rows};
+ghost use Rattle.lucid_merge.specs.Product.{product};
+ghost use Rattle.lucid_layout.specs.Fit.{rows_at, TableFits, StageFits, Least};
+ghost use Rattle.lucid_layout.specs.Search.{Found, Fits, TableAt};
+
+use crate::growing::{Known, grown};
+use crate::stage::{Pair, Stage};
+use lucid_base::{Items, Memory};
+use lucid_conf::Limits;
+use lucid_merge::merge;
+use lucid_tables::Table;
+use std::alloc::Global;
+
+/// A table of the stage, or the next new one, merged with this, and None where it then has more than `rows` rows.
+#[tactic(auto, using(crate::proofs::Searching::within_none, crate::proofs::Searching::within_some))]
+fn merged_at(
+    alloc: Global,
+    known: &mut Known,
+    k: u32,
+    stage: &Stage,
+    t: u32,
+    more: &Table,
+    rows: usize,
+) -> Result<Option<Table>, Memory>
+    ensures none { result ≡ Ok None → rows < length (product (rows_at stage.now t) more.now.rows) }
+    ensures some { IfOk result (λ o. IfSome o (λ x. (x ≡ table_of_rows (product (rows_at stage.now t) more.now.rows)) × (length (product (rows_at stage.now t) more.now.rows) ≤ rows))) }
+{
+    if (t as usize) < stage.tables.len() {
+        grown(
+            alloc,
+            known,
+            k,
+            t,
+            &stage.tables.as_slice()[t as usize],
+            more,
+            rows,
+        )
+    } else {
+        let empty = Table {
+            keys: Items::new(alloc),
+            rows: Items::new(alloc),
+        };
+        merge(alloc, &empty, more, rows)
+    }
+}
+
+/// The least table of the stage that fits, as it then is.
+fn find_table(
+    alloc: Global,
+    known: &mut Known,
+    k: u32,
+    stage: &Stage,
+    more: &Table,
+    limits: &Limits,
+) -> Result<Option<(u32, Table)>, Memory>
+    ensures none { result ≡ Ok None → (t : ℕ) → TableFits limits.now stage.now more.now.rows t → ⊥ }
+    ensures some { IfOk result (λ o. IfSome o (λ x. Found limits.now stage.now more.now.rows x.0 x.1)) }
+{
+    for t in 0..limits.tables {
+        if t as usize > stage.tables.len() {
+            return Ok(None);
+        }
+        match merged_at(alloc, known, k, stage, t, more, limits.rows as usize)? {
+            Some(table) => return Ok(Some((t, table))),
+            None => {}
+        }
+    }
+    Ok(None)
+}
+
+/// The same, where the stage has room for the node if it calls an array.
+fn find_in(
+    alloc: Global,
+    known: &mut Known,
+    k: u32,
+    stage: &Stage,
+    array: bool,
+    more: &Table,
+    limits: &Limits,
+) -> Result<Option<(u32, Table)>, Memory>
+    ensures none { result ≡ Ok None → (t : ℕ) → StageFits limits.now stage.now array more.now.rows t → ⊥ }
+    ensures room { IfOk result (λ o. IsSome o → array ≡ true → stage.now.arrays < limits.now.arrays) }
+    ensures some { IfOk result (λ o. IfSome o (λ x. Found limits.now stage.now more.now.rows x.0 x.1)) }
+{
+    if array && stage.arrays >= limits.arrays {
+        return Ok(None);
+    }
+    find_table(alloc, known, k, stage, more, limits)
+}
+
+/// The least place from stage `low` on, and its table then.
+pub(crate) fn find(
+    alloc: Global,
+    known: &mut Known,
+    stages: &[Stage],
+    low: u32,
+    array: bool,
+    more: &Table,
+    limits: &Limits,
+) -> Result<Option<(Pair, Table)>, Memory>
+    requires { length stages.now ≡ limits.now.stages }
+    ensures none { result ≡ Ok None → (p : Pair) → Fits limits.now stages.now low array more.now.rows p → ⊥ }
+    ensures some { IfOk result (λ o. IfSome o (λ x. Least (Fits limits.now stages.now low array more.now.rows) x.0 × TableAt stages.now more.now.rows x.0 x.1)) }
+{
+    for k in low..limits.stages {
+        match find_in(alloc, known, k, &stages[k as usize], array, more, limits)? {
+            Some((table, made)) => return Ok(Some((Pair { stage: k, table }, made))),
+            None => {}
+        }
+    }
+    Ok(None)
+}

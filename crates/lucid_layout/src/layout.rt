@@ -1,0 +1,54 @@
+// The layout of code within limits.
+ghost use Rattle.std.specs.Prelude.{◌≡◌, [], IfOk, IfErr};
+ghost use Rattle.lucid_conf.specs.Kept.{AreLimits};
+ghost use Rattle.lucid_layout.specs.Fit.{IsFirstFit, laid, seats};
+ghost use Rattle.lucid_layout.specs.Layout.{IsLayout, IsRefused, stages_of};
+ghost use Rattle.lucid_layout.specs.Nodes.{works as works_of};
+
+use crate::FitError;
+use crate::counts::test_counts;
+use crate::fit::{Layout, fit};
+use crate::node_order::nodes;
+use crate::node_works::works;
+use crate::placing::stage_codes;
+use lucid_base::Memory;
+use lucid_code::Code;
+use lucid_conf::Limits;
+use lucid_merge::{guards_contradict, products_act, products_name};
+use lucid_tables::Placed;
+use std::alloc::Global;
+
+/// The code in stages and tables by first fit: Ok exactly where its counts keep their limits and each node has a place (`IsLayout` of
+/// specs/Layout), and else the first cause (`IsRefused`). A pass through the stages does what the code does, as `Placed::code` tells.
+pub fn place(alloc: Global, code: &Code, limits: &Limits) -> Result<Placed, FitError>
+    requires { AreLimits limits.now }
+    ensures ok { IfOk result (IsLayout code.now limits.now) }
+    ensures err { IfErr result (IsRefused code.now limits.now) }
+{
+    test_counts(alloc, code, limits)?;
+    let nodes = nodes(alloc, code)?;
+    let works = works(alloc, code.ops(), nodes.as_slice())?;
+    let layout = fit(alloc, code, works.as_slice(), limits)?;
+    match placed(alloc, code, limits, layout) {
+        Ok(placed) => Ok(placed),
+        Err(_) => Err(FitError::Memory),
+    }
+}
+
+/// The placed code of a first fit.
+fn placed(alloc: Global, code: &Code, limits: &Limits, layout: Layout) -> Result<Placed, Memory>
+    requires fit { IsFirstFit code.now.ops limits.now [] (works_of code.now.ops) layout.pairs }
+    requires stages { layout.stages.items ≡ laid code.now.ops limits.now (seats (works_of code.now.ops) layout.pairs) }
+    requires limits { AreLimits limits.now }
+    ensures code { IfOk result (λ p. p.code ≡ code.now) }
+    ensures stages { IfOk result (λ p. p.stages ≡ stages_of code.now limits.now layout.pairs) }
+{
+    products_act();
+    products_name();
+    guards_contradict();
+    let ops = code.ops();
+    let copy = code.copy(alloc)?;
+    let Layout { stages, .. } = layout;
+    let stages = stage_codes(alloc, ops, stages)?;
+    Placed::new(alloc, copy, stages)
+}
