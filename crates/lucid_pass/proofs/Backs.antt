@@ -1,14 +1,12 @@
 -- From the back: what is kept, and the marks of what it reads.
-use Rattle.std.proofs.Common.{◌≡◌, ◌≢◌, ℕ, zero, suc, ◌+◌, ◌-◌, ◌<◌, ◌≤◌, List, [], ◌∷◌, ◌++◌, Bool, true, false, ◌&&◌, ◌||◌, Option, None, Some, if◌then◌else◌, length, drop, reverse, replicate, slice_index_or, slice_set, nat_eq, nat_lt, refl, sym, ap, ap₂, subst, ◌∙◌, ⊎_elim, arith}
-use Rattle.std.specs.List.{list_all, list_any, fold}
+use Rattle.std.proofs.Common.{◌≡◌, ℕ, zero, suc, ◌+◌, ◌-◌, ◌<◌, List, [], ◌∷◌, ◌++◌, Bool, true, false, ◌||◌, Option, None, Some, if◌then◌else◌, length, drop, reverse, replicate, slice_index_or, slice_set, nat_eq, nat_lt, refl, sym, ap, ap₂, subst, ◌∙◌, ⊎_elim, arith}
+use Rattle.std.specs.List.{list_all, list_any}
 use Rattle.std.specs.Option.{option_map_or}
 use Rattle.std.proofs.Math.Seq.{drop-cons}
 use Rattle.std.proofs.lemmas.Bool.{and_parts, eq-eqb, ne_eqb, cases_eq, ltb-true}
 use Rattle.std.proofs.lemmas.List.{get_or-set_same, get_or-set_other, length-set, length-replicate, reverse-append}
-use Rattle.lucid_code.specs.declared.op.Act.{Act}
-use Rattle.lucid_code.specs.declared.op.Act.TheVariants as act
 use Rattle.lucid_code.specs.declared.op.Op.{Op}
-use Rattle.lucid_code.specs.Uses.{written_by, read_by}
+use Rattle.lucid_code.specs.Uses.{read_by}
 use Rattle.lucid_code.specs.Parts.{Parts}
 use Rattle.lucid_code.specs.Valid.{IsValid}
 use Rattle.lucid_pass_form.proofs.Looking.{sound_each}

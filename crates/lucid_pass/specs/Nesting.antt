@@ -1,6 +1,6 @@
 -- How the guards of operations stand in one another: what stands before each literal, and which fields are tested where the guard of what
 -- writes them doesn't stand.
-use Rattle.std.specs.Prelude.{◌≡◌, ◌≤◌, ◌<◌, ◌-◌, ℕ, List, [], ◌∷◌, Bool, true, false, not, Option, Some, if◌then◌else◌, length, slice_get, slice_index_or, slice_set, take}
+use Rattle.std.specs.Prelude.{◌≡◌, ◌≤◌, ◌<◌, ◌-◌, ℕ, List, Bool, true, false, not, Some, if◌then◌else◌, length, slice_get, slice_index_or, slice_set, take}
 use Rattle.std.specs.List.{fold}
 use Rattle.std.specs.Option.{option_map_or}
 use Rattle.lucid_code.specs.declared.op.Literal.{Literal}

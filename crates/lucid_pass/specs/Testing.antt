@@ -1,6 +1,5 @@
 -- What fields stand for, as a table, and what is read, as marks.
-use Rattle.std.specs.Prelude.{◌≡◌, ℕ, [], ◌∷◌, ◌++◌, ◌<◌, List, Bool, true, false, not, Option, None, if◌then◌else◌, length, slice_get, slice_index_or}
-use Rattle.std.specs.List.{list_any}
+use Rattle.std.specs.Prelude.{◌≡◌, ℕ, ◌<◌, List, Bool, true, false, not, Option, None, if◌then◌else◌, length, slice_get, slice_index_or}
 use Rattle.std.specs.Option.{option_and_then, option_map_or}
 use Rattle.lucid_code.specs.declared.op.Op.{Op}
 use Rattle.lucid_code.specs.Uses.{written_by}

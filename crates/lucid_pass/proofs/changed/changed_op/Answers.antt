@@ -1,9 +1,8 @@
-use Rattle.std.proofs.Common.{rules, ◌≡◌, ◌∙◌, sym, ap, ap₂, List}
+use Rattle.std.proofs.Common.{◌≡◌, ◌∙◌, ap, ap₂, List}
 use Rattle.lucid_code.specs.declared.op.Act.{Act}
 use Rattle.lucid_code.specs.declared.op.Literal.{Literal}
-use Rattle.lucid_code.specs.declared.op.Op.{Op}
 use Rattle.lucid_pass_form.specs.Looks.{looked, with_operands}
-use Rattle.lucid_pass.specs.Putting.{change_of, finish_of, put_of, standing}
+use Rattle.lucid_pass.specs.Putting.{finish_of, put_of, standing}
 use Rattle.lucid_pass.proofs.changed.changed_op.Goals as goal
 
 pub returns : goal.returns

@@ -1,4 +1,4 @@
-use Rattle.std.proofs.Common.{rules, ◌≡◌, ◌∙◌, ◌+◌, sym, ap, subst, arith, length, false, slice_index_or}
+use Rattle.std.proofs.Common.{rules, ◌≡◌, ◌∙◌, ◌+◌, sym, ap, subst, false, slice_index_or}
 use Rattle.std.proofs.lemmas.List.{get_or_default}
 use Rattle.lucid_pass.specs.Testing.{test_at}
 use Rattle.lucid_pass.proofs.Testings.{Tested, tested_more, tested_all, test_is}

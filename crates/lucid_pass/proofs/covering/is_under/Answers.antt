@@ -1,4 +1,4 @@
-use Rattle.std.proofs.Common.{◌≡◌, ◌∙◌, sym, ap, true}
+use Rattle.std.proofs.Common.{◌∙◌, sym, ap, true}
 use Rattle.std.specs.Option.{option_map_or}
 use Rattle.lucid_code.specs.declared.op.Op.{Op}
 use Rattle.lucid_pass_form.specs.Looks.{includes}

@@ -1,4 +1,4 @@
-use Rattle.std.proofs.Common.{rules, ◌<◌, length, arith}
+use Rattle.std.proofs.Common.{◌<◌, length, arith}
 use Rattle.lucid_pass.proofs.Nesting.{nested_next, nested_here, marks_here, take_rest}
 use Rattle.lucid_pass.proofs.covering.turn.Goals as goal
 

@@ -1,4 +1,4 @@
-use Rattle.std.proofs.Common.{rules, ◌≡◌, ◌∙◌, sym, ap, ap₂, subst, length, map, List, Bool, Option}
+use Rattle.std.proofs.Common.{◌≡◌, ◌∙◌, ap, ap₂, subst, length, map, List, Bool, Option}
 use Rattle.std.specs.List.{filter}
 use Rattle.lucid_code.specs.declared.op.Op.{Op}
 use Rattle.lucid_pass_form.specs.declared.direct.Test.{Test}

@@ -1,4 +1,4 @@
-use Rattle.std.proofs.Common.{rules, ◌≡◌, ◌∙◌, sym, true}
+use Rattle.std.proofs.Common.{rules, ◌≡◌, true}
 use Rattle.lucid_pass.specs.Nesting.{same_at}
 use Rattle.lucid_pass.proofs.Nesting.{alike_more}
 use Rattle.lucid_pass.proofs.guards.shared.Goals as goal

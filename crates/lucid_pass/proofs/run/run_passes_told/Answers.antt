@@ -1,9 +1,8 @@
-use Rattle.std.proofs.Common.{◌≡◌, ◌≤◌, ◌<◌, ◌+◌, ◌-◌, ◌∷◌, ◌++◌, [], length, get_or, set, subst, sym, ap, ap₂, ◌∙◌, rules, arith, List}
+use Rattle.std.proofs.Common.{◌≡◌, ◌-◌, ◌∷◌, ◌++◌, [], length, sym, ap, ap₂, ◌∙◌, rules, List}
 use Rattle.std.proofs.lemmas.List.{length-set}
 use Rattle.lucid_code.specs.declared.op.Op.{Op}
 use Rattle.lucid_code.specs.Parts.{Parts}
-use Rattle.lucid_pass.proofs.Running.{Ran, begins, stops, one_failed, one_ran, told_as, ap₂_le, on_err}
-use Rattle.lucid_pass.proofs.run.run_passes_told.Invariants.{Turn}
+use Rattle.lucid_pass.proofs.Running.{stops, one_failed, one_ran, told_as, ap₂_le, on_err}
 use Rattle.lucid_pass.proofs.run.run_passes_told.Goals as goal
 
 pub returns-in_err-code-clause-names : goal.returns-in_err-code-clause-names

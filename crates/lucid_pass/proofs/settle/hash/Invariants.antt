@@ -1,4 +1,4 @@
-use Rattle.std.proofs.Common.{◌≡◌, drop, if◌then◌else◌, Some, None, [], Option, ℕ}
+use Rattle.std.proofs.Common.{◌≡◌, drop, if◌then◌else◌, Some, None, []}
 use Rattle.std.specs.List.{list_all, fold}
 use Rattle.lucid_base.specs.Hash.{fnv_1a, bytes_of, with_byte}
 use Rattle.lucid_code.specs.Run.{values}

@@ -1,4 +1,4 @@
-use Rattle.std.proofs.Common.{rules, ◌<◌, length, arith}
+use Rattle.std.proofs.Common.{◌<◌, length, arith}
 use Rattle.lucid_pass.specs.Testing.{direct_by}
 use Rattle.lucid_pass.proofs.Trails.{trail_here, trail_made, trail_next}
 use Rattle.lucid_pass.proofs.trail.turn.Goals as goal

@@ -1,12 +1,12 @@
-use Rattle.std.proofs.Common.{rules, ◌≡◌, ◌∙◌, sym, ap, ap₂, subst, length, ◌-◌, ℕ, List, [], Bool, true}
+use Rattle.std.proofs.Common.{◌≡◌, ◌∙◌, sym, ap, ap₂, subst, length, ◌-◌, ℕ, List, []}
 use Rattle.std.specs.List.{list_all}
 use Rattle.lucid_base.specs.Saturating.{saturating_sum}
 use Rattle.lucid_code.specs.declared.op.Op.{Op}
-use Rattle.lucid_code.specs.Parts.{Parts, made_of}
+use Rattle.lucid_code.specs.Parts.{made_of}
 use Rattle.lucid_pass_form.specs.Looks.{copies, changed}
 use Rattle.lucid_pass_form.specs.Replace.{MayReplace}
 use Rattle.lucid_pass_form.proofs.Looking.{copies_replaces}
-use Rattle.lucid_pass.specs.declared.looks.Looks.TheVariants.{Copied, Constant}
+use Rattle.lucid_pass.specs.declared.looks.Looks.TheVariants.{Copied}
 use Rattle.lucid_pass.specs.Marks.{writes_below}
 use Rattle.lucid_pass.specs.Putting.{change_of}
 use Rattle.lucid_pass.proofs.Backs.{all_below}

@@ -1,7 +1,7 @@
-use Rattle.std.proofs.Common.{rules, ◌≡◌, ◌∙◌, sym, ap, ap₂, subst, length, ℕ, List, Bool, true}
+use Rattle.std.proofs.Common.{◌≡◌, ◌∙◌, sym, ap, ap₂, subst, length, ℕ, List}
 use Rattle.std.specs.List.{list_all}
 use Rattle.lucid_code.specs.declared.op.Op.{Op}
-use Rattle.lucid_code.specs.Parts.{Parts, made_of}
+use Rattle.lucid_code.specs.Parts.{made_of}
 use Rattle.lucid_pass_form.specs.Dead.{live}
 use Rattle.lucid_pass_form.specs.Replace.{MayReplace}
 use Rattle.lucid_pass_form.proofs.Gone.{dead_replaces}
