@@ -1,0 +1,9 @@
+mod Backs
+mod Changing
+mod Nesting
+mod Places
+mod Running
+mod Settling
+mod Testings
+mod Throughs
+mod Trails

@@ -1,0 +1,30 @@
+-- What passes make of code one after another, and how many operations go in each.
+use Rattle.std.specs.Prelude.{ℕ, ◌-◌, List, [], ◌∷◌, length}
+use Rattle.std.specs.List.{AllByRecursion, fold}
+use Rattle.lucid_base.specs.Saturating.{saturating_sum}
+use Rattle.lucid_code.specs.Parts.{Parts}
+use Rattle.lucid_pass_form.specs.Laws.{KeepsNodes, Replaces}
+use Rattle.lucid_pass_form.specs.Replace.{Rewrite}
+
+-- Each in order, on what the one before gave.
+abbrev pub through : List Rewrite → Parts → Parts
+through passes code = fold (λ now (p : Rewrite). p.makes now) code passes
+
+-- How many operations go in each.
+abbrev pub gone : List Rewrite → Parts → List ℕ
+gone [] code = []
+gone (p ∷ passes) code = (length code.ops - length (p.makes code).ops) ∷ gone passes (p.makes code)
+
+-- The counts of the passes that ran, the first ones, rise by what went in each; the others stay.
+abbrev pub raised : List ℕ → List ℕ → List ℕ
+raised counts [] = counts
+raised [] (n ∷ ns) = []
+raised (count ∷ counts) (n ∷ ns) = saturating_sum count n ∷ raised counts ns
+
+-- What passes make of valid code may stand in place of it.
+abbrev pub ListsReplace : Type 0
+ListsReplace = (passes : List Rewrite) → Replaces (through passes)
+
+-- Where each pass of a list keeps nodes behind what they read, the list does so.
+abbrev pub ListsKeepNodes : Type 0
+ListsKeepNodes = (passes : List Rewrite) → AllByRecursion (λ (p : Rewrite). KeepsNodes p.makes) passes → KeepsNodes (through passes)

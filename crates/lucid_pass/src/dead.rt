@@ -1,0 +1,112 @@
+// The pass by which goes what writes a field that no operation reads (`alive` of lucid_pass_form).
+ghost use Rattle.std.specs.Prelude.{◌≡◌, ◌++◌, ◌∷◌, [], true, false, length, slice_index_or, slice_set, if◌then◌else◌, IfOk, OnOk, IsTrue};
+ghost use Rattle.std.specs.Option.{option_map_or};
+ghost use Rattle.std.specs.List.{list_all};
+ghost use Rattle.lucid_code.specs.Parts.{Parts};
+ghost use Rattle.lucid_code.specs.Uses.{read_by};
+ghost use Rattle.lucid_pass_form.specs.Dead.{only_writes, live};
+ghost use Rattle.lucid_pass.specs.Marks.{marked, is_marked, writes_below};
+
+use crate::marks::{is_set, mark_all};
+use crate::run::replaced;
+use crate::{Name, Pass};
+use lucid_base::Memory;
+use lucid_code::{Act, Code, Op};
+use std::alloc::Global;
+
+/// The pass `dead`. What writes a field that no operation reads goes, until there are none; calls of arrays, events and prints stay.
+#[derive(Drop)]
+pub struct Dead {
+    removed: u64,
+}
+
+impl Dead {
+    /// The pass, by which nothing went so far.
+    pub fn new() -> Dead
+        ensures { result.removed ≡ 0 }
+    {
+        Dead { removed: 0 }
+    }
+}
+
+impl Pass for Dead {
+    ghost use Rattle.std.specs.Prelude.{codes};
+    ghost use Rattle.lucid_pass_form.specs.Dead.{alive};
+    ghost use Rattle.lucid_pass_form.proofs.Gone.{dead_replaces};
+
+    ghost called = { λ _. codes "dead" };
+
+    ghost count = { λ p. p.removed };
+
+    ghost gives = { λ _. record { makes = alive; keeps = dead_replaces } };
+
+    fn name(&self) -> Name {
+        Name::new("dead")
+    }
+
+    fn removed(&self) -> u64 {
+        self.removed
+    }
+
+    fn run(&mut self, alloc: Global, code: &Code) -> Result<Code, Memory> {
+        let ops = live(alloc, code.ops(), code.fields().len())?;
+        let (new, gone) = replaced(alloc, code, ops)?;
+        self.removed = self.removed.saturating_add(gone);
+        Ok(new)
+    }
+}
+
+/// What is needed of the operations, which name only fields below `fields`: from the last to the first, with a mark for each field that those
+/// kept so far read.
+fn live(alloc: Global, ops: &[Op], fields: usize) -> Result<Vec<Op>, Memory>
+    requires { IsTrue (list_all (writes_below fields) ops.now) }
+    ensures { IfOk result (λ kept. kept.items ≡ live ops.now) }
+{
+    let mut read = vec![in alloc; false; fields]?;
+    let mut kept = Vec::new(alloc);
+    let mut reads = Vec::new(alloc);
+    for turn in 0..ops.len() {
+        let op = &ops[ops.len() - 1 - turn];
+        keep(alloc, op, &mut read, &mut kept, &mut reads)?;
+    }
+    kept.reverse();
+    Ok(kept)
+}
+
+fn keep(
+    alloc: Global,
+    op: &Op,
+    read: &mut Vec<bool>,
+    kept: &mut Vec<Op>,
+    reads: &mut Vec<u32>,
+) -> Result<(), Memory>
+    ensures kept { OnOk result (kept.new.items ≡ if is_marked read.old.items op.now then kept.old.items ++ op.now ∷ [] else kept.old.items) }
+    ensures read { OnOk result (read.new.items ≡ if is_marked read.old.items op.now then marked (read_by op.now) read.old.items else read.old.items) }
+{
+    if is_marked(read.as_slice(), op) {
+        reads.clear();
+        op.put_reads(reads)?;
+        mark_all(read, reads.as_slice());
+        kept.push(op.copy(alloc)?)?;
+    }
+    Ok(())
+}
+
+fn is_marked(read: &[bool], op: &Op) -> bool
+    ensures { result ≡ is_marked read.now op.now }
+{
+    match only_writes(&op.act) {
+        None => true,
+        Some(k) => is_set(read, k as usize),
+    }
+}
+
+/// The field that an act writes which does nothing else.
+fn only_writes(act: &Act) -> Option<u32>
+    ensures { result ≡ only_writes act.now }
+{
+    match act {
+        Act::Touch { .. } => None,
+        _ => act.written(),
+    }
+}

@@ -1,0 +1,53 @@
+// The pass that puts numbers in place of fields, and computes what is made of numbers alone (`folded` of lucid_pass_form).
+ghost use Rattle.std.specs.Prelude.{◌≡◌};
+
+use crate::changed::changed;
+use crate::looks::Looks;
+use crate::run::replaced;
+use crate::{Name, Pass};
+use lucid_base::Memory;
+use lucid_code::Code;
+use std::alloc::Global;
+
+/// The pass `fold`. A field that is moved from a number is read as the number that it then holds, and what computes from numbers alone becomes
+/// a move of its result.
+#[derive(Drop)]
+pub struct Fold {
+    removed: u64,
+}
+
+impl Fold {
+    /// The pass, by which nothing went so far.
+    pub fn new() -> Fold
+        ensures { result.removed ≡ 0 }
+    {
+        Fold { removed: 0 }
+    }
+}
+
+impl Pass for Fold {
+    ghost use Rattle.std.specs.Prelude.{codes};
+    ghost use Rattle.lucid_pass_form.specs.Looks.{folded};
+    ghost use Rattle.lucid_pass_form.proofs.Looking.{fold_replaces};
+
+    ghost called = { λ _. codes "fold" };
+
+    ghost count = { λ p. p.removed };
+
+    ghost gives = { λ _. record { makes = folded; keeps = fold_replaces } };
+
+    fn name(&self) -> Name {
+        Name::new("fold")
+    }
+
+    fn removed(&self) -> u64 {
+        self.removed
+    }
+
+    fn run(&mut self, alloc: Global, code: &Code) -> Result<Code, Memory> {
+        let ops = changed(alloc, Looks::Constant, code.fields(), code.ops())?;
+        let (new, gone) = replaced(alloc, code, ops)?;
+        self.removed = self.removed.saturating_add(gone);
+        Ok(new)
+    }
+}
