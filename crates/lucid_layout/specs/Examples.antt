@@ -14,12 +14,13 @@ use Rattle.lucid_tables.specs.declared.stage.StageCode.{StageCode}
 use Rattle.lucid_tables.specs.Examples.{row, stage_of}
 use Rattle.lucid_conf.specs.declared.limits.Limits.{Limits}
 use Rattle.lucid_layout.specs.declared.error.FitError.TheVariants.{Arms, Fields}
-use Rattle.lucid_layout.specs.declared.node.Node.TheVariants.{Pure, Array}
+use Rattle.lucid_code.specs.declared.node.Node.TheVariants.{Pure, Array}
 use Rattle.lucid_layout.specs.declared.stage.Pair.{Pair}
 use Rattle.lucid_layout.specs.Counts.{bits_of}
 use Rattle.lucid_layout.specs.Fit.{IsFirstFit, IsStuck}
 use Rattle.lucid_layout.specs.Layout.{IsRefused, stages_of}
-use Rattle.lucid_layout.specs.Nodes.{nodes, work_of, works}
+use Rattle.lucid_code.specs.Nodes.{nodes}
+use Rattle.lucid_layout.specs.Nodes.{work_of, works}
 
 -- An array is read in both branches of an if, and what was read is sent out:
 -- handle e(int v) { int n = 0; if (v == 0) { n = Array.get(x, 0); } else { n = Array.get(x, 1); } generate out(n); }

@@ -1,7 +1,7 @@
 use Rattle.std.proofs.Common.{subst, sym, ap, ap₂, length, map, List, ◌≡◌, ◌∙◌, arith}
 use Rattle.std.specs.List.{AllByRecursion}
 use Rattle.lucid_code.specs.declared.op.Op.{Op}
-use Rattle.lucid_layout.specs.declared.node.Node.{Node}
+use Rattle.lucid_code.specs.declared.node.Node.{Node}
 use Rattle.lucid_layout.specs.declared.node.Work.{Work}
 use Rattle.lucid_layout.specs.Nodes.{works, work_of}
 use Rattle.lucid_layout.specs.Search.{Within}
