@@ -1,5 +1,5 @@
 -- Fields that are written, what holds the locals, and what ops leave alone.
-use Rattle.std.proofs.Common.{◌≡◌, ℕ, zero, suc, ◌+◌, ◌^◌, ◌<◌, ◌≤◌, List, [], ◌∷◌, ◌++◌, Bool, true, false, not, ◌&&◌, Option, None, Some, length, map, refl, sym, ap, ap₂, ◌∙◌, arith, length-append, slice_index, slice_index_or, slice_set, nat_eq, nat_lt, if◌then◌else◌, is_some, true≢false, mod-eq_of_lt, le-ltb}
+use Rattle.std.proofs.Common.{◌≡◌, ℕ, zero, suc, ◌+◌, ◌^◌, ◌<◌, ◌≤◌, List, [], ◌∷◌, ◌++◌, Bool, true, false, ◌&&◌, Option, None, Some, length, map, refl, sym, ap, ap₂, ◌∙◌, arith, length-append, slice_index, slice_index_or, slice_set, nat_eq, nat_lt, if◌then◌else◌, is_some, true≢false, mod-eq_of_lt, le-ltb}
 use Rattle.std.specs.List.{AllByRecursion}
 use Rattle.std.proofs.lemmas.Bool.{ne_eqb}
 use Rattle.std.proofs.lemmas.List.{get_or_append_left}
@@ -16,20 +16,12 @@ use Rattle.lucid_code.specs.Uses.{written_by}
 use Rattle.lucid_core.specs.Values.{nothing}
 use Rattle.lucid_normal_form.specs.declared.env.Typed.{Typed}
 use Rattle.lucid_normal_form.specs.Translate.{guarded, held_by}
+pub use Rattle.lucid_code.proofs.Acting.{put_same}
+use Rattle.lucid_code.proofs.Acting.{holds_by, put_other}
 
 -- Fields.
-pub put_same : (xs : Fields) (k v : ℕ) → slice_index (put xs k v) k ≡ v
-put_same [] zero v = refl
-put_same [] (suc k) v = put_same [] k v
-put_same (x ∷ xs) zero v = refl
-put_same (x ∷ xs) (suc k) v = put_same xs k v
-
 pub put_below : (xs : Fields) (k j v : ℕ) → j < k → slice_index (put xs k v) j ≡ slice_index xs j
-put_below xs zero j v h = absurd (omega arith)
-put_below [] (suc k) zero v h = refl
-put_below [] (suc k) (suc j) v h = put_below [] k j v (omega arith)
-put_below (x ∷ xs) (suc k) zero v h = refl
-put_below (x ∷ xs) (suc k) (suc j) v h = put_below xs k j v (omega arith)
+put_below xs k j v h = put_other xs k j v (λ e. omega (arith, h, e))
 
 abbrev pub In : ℕ → ℕ → Option ℕ → Type 0
 In lo hi None = Unit {0}
@@ -119,14 +111,11 @@ pub run-append : (ws : List ℕ) (xs ys : List Op) (m : Machine) → run ws (xs 
 run-append ws [] ys m = refl
 run-append ws (x ∷ xs) ys m = run-append ws xs ys (run_op ws m x)
 
-holds_same : (l : Literal) (f g : Fields) → slice_index g l.field ≡ slice_index f l.field → holds g l ≡ holds f l
-holds_same l f g e = ap (λ (x : ℕ). if l.equal then nat_eq x l.value else not (nat_eq x l.value)) e
-
 pub run_on : (ws : List ℕ) (l : Literal) (lo hi : ℕ) (ops : List Op) (m : Machine) → l.field < lo → WritesIn lo hi ops → holds m.fields l ≡ true → run ws (map (guarded l) ops) m ≡ run ws ops m
 run_on ws l lo hi [] m h w e = refl
 run_on ws l lo hi (o ∷ ops) m h w e =
     ap (λ (b : Bool). run ws (map (guarded l) ops) (if (b && all_hold m.fields o.guard) then run_act ws o.act m else m)) e
-    ∙ run_on ws l lo hi ops (run_op ws m o) h w.1 (holds_same l m.fields (run_op ws m o).fields (op_stays ws lo hi o m w.0 l.field h) ∙ e)
+    ∙ run_on ws l lo hi ops (run_op ws m o) h w.1 (holds_by m.fields (run_op ws m o).fields l (op_stays ws lo hi o m w.0 l.field h) ∙ e)
 
 pub run_off : (ws : List ℕ) (l : Literal) (ops : List Op) (m : Machine) → holds m.fields l ≡ false → run ws (map (guarded l) ops) m ≡ m
 run_off ws l [] m e = refl
