@@ -3,8 +3,8 @@ ghost use Rattle.std.specs.Prelude.{◌≡◌, ◌++◌, ◌∷◌, [], true, fa
 ghost use Rattle.std.specs.Option.{option_map_or};
 ghost use Rattle.std.specs.List.{list_all};
 ghost use Rattle.lucid_code.specs.Parts.{Parts};
-ghost use Rattle.lucid_code.specs.Uses.{read_by};
-ghost use Rattle.lucid_pass_form.specs.Dead.{only_writes, live};
+ghost use Rattle.lucid_code.specs.Uses.{read_by, only_writes};
+ghost use Rattle.lucid_pass_form.specs.Dead.{live};
 ghost use Rattle.lucid_pass.specs.Marks.{marked, is_marked, writes_below};
 
 use crate::marks::{is_set, mark_all};
