@@ -1,5 +1,5 @@
 -- Code that stands for a program of any form, and how many operations its normal form has.
-use Rattle.std.specs.Prelude.{◌≡◌, ◌≤◌, ◌^◌, length, sum}
+use Rattle.std.specs.Prelude.{◌≡◌, length, sum}
 use Rattle.lucid_code.specs.Parts as code
 use Rattle.lucid_core.specs.Parts.{Parts}
 use Rattle.lucid_effects_order.specs.Size.{flat_size}
@@ -13,7 +13,7 @@ use Rattle.lucid_pass_form.specs.Replace.{MayReplace}
 -- program's arrays.
 pub record CodeStands (core : Parts) : Type 0 where
   pub normal : StandsFor (translate (flat_of core)) core
-  pub stands : (c : code.Parts) → length core.events ≤ 2 ^ 32 → MayReplace (translate (flat_of core)) c → StandsFor c core
+  pub stands : (c : code.Parts) → MayReplace (translate (flat_of core)) c → StandsFor c core
   pub arrays : (c : code.Parts) → MayReplace (translate (flat_of core)) c → c.arrays ≡ core.arrays
 
 -- The normal form has as many operations as are counted over the program, handler by handler.
