@@ -46,10 +46,7 @@ fn translated(alloc: Global, flat: &Flat) -> Result<Code, Memory>
     let built = build(alloc, flat, widths)?;
     let fields = Vec::from_slice(alloc, built.widths.as_slice())?;
     let arrays = copy_arrays(alloc, flat.arrays())?;
-    match Code::new(alloc, fields, inputs, arrays, built.ops)? {
-        Some(code) => Ok(code),
-        None => unreachable!(),
-    }
+    Ok(Code::of_valid(fields, inputs, arrays, built.ops))
 }
 
 /// The event, the tick and the switch, and then so many arguments.
