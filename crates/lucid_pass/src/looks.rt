@@ -1,5 +1,5 @@
 // Operands that are replaced by what their fields were moved from.
-ghost use Rattle.std.specs.Prelude.{◌≡◌, ◌++◌, Option, None, drop, length, map, slice_get, slice_index, IfOk};
+ghost use Rattle.std.specs.Prelude.{◌≡◌, Option, None, map, slice_get, slice_index, IfOk};
 ghost use Rattle.std.specs.Option.{option_map, option_and_then};
 ghost use Rattle.lucid_base.specs.Ops.{low_of};
 ghost use Rattle.lucid_code.specs.Uses.{with_operands};

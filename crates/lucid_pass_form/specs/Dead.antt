@@ -1,5 +1,5 @@
 -- What `Dead` makes of code: what writes a field that no operation reads goes, until there are none.
-use Rattle.std.specs.Prelude.{◌≡◌, ℕ, zero, suc, IsTrue, false, List, [], ◌∷◌, ◌++◌, Option, None, Bool, true, if◌then◌else◌, nat_eq}
+use Rattle.std.specs.Prelude.{◌≡◌, ℕ, zero, suc, IsTrue, false, List, [], ◌∷◌, ◌++◌, Bool, true, if◌then◌else◌, nat_eq}
 use Rattle.std.specs.List.{list_all, list_any}
 use Rattle.std.specs.Option.{option_map_or}
 use Rattle.lucid_code.specs.declared.op.Op.{Op}
