@@ -1,5 +1,5 @@
 -- From the normal form to what may stand in its place, and from the flat form to the program.
-use Rattle.std.proofs.Common.{◌≡◌, ℕ, ◌∙◌, ap}
+use Rattle.std.proofs.Common.{ℕ, ◌∙◌, ap}
 use Rattle.lucid_base.specs.declared.event.Event.{Event}
 use Rattle.lucid_code.specs.Parts as code
 use Rattle.lucid_code.specs.Run.{Done}
