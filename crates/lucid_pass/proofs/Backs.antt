@@ -6,13 +6,13 @@ use Rattle.std.proofs.Math.Seq.{drop-cons}
 use Rattle.std.proofs.lemmas.Bool.{and_parts, eq-eqb, ne_eqb, cases_eq, ltb-true}
 use Rattle.std.proofs.lemmas.List.{get_or-set_same, get_or-set_other, length-set, length-replicate, reverse-append}
 use Rattle.lucid_code.specs.declared.op.Op.{Op}
-use Rattle.lucid_code.specs.Uses.{read_by}
+use Rattle.lucid_code.specs.Uses.{read_by, only_writes}
 use Rattle.lucid_code.specs.Parts.{Parts}
 use Rattle.lucid_code.specs.Valid.{IsValid}
-use Rattle.lucid_pass_form.proofs.Looking.{sound_each}
-use Rattle.lucid_pass_form.proofs.Members.{all_from}
-use Rattle.lucid_pass_form.specs.Dead.{only_writes, reads, is_read, is_needed, kept_if, live}
-use Rattle.lucid_pass_form.proofs.Fresh.{only_written}
+use Rattle.lucid_code.proofs.Facts.{sound_each}
+use Rattle.lucid_code.proofs.Members.{all_from}
+use Rattle.lucid_pass_form.specs.Dead.{reads, is_read, is_needed, kept_if, live}
+use Rattle.lucid_code.proofs.Fresh.{only_written}
 use Rattle.lucid_pass.specs.Marks.{marked, is_marked, writes_below}
 
 pub marked_length : (ks : List ℕ) (read : List Bool) → length (marked ks read) ≡ length read

@@ -3,8 +3,7 @@ use Rattle.std.specs.Prelude.{ℕ, List, Bool, true, false, nat_lt, slice_index_
 use Rattle.std.specs.List.{fold}
 use Rattle.std.specs.Option.{option_map_or}
 use Rattle.lucid_code.specs.declared.op.Op.{Op}
-use Rattle.lucid_code.specs.Uses.{written_by}
-use Rattle.lucid_pass_form.specs.Dead.{only_writes}
+use Rattle.lucid_code.specs.Uses.{written_by, only_writes}
 
 abbrev pub marked : List ℕ → List Bool → List Bool
 marked fields read = fold (λ (marks : List Bool) k. slice_set marks k true) read fields

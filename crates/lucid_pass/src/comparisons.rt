@@ -1,7 +1,6 @@
 // For which test the field of a comparison stands.
-ghost use Rattle.std.specs.Prelude.{◌≡◌, ◌&&◌, ◌^◌, nat_eq, nat_lt, not, Option, None, Some, length, slice_index, if◌then◌else◌, IfOk};
+ghost use Rattle.std.specs.Prelude.{◌≡◌, ◌&&◌, ◌^◌, nat_eq, nat_lt, not, Option, None, Some, slice_index, if◌then◌else◌, IfOk};
 ghost use Rattle.lucid_pass_form.specs.Direct.{tested};
-ghost use Rattle.lucid_pass.specs.Nesting.{Uncovered};
 ghost use Rattle.lucid_pass.specs.Testing.{Stands, test_at};
 ghost use Rattle.lucid_pass.specs.Writers.{Tells};
 

@@ -1,10 +1,8 @@
 // The pass by which goes what writes a field that no operation reads (`alive` of lucid_pass_form).
-ghost use Rattle.std.specs.Prelude.{◌≡◌, ◌++◌, ◌∷◌, [], true, false, length, slice_index_or, slice_set, if◌then◌else◌, IfOk, OnOk, IsTrue};
-ghost use Rattle.std.specs.Option.{option_map_or};
+ghost use Rattle.std.specs.Prelude.{◌≡◌, ◌++◌, ◌∷◌, [], true, false, if◌then◌else◌, IfOk, OnOk, IsTrue};
 ghost use Rattle.std.specs.List.{list_all};
-ghost use Rattle.lucid_code.specs.Parts.{Parts};
-ghost use Rattle.lucid_code.specs.Uses.{read_by};
-ghost use Rattle.lucid_pass_form.specs.Dead.{only_writes, live};
+ghost use Rattle.lucid_code.specs.Uses.{read_by, only_writes};
+ghost use Rattle.lucid_pass_form.specs.Dead.{live};
 ghost use Rattle.lucid_pass.specs.Marks.{marked, is_marked, writes_below};
 
 use crate::marks::{is_set, mark_all};

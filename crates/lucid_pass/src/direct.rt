@@ -1,11 +1,10 @@
 // The pass that tests a field in place of a comparison of it (`direct` of lucid_pass_form).
 ghost use Rattle.std.specs.Prelude.{◌≡◌, length, IfOk, OnOk, IsTrue, true};
 ghost use Rattle.std.specs.List.{filter, list_all};
-ghost use Rattle.std.specs.Option.{option_map_or};
 ghost use Rattle.lucid_code.specs.Uses.{read_by};
 ghost use Rattle.lucid_pass_form.specs.Direct.{direct_ops};
 ghost use Rattle.lucid_pass.specs.Marks.{marked, writes_below};
-ghost use Rattle.lucid_pass.specs.Testing.{ReadMarks, direct_by, is_still_needed};
+ghost use Rattle.lucid_pass.specs.Testing.{ReadMarks, is_still_needed};
 
 use crate::comparisons::tests_of;
 use crate::marks::{is_set, mark_all};

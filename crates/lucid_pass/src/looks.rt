@@ -1,8 +1,9 @@
 // Operands that are replaced by what their fields were moved from.
-ghost use Rattle.std.specs.Prelude.{◌≡◌, ◌++◌, Option, None, drop, length, map, slice_get, slice_index, IfOk};
+ghost use Rattle.std.specs.Prelude.{◌≡◌, Option, None, map, slice_get, slice_index, IfOk};
 ghost use Rattle.std.specs.Option.{option_map, option_and_then};
 ghost use Rattle.lucid_base.specs.Ops.{low_of};
-ghost use Rattle.lucid_pass_form.specs.Looks.{seen, moved, moved_from, looked, with_operands};
+ghost use Rattle.lucid_code.specs.Uses.{with_operands};
+ghost use Rattle.lucid_pass_form.specs.Looks.{seen, moved, moved_from, looked};
 ghost use Rattle.lucid_pass.specs.Putting.{put_of, standing};
 ghost use Rattle.lucid_pass.specs.Writers.{Tells};
 

@@ -1,7 +1,6 @@
 // What computes from numbers alone.
 ghost use Rattle.std.specs.Prelude.{◌≡◌, Option, None, Some, [], if◌then◌else◌};
 ghost use Rattle.std.specs.List.{list_all};
-ghost use Rattle.std.specs.Option.{option_and_then};
 ghost use Rattle.lucid_base.specs.Bool.{bit_of};
 ghost use Rattle.lucid_base.specs.Hash.{fnv_1a, bytes_of};
 ghost use Rattle.lucid_base.specs.Ops.{un_of, bin_of, cmp_of, low_of};

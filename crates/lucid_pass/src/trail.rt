@@ -1,5 +1,5 @@
 // Guards with direct tests. The guard that was made last is kept, and the next one, which mostly begins alike, is made from where they differ.
-ghost use Rattle.std.specs.Prelude.{◌≡◌, ◌+◌, ◌<◌, ◌∷◌, ◌++◌, [], length, map, take, slice_get, slice_index_or, Some, IfOk, OnOk};
+ghost use Rattle.std.specs.Prelude.{◌≡◌, ◌+◌, ◌<◌, length, map, take, slice_get, slice_index_or, Some, IfOk, OnOk};
 ghost use Rattle.lucid_pass_form.specs.Direct.{direct_literal, direct_op, says};
 ghost use Rattle.lucid_pass.specs.Testing.{direct_by};
 ghost use Rattle.lucid_pass.specs.Trail.{Trail, TrailBefore, renewed, with_new};

@@ -18,22 +18,22 @@ use Rattle.lucid_code.specs.declared.op.Operand.TheVariants.{Fixed, Field}
 use Rattle.lucid_code.specs.Guards.{Fields, holds, all_hold}
 use Rattle.lucid_code.specs.Nodes.{nodes_follow_writes}
 use Rattle.lucid_code.specs.Parts.{Parts}
-use Rattle.lucid_code.specs.Run.{Machine, begun, run_act, run_op, run}
-use Rattle.lucid_code.specs.Uses.{written_by, operands_of, field_of, read_by, writes}
+use Rattle.lucid_code.specs.Run.{Machine, begun, run_act, run_op, run, FieldsFit}
+use Rattle.lucid_code.specs.Uses.{written_by, operands_of, field_of, read_by, writes, only_writes}
 use Rattle.lucid_code.specs.Valid.{IsValid, op_is_sound, literal_fits, widths_agree}
-use Rattle.lucid_pass_form.specs.Dead.{only_writes, reads, is_read}
+use Rattle.lucid_code.proofs.Facts.{code_facts, sound_each}
+use Rattle.lucid_pass_form.specs.Dead.{reads, is_read}
 use Rattle.lucid_pass_form.specs.declared.direct.Test.{Test}
 use Rattle.lucid_pass_form.specs.Direct.{tests, direct_from, says, direct_literal, direct_op, still_needed, direct_ops, direct}
 use Rattle.lucid_pass_form.specs.Looks.{includes, only, only_writer}
 use Rattle.lucid_pass_form.specs.Replace.{MayReplace}
-use Rattle.lucid_pass_form.proofs.Acting.{FieldsFit, op_fits}
-use Rattle.lucid_pass_form.proofs.Begun.{begun_fits}
+use Rattle.lucid_code.proofs.Acting.{op_fits}
+use Rattle.lucid_code.proofs.Begun.{begun_fits}
 use Rattle.lucid_pass_form.proofs.Directs.{Stood, stood, reads_direct, writer_reads, writer_writes, literals, kept_literal, without_in, iff, direct_facts}
-use Rattle.lucid_pass_form.proofs.Facts.{Pair, Facts, is_same_some, tests_of, nodes_of, facts_with_nodes}
-use Rattle.lucid_pass_form.proofs.Fresh.{Fresh, made, fresh_own, fresh_stays, blind_alike}
+use Rattle.lucid_code.proofs.Facts.{Pair, Facts, is_same_some, tests_of, nodes_of, facts_with_nodes}
+use Rattle.lucid_code.proofs.Fresh.{Fresh, made, fresh_own, fresh_stays, blind_alike}
 use Rattle.lucid_pass_form.proofs.Gone.{Agree, Read, reads_it, kept_agrees, gone_agrees}
-use Rattle.lucid_pass_form.proofs.Looking.{code_facts, sound_each}
-use Rattle.lucid_pass_form.proofs.Members.{In, Pairwise, Split, pairs_split, pairs_filter, in_left, in_right, in_either, in_filter, all_in, all_from, any_from, in_map, into_map}
+use Rattle.lucid_code.proofs.Members.{In, Pairwise, Split, pairs_split, pairs_filter, in_left, in_right, in_either, in_filter, all_in, all_from, any_from, in_map, into_map}
 use Rattle.lucid_pass_form.proofs.Replacing.{includes_in, includes_hold}
 
 pub into_filter : {A : Type 0} (f : A → Bool) (x : A) (ys : List A) → In x ys → f x ≡ true → In x (filter f ys)

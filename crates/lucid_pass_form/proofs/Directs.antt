@@ -15,8 +15,8 @@ use Rattle.lucid_code.specs.Valid.{literal_fits}
 use Rattle.lucid_pass_form.specs.declared.direct.Test.{Test}
 use Rattle.lucid_pass_form.specs.Direct.{tested, covers, direct_from, says, direct_literal, without_repeats, direct_op}
 use Rattle.lucid_pass_form.specs.Looks.{same_literal, only_writer}
-use Rattle.lucid_pass_form.proofs.Facts.{Blind, Pair, Facts, Goes, placed_goes}
-use Rattle.lucid_pass_form.proofs.Members.{In, Pairwise, in_left, in_right, in_either, any_from, any_gives, in_map, into_map, numbered, place_from, element_of}
+use Rattle.lucid_code.proofs.Facts.{Blind, Pair, Facts, Goes, placed_goes}
+use Rattle.lucid_code.proofs.Members.{In, Pairwise, in_left, in_right, in_either, any_from, any_gives, in_map, into_map, numbered, place_from, element_of}
 use Rattle.lucid_pass_form.proofs.Replacing.{one_literal, only_one}
 
 -- ---- repeats

@@ -11,15 +11,15 @@ use Rattle.lucid_code.specs.Guards.{Fields, all_hold}
 use Rattle.lucid_code.specs.Nodes.{nodes_follow_writes}
 use Rattle.lucid_code.specs.Parts.{Parts}
 use Rattle.lucid_code.specs.Run.{Machine, begun, put, stored, sent, written, run_op, run}
-use Rattle.lucid_code.specs.Uses.{written_by, read_by}
+use Rattle.lucid_code.specs.Uses.{written_by, read_by, only_writes}
 use Rattle.lucid_code.specs.Valid.{IsValid, op_is_sound}
-use Rattle.lucid_pass_form.specs.Dead.{only_writes, reads, is_read, is_needed, kept_if, live, alive}
+use Rattle.lucid_code.proofs.Facts.{code_facts, sound_each}
+use Rattle.lucid_pass_form.specs.Dead.{reads, is_read, is_needed, kept_if, live, alive}
 use Rattle.lucid_pass_form.specs.Replace.{MayReplace}
-use Rattle.lucid_pass_form.proofs.Acting.{effect, effect_by, apply, act_applies, put_same, put_other, op_other, acts, rests}
-use Rattle.lucid_pass_form.proofs.Facts.{Pair, Facts, tests_of, nodes_of, facts_with_nodes}
-use Rattle.lucid_pass_form.proofs.Fresh.{Alike, alike, only_written}
-use Rattle.lucid_pass_form.proofs.Looking.{code_facts, sound_each}
-use Rattle.lucid_pass_form.proofs.Members.{In, Pairwise, all_from, any_from}
+use Rattle.lucid_code.proofs.Acting.{effect, effect_by, apply, act_applies, put_same, put_other, op_other, acts, rests}
+use Rattle.lucid_code.proofs.Facts.{Pair, Facts, tests_of, nodes_of, facts_with_nodes}
+use Rattle.lucid_code.proofs.Fresh.{Alike, alike, only_written}
+use Rattle.lucid_code.proofs.Members.{In, Pairwise, all_from, any_from}
 
 -- the same cells and outs, and the same in these fields
 pub record Agree (P : ℕ → Type 0) (m n : Machine) : Type 0 where

@@ -4,13 +4,13 @@ use Rattle.std.specs.Option.{option_map_or}
 use Rattle.std.proofs.lemmas.Bool.{or_right, or_parts, or_from, eqb-true}
 use Rattle.lucid_code.specs.declared.op.Op.{Op}
 use Rattle.lucid_code.specs.Parts.{Parts}
-use Rattle.lucid_code.specs.Uses.{read_by}
+use Rattle.lucid_code.specs.Uses.{read_by, only_writes}
 use Rattle.lucid_code.specs.Valid.{IsValid}
-use Rattle.lucid_pass_form.specs.Dead.{only_writes, reads, is_read, is_needed, kept_if, live, Strips, IsLeft}
-use Rattle.lucid_pass_form.proofs.Facts.{Blind, Pair, Facts}
-use Rattle.lucid_pass_form.proofs.Fresh.{only_written}
-use Rattle.lucid_pass_form.proofs.Looking.{code_facts}
-use Rattle.lucid_pass_form.proofs.Members.{In, pairs_split, pairs_join, any_gives, all_in, all_from, in_left, in_right, in_either}
+use Rattle.lucid_code.proofs.Facts.{code_facts}
+use Rattle.lucid_pass_form.specs.Dead.{reads, is_read, is_needed, kept_if, live, Strips, IsLeft}
+use Rattle.lucid_code.proofs.Facts.{Blind, Pair, Facts}
+use Rattle.lucid_code.proofs.Fresh.{only_written}
+use Rattle.lucid_code.proofs.Members.{In, pairs_split, pairs_join, any_gives, all_in, all_from, in_left, in_right, in_either}
 
 by_false : (b : Bool) → (b ≡ true → ⊥) → b ≡ false
 by_false true f = absurd (f refl)

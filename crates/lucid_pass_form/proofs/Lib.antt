@@ -1,16 +1,8 @@
-pub mod Acting
-pub mod Begun
-pub mod CellsStay
 pub mod DirectRuns
 pub mod Directs
-pub mod Facts
-pub mod Fresh
 pub mod Gone
 pub mod Left
 pub mod Looking
-pub mod Members
-pub mod Outs
 pub mod PassExamples
 pub mod Replaces
 pub mod Replacing
-pub mod RunsFit

@@ -17,17 +17,15 @@ use Rattle.lucid_code.specs.declared.op.Operand.TheVariants.{Fixed, Field}
 use Rattle.lucid_code.specs.Guards.{Fields}
 use Rattle.lucid_code.specs.Nodes.{nodes_follow_writes}
 use Rattle.lucid_code.specs.Parts.{Parts}
-use Rattle.lucid_code.specs.Run.{Machine, Done, begun, value, result, written, run_act, run}
-use Rattle.lucid_code.specs.Uses.{written_by, called_by, slot_of, operands_of, field_of}
+use Rattle.lucid_code.specs.Run.{Machine, Done, begun, value, result, written, run_act, run, FieldsFit}
+use Rattle.lucid_code.specs.Uses.{written_by, called_by, slot_of, operands_of, field_of, only_writes}
 use Rattle.lucid_code.specs.Valid.{IsValid, op_is_sound, widths_agree, act_keeps_limits}
-use Rattle.lucid_pass_form.specs.Dead.{only_writes}
 use Rattle.lucid_pass_form.specs.Looks.{Putting, changed, copied, copies, constant, folded, is_fixed, computes, nowhere, settled}
 use Rattle.lucid_pass_form.specs.Replace.{MayReplace}
-use Rattle.lucid_pass_form.proofs.Acting.{FieldsFit}
-use Rattle.lucid_pass_form.proofs.Begun.{begun_fits}
-use Rattle.lucid_pass_form.proofs.Facts.{Facts, facts_of, tests_of, nodes_of, facts_with_nodes}
-use Rattle.lucid_pass_form.proofs.Fresh.{made_is, made_by}
-use Rattle.lucid_pass_form.proofs.Members.{In, all_in, all_from, each_in}
+use Rattle.lucid_code.proofs.Begun.{begun_fits}
+use Rattle.lucid_code.proofs.Facts.{Facts, code_facts, sound_each, tests_of, nodes_of, facts_with_nodes}
+use Rattle.lucid_code.proofs.Fresh.{made_is, made_by}
+use Rattle.lucid_code.proofs.Members.{In, all_in, all_from, each_in}
 use Rattle.lucid_pass_form.proofs.Replacing.{Sound, put_op, same_run, put_facts, put_sound}
 
 module _ (widths : List ℕ) (put : Putting) (settle : Act → Act) (sound : Sound widths put settle) where
@@ -66,12 +64,6 @@ module _ (widths : List ℕ) (put : Putting) (settle : Act → Act) (sound : Sou
     where
       omega_add : (a b : ℕ) → a + 1 + b ≡ a + suc b
       omega_add a b = omega arith
-
-pub code_facts : (code : Parts) → IsValid code → Facts false code.ops
-code_facts code v = facts_of code.ops v.fields v.calls v.slots v.reads
-
-pub sound_each : (code : Parts) → IsValid code → (q : Op) → In q code.ops → op_is_sound code.fields code.inputs code.arrays q ≡ true
-sound_each code v = all_in (op_is_sound code.fields code.inputs code.arrays) code.ops v.ops
 
 pub done_of : Machine → Done
 done_of m = record { cells = m.cells; outs = map (λ o. o.1) m.outs }

@@ -14,15 +14,14 @@ use Rattle.lucid_code.specs.declared.op.Op.{Op}
 use Rattle.lucid_code.specs.declared.op.Operand.{Operand}
 use Rattle.lucid_code.specs.declared.op.Operand.TheVariants.{Fixed, Field}
 use Rattle.lucid_code.specs.Guards.{Fields, holds, all_hold}
-use Rattle.lucid_code.specs.Run.{Machine, value, run_act, run_op, run}
-use Rattle.lucid_code.specs.Uses.{written_by, called_by, slot_of, operands_of, field_of, read_by, writes, key_of}
+use Rattle.lucid_code.specs.Run.{Machine, value, run_act, run_op, run, FieldsFit}
+use Rattle.lucid_code.specs.Uses.{written_by, called_by, slot_of, operands_of, field_of, read_by, writes, key_of, with_operands, only_writes}
 use Rattle.lucid_code.specs.Valid.{op_is_sound, widths_agree, act_keeps_limits}
-use Rattle.lucid_pass_form.specs.Looks.{same_truth, same_literal, includes, only, only_writer, moved, seen, moved_from, Putting, looked, with_operands}
-use Rattle.lucid_pass_form.proofs.Acting.{FieldsFit, written_with, act_stands, acts, rests, run_fits}
-use Rattle.lucid_pass_form.proofs.Facts.{Blind, Pair, Facts, same_is}
-use Rattle.lucid_pass_form.specs.Dead.{only_writes}
-use Rattle.lucid_pass_form.proofs.Fresh.{Fresh, fresh_after, made}
-use Rattle.lucid_pass_form.proofs.Members.{In, Pairwise, Split, pairs_split, pairs_join, in_left, in_right, in_either, all_in, all_from, any_gives, each_in, in_map, in_flat, into_flat, in_filter}
+use Rattle.lucid_pass_form.specs.Looks.{same_truth, same_literal, includes, only, only_writer, moved, seen, moved_from, Putting, looked}
+use Rattle.lucid_code.proofs.Acting.{written_with, act_stands, acts, rests, run_fits}
+use Rattle.lucid_code.proofs.Facts.{Blind, Pair, Facts, same_is}
+use Rattle.lucid_code.proofs.Fresh.{Fresh, fresh_after, made}
+use Rattle.lucid_code.proofs.Members.{In, Pairwise, Split, pairs_split, pairs_join, in_left, in_right, in_either, all_in, all_from, any_gives, each_in, in_map, in_flat, into_flat, in_filter}
 
 -- ---- guards that include others
 

@@ -1,17 +1,10 @@
 -- What `Dead` makes of code: what writes a field that no operation reads goes, until there are none.
-use Rattle.std.specs.Prelude.{◌≡◌, ℕ, zero, suc, IsTrue, false, List, [], ◌∷◌, ◌++◌, Option, None, Bool, true, if◌then◌else◌, nat_eq}
+use Rattle.std.specs.Prelude.{◌≡◌, ℕ, zero, suc, IsTrue, false, List, [], ◌∷◌, ◌++◌, Bool, true, if◌then◌else◌, nat_eq}
 use Rattle.std.specs.List.{list_all, list_any}
 use Rattle.std.specs.Option.{option_map_or}
-use Rattle.lucid_code.specs.declared.op.Act.{Act}
-use Rattle.lucid_code.specs.declared.op.Act.TheVariants as act
 use Rattle.lucid_code.specs.declared.op.Op.{Op}
 use Rattle.lucid_code.specs.Parts.{Parts}
-use Rattle.lucid_code.specs.Uses.{written_by, read_by}
-
--- The field that an act writes which does nothing else. A call of an array, an event and a print stay.
-abbrev pub only_writes : Act → Option ℕ
-only_writes (act.Touch array index get get_arg set set_arg to) = None
-only_writes a = written_by a
+use Rattle.lucid_code.specs.Uses.{only_writes, read_by}
 
 abbrev pub reads : Op → ℕ → Bool
 reads o k = list_any (λ j. nat_eq j k) (read_by o)

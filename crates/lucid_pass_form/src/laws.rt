@@ -1,7 +1,7 @@
 // Laws of the four passes, each on a function that makes nothing.
 ghost use Rattle.lucid_pass_form.specs.Dead.{alive, IsLeft, live};
 ghost use Rattle.lucid_pass_form.specs.Direct.{direct};
-ghost use Rattle.lucid_pass_form.specs.Laws.{KeepsNodes, Replaces, RunsFit};
+ghost use Rattle.lucid_pass_form.specs.Laws.{KeepsNodes, Replaces};
 ghost use Rattle.lucid_pass_form.specs.Looks.{copies, folded};
 
 use lucid_code::Code;
@@ -25,13 +25,6 @@ pub fn passes_keep_nodes()
 /// What `Dead` leaves is what is left in whatever order operations go that aren't needed.
 pub fn dead_is_left(code: &Code)
     ensures { IsLeft code.now.ops (live code.now.ops) }
-{
-    let _valid = code.ops();
-}
-
-/// Valid code sends at most 8 outs, each with at most 8 numbers, whatever event it meets on whatever cells; and cells that fit stay so.
-pub fn runs_fit(code: &Code)
-    ensures { RunsFit code.now }
 {
     let _valid = code.ops();
 }

@@ -11,4 +11,4 @@ mod examples;
 mod laws;
 
 pub use direct::Test;
-pub use laws::{dead_is_left, passes_keep_nodes, passes_replace, runs_fit};
+pub use laws::{dead_is_left, passes_keep_nodes, passes_replace};

@@ -1,5 +1,0 @@
-use Rattle.lucid_pass_form.proofs.RunsFit.{runs_fit}
-use Rattle.lucid_pass_form.proofs.laws.runs_fit.Goals as goal
-
-pub returns : goal.returns
-returns c = runs_fit c.args.code.now c.ops-valid.ensures.valid
