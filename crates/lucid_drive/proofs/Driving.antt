@@ -1,10 +1,9 @@
 -- Rows of any kind that are driven: each move of a row is a move of the drive, what leaves and what cells hold.
-use Rattle.std.proofs.Common.{◌≡◌, ℕ, zero, suc, ◌+◌, ◌-◌, ◌<◌, ◌≤◌, List, [], ◌∷◌, ◌++◌, Option, None, Some, Bool, true, false, ◌&&◌, fold, get_or, length, map, nat_lt, slice_get, slice_index, slice_set, take, is_some, refl, sym, ◌∙◌, ap, subst, add-one, length-set, arith}
+use Rattle.std.proofs.Common.{◌≡◌, ℕ, zero, suc, ◌+◌, ◌<◌, ◌≤◌, List, [], ◌∷◌, ◌++◌, Option, None, Some, Bool, true, ◌&&◌, fold, get_or, length, map, nat_lt, slice_get, slice_index, slice_set, take, is_some, refl, sym, ◌∙◌, ap, subst, add-one, length-set, arith}
 use Rattle.std.proofs.lemmas.Bool.Decides.{nat_tests}
 use Rattle.std.proofs.lemmas.List.{length-map}
 use Rattle.std.specs.List.{AllByRecursion}
 use Rattle.std.specs.Option.{option_map_or}
-use Rattle.lucid_base.specs.declared.event.Out.{Out}
 use Rattle.lucid_core.specs.Parts.{Parts}
 use Rattle.lucid_core.specs.Step as core
 use Rattle.lucid_core.specs.Step.{Entry}

@@ -1,19 +1,17 @@
 -- Each move of a pipe is a move of the drive.
-use Rattle.std.proofs.Common.{◌≡◌, ℕ, zero, suc, ◌+◌, ◌<◌, ◌≤◌, List, [], ◌∷◌, ◌++◌, Option, None, Some, Bool, true, false, if◌then◌else◌, get_or, length, map, nat_lt, replicate, slice_get, slice_index, slice_set, take, is_some, refl, sym, ◌∙◌, ap, ap₂, subst, add-one, length-set, ⊎_elim, arith}
-use Rattle.std.proofs.lemmas.Bool.{cases_lt, le-ltb, lt-ltb}
-use Rattle.std.proofs.lemmas.List.{length-map}
+use Rattle.std.proofs.Common.{◌≡◌, ℕ, zero, suc, ◌+◌, ◌<◌, ◌≤◌, List, [], ◌∷◌, ◌++◌, Option, None, Some, Bool, if◌then◌else◌, get_or, length, replicate, slice_get, slice_index, slice_set, take, is_some, refl, sym, ◌∙◌, ap, ap₂, subst, add-one, length-set, ⊎_elim, arith}
+use Rattle.std.proofs.lemmas.Bool.{cases_lt, lt-ltb}
 use Rattle.std.proofs.lemmas.Option.{slice_get-get_or, slice_get_within}
 use Rattle.std.specs.List.{AllByRecursion}
-use Rattle.std.specs.Option.{option_map, option_map_or}
+use Rattle.std.specs.Option.{option_map}
 use Rattle.lucid_base.specs.Cells.{zero_cells}
-use Rattle.lucid_base.specs.declared.event.Event.{Event}
 use Rattle.lucid_base.specs.declared.event.Out.{Out}
 use Rattle.lucid_conf.specs.declared.scene.Scene.{Scene}
 use Rattle.lucid_core.specs.Laws.{CellsStayFit}
 use Rattle.lucid_core.specs.Parts.{Parts}
 use Rattle.lucid_core.specs.Step as core
 use Rattle.lucid_core.specs.Step.{Entry}
-use Rattle.lucid_pipe.specs.Packets.{Packet, entering, left_by, told}
+use Rattle.lucid_pipe.specs.Packets.{Packet, left_by, told}
 use Rattle.lucid_pipe.specs.Pipe.{PipeParts, comes_out, empty_pipe, entered, executed, gone, packet_at}
 use Rattle.lucid_pipe.specs.Rows.{own, owns, pipe_rows, rows_of, steps_of}
 use Rattle.lucid_pipe_stream.specs.Moves.{entered_by, goes, through}
@@ -23,12 +21,12 @@ use Rattle.lucid_pipe.proofs.Settles.{there_free, there_full}
 use Rattle.lucid_tables.specs.Placed.{PlacedParts}
 use Rattle.lucid_tables.specs.declared.stage.StageCode.{StageCode}
 use Rattle.lucid_normal_form.specs.Stands.{StandsFor}
-use Rattle.lucid_drive.specs.Drive.{Progress, begun, entries, is_taken, moved}
+use Rattle.lucid_drive.specs.Drive.{Progress, begun, entries, moved}
 use Rattle.lucid_drive.specs.Driven.{Gone, IsDriven}
 use Rattle.lucid_pipe_stream.specs.Picture.{IsPicture}
 use Rattle.lucid_drive.specs.Standing.{Cells, Fits, IsAt, IsGood, drive_of, first_cells, gone_of, packet_of}
 use Rattle.lucid_drive.proofs.Driving.{all_at, enters_driven, goes_driven, leaves_driven, left_sends, length_take, take_at, take_more}
-use Rattle.lucid_drive.proofs.Standing.{Laws, do_steps, drive, no_stage, none_row, one_more_came, row_at, rows_many, stages, step, taken}
+use Rattle.lucid_drive.proofs.Standing.{Laws, do_steps, one_more_came, row_at, rows_many, stages, step, taken}
 
 module _ {C P : Type 0} where
   goes_on : (step : Steps C P) (k : ℕ) (rows : List (Row C P)) (a b : C) (x : P) → slice_get rows k ≡ Some (row a (Some x)) → slice_get rows (suc k) ≡ Some (row b None) →
@@ -164,8 +162,8 @@ module _ (parts : Parts) (scene : Scene) (p : Progress) (pipe : PipeParts) (is :
 -- ---- the beginning
 
 empty_picture : (step : Steps Cells Packet) (stages : List StageCode) (cells : Cells) → IsPicture step (owns stages cells) [] (replicate (length stages) 0) (rows_of stages (replicate (length stages) None) cells)
-empty_picture step [] cells = tt
-empty_picture step (s ∷ stages) cells = (refl, refl, refl, empty_picture (after_first step) stages cells)
+empty_picture steps [] cells = tt
+empty_picture steps (s ∷ stages) cells = (refl, refl, refl, empty_picture (after_first steps) stages cells)
 
 replicate_long : {A : Type 0} (n : ℕ) (a : A) → length (replicate n a) ≡ n
 replicate_long zero a = refl

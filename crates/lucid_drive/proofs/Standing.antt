@@ -1,27 +1,26 @@
 -- A pipe that is driven, over its own slots and cells: a pass is the program's step, and what is seen of the pipe.
-use Rattle.std.proofs.Common.{◌≡◌, ℕ, zero, suc, ◌+◌, ◌-◌, ◌<◌, ◌≤◌, ◌^◌, List, [], ◌∷◌, ◌++◌, Option, None, Some, Bool, true, false, if◌then◌else◌, ◌&&◌, IsTrue, get_or, length, map, nat_lt, replicate, slice_get, slice_index, slice_index_or, slice_set, take, drop, is_some, refl, sym, ◌∙◌, ap, ap₂, subst, add-one, length-set, ⊎_elim, arith}
-use Rattle.std.proofs.lemmas.Bool.{and_parts, cases_lt, le-ltb, lt-ltb, true≢false}
+use Rattle.std.proofs.Common.{◌≡◌, ℕ, zero, suc, ◌<◌, ◌≤◌, List, [], ◌∷◌, Option, None, Some, Bool, true, false, ◌&&◌, IsTrue, get_or, length, map, nat_lt, replicate, slice_get, slice_index, take, is_some, refl, sym, ◌∙◌, ap, ap₂, subst, ⊎_elim, arith}
+use Rattle.std.proofs.lemmas.Bool.{and_parts, cases_lt, le-ltb}
 use Rattle.std.proofs.lemmas.Bool.Decides.{nat_tests}
-use Rattle.std.proofs.lemmas.List.{length-map, get_or_past}
+use Rattle.std.proofs.lemmas.List.{length-map}
 use Rattle.std.proofs.lemmas.List.Quantifiers.{position-Some}
-use Rattle.std.proofs.lemmas.Option.{slice_get-get_or, slice_get_within}
+use Rattle.std.proofs.lemmas.Option.{slice_get-get_or}
 use Rattle.std.specs.List.{AllByRecursion}
-use Rattle.std.specs.Option.{option_and_then, option_map, option_map_or}
+use Rattle.std.specs.Option.{option_and_then}
 use Rattle.lucid_base.specs.Cells.{row_of, zero_cells}
 use Rattle.lucid_base.specs.declared.array.ArrayDef.{ArrayDef}
 use Rattle.lucid_base.specs.declared.event.Event.{Event}
 use Rattle.lucid_base.specs.declared.event.Out.{Out}
-use Rattle.lucid_code.specs.Parts as code
 use Rattle.lucid_code.specs.Run.{Done, Machine, run_code}
 use Rattle.lucid_conf.specs.declared.scene.Scene.{Scene}
-use Rattle.lucid_core.specs.Fits.{cells_fit, event_fits}
+use Rattle.lucid_core.specs.Fits.{cells_fit}
 use Rattle.lucid_core.specs.Laws.{CellsStayFit}
 use Rattle.lucid_core.specs.Parts.{Parts}
 use Rattle.lucid_core.specs.Step as core
 use Rattle.lucid_core.specs.Step.{Entry}
 use Rattle.lucid_pipe.specs.Laws.{MovesAsRows}
-use Rattle.lucid_pipe.specs.Packets.{Packet, entering, left_by, meets, sent_by}
-use Rattle.lucid_pipe.specs.Pipe.{PipeParts, comes_out, entered, gone, packet_at, sizes}
+use Rattle.lucid_pipe.specs.Packets.{Packet, left_by, meets, sent_by}
+use Rattle.lucid_pipe.specs.Pipe.{PipeParts, packet_at, sizes}
 use Rattle.lucid_pipe.specs.Rows.{by_array, own, owns, pipe_rows, rows_of, steps_of}
 use Rattle.lucid_pipe_stream.specs.Rows.{Row, Steps, row, whole}
 use Rattle.lucid_code.specs.Inputs.{IsInput}
@@ -30,11 +29,11 @@ use Rattle.lucid_tables.specs.Placed.{PlacedParts, stage_of}
 use Rattle.lucid_tables.specs.Stages.{pass, pass_from}
 use Rattle.lucid_tables.specs.declared.stage.StageCode.{StageCode}
 use Rattle.lucid_normal_form.specs.Stands.{Happens, StandsFor}
-use Rattle.lucid_drive.specs.Drive.{Drive, Progress, came, entries, is_taken, moved}
-use Rattle.lucid_drive.specs.Driven.{DoSteps, Gone, IsDriven}
+use Rattle.lucid_drive.specs.Drive.{Drive, Progress, came, entries, is_taken}
+use Rattle.lucid_drive.specs.Driven.{DoSteps}
 use Rattle.lucid_pipe_stream.specs.Picture as picture
 use Rattle.lucid_drive.specs.Standing.{Cells, Fits, IsAt, IsGood, drive_of, first_cells, gone_of, packet_of}
-use Rattle.lucid_drive.proofs.Driving.{after_is, enters_driven, goes_driven, leaves_driven, left_sends, all_take, length_take, look_is, take_more, take_take, taken_is}
+use Rattle.lucid_drive.proofs.Driving.{after_is, all_take, length_take, look_is, take_take, taken_is}
 use Rattle.lucid_pipe_stream.proofs.LooksLaw.{no_more}
 use Rattle.lucid_pipe.proofs.Beside.{same_cells}
 use Rattle.lucid_pipe.proofs.ByArray.{owns_at}

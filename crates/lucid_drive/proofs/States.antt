@@ -1,13 +1,9 @@
 -- The state of a drive after a call.
-use Rattle.std.proofs.Common.{◌≡◌, ℕ, zero, suc, ◌+◌, ◌-◌, ◌<◌, ◌≤◌, ◌^◌, ◌↔◌, List, [], ◌∷◌, ◌++◌, Option, None, Some, Bool, true, false, ◌&&◌, if◌then◌else◌, get_or, length, map, nat_lt, slice_get, slice_index, take, is_some, codes, refl, sym, ◌∙◌, ap, subst, add-one, ⊎_elim, arith}
+use Rattle.std.proofs.Common.{◌≡◌, ℕ, zero, suc, ◌+◌, ◌<◌, ◌≤◌, ◌^◌, ◌↔◌, List, [], ◌∷◌, ◌++◌, Option, None, Some, Bool, true, false, ◌&&◌, if◌then◌else◌, get_or, length, nat_lt, slice_get, slice_index, take, is_some, codes, refl, sym, ◌∙◌, ap, subst, add-one, ⊎_elim, arith}
 use Rattle.std.proofs.lemmas.Bool.Decides.{nat_tests}
 use Rattle.std.proofs.lemmas.Bool.{cases_lt, le-ltb, true≢false}
-use Rattle.std.proofs.lemmas.List.{length-map}
-use Rattle.std.proofs.lemmas.List.Elements.{recursion_from_All}
 use Rattle.std.proofs.lemmas.Option.{slice_get-get_or}
 use Rattle.std.specs.Option.{option_and_then, option_map_or}
-use Rattle.lucid_conf.specs.Kept.{IsScene, IsStep}
-use Rattle.lucid_conf.specs.declared.scene.FileEvent.{FileEvent}
 use Rattle.lucid_conf.specs.declared.scene.Scene.{Scene}
 use Rattle.lucid_conf.specs.declared.scene.Step.{Step}
 use Rattle.lucid_core.specs.Parts.{Parts}
@@ -17,15 +13,32 @@ use Rattle.lucid_pipe.specs.Packets.{Packet}
 use Rattle.lucid_pipe.specs.Pipe.{PipeParts, packet_at}
 use Rattle.lucid_tables.specs.Placed.{PlacedParts}
 use Rattle.lucid_drive.specs.Drive.{Done, Drive, Progress, begun, came, does, entries, goes, is_taken, left_text, line, moved, progress_from, stays}
-use Rattle.lucid_drive.specs.Flush.{flushed_by, flushes, flushes_at, last_below, oldest}
-use Rattle.lucid_drive.specs.Happened.{Did, entered_after, happened_at, happened_block}
+use Rattle.lucid_drive.specs.Flush.{flushes, flushes_at, last_below, oldest}
+use Rattle.lucid_drive.specs.Happened.{Did, entered_after, happened_block}
 use Rattle.lucid_drive.specs.Standing.{IsAt, drive_of}
-use Rattle.lucid_drive.specs.State.{IsEmpty, StandsAfter, counted, flush_at, moves_after, progress_at, step_at}
+use Rattle.lucid_drive.specs.State.{IsEmpty, NewStands, StandsAfter, counted, flush_at, progress_at, step_at}
 use Rattle.lucid_drive.specs.declared.happened.Happened.{Happened}
 use Rattle.lucid_drive.specs.declared.state.DriveState.{DriveState}
-use Rattle.lucid_drive.proofs.Driving.{all_at, below, both_true, take_more}
+use Rattle.lucid_drive.proofs.Driving.{below, both_true, take_more}
+use Rattle.lucid_drive.proofs.Moving.{begins_at}
 use Rattle.lucid_drive.proofs.Standing.{Laws, ended, few_passed, passed_many, taken}
-use Rattle.lucid_drive.proofs.Steps.{entry_at, progress_next, went_is}
+use Rattle.lucid_drive.proofs.Steps.{progress_next, went_is}
+
+-- ---- the beginning
+
+none_counted : 0 ≡ counted 0
+none_counted = grind (arith, nat_tests)
+
+pub new_stands : NewStands
+new_stands parts scene placed kept stands_for arrays = record {
+  kept = kept;
+  sound = refl;
+  done = omega arith;
+  early = λ (more : 0 < length scene.steps). refl;
+  flushed = none_counted;
+  entered = refl;
+  is = begins_at parts scene placed stands_for arrays;
+}
 
 -- ---- a step
 

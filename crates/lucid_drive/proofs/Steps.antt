@@ -1,6 +1,6 @@
 -- What the moves of a pipe answer is what the steps of the drive do.
-use Rattle.std.proofs.Common.{◌≡◌, ℕ, zero, suc, ◌+◌, ◌<◌, ◌≤◌, ◌↔◌, List, [], ◌∷◌, ◌++◌, Option, None, Some, Result, Ok, Err, Bool, true, false, not, if◌then◌else◌, IfOk, IfSome, IsSome, IsTrue, OnOk, OnErr, All, codes, get_or, length, map, nat_eq, nat_le, nat_lt, slice_get, slice_index, is_some, refl, sym, ◌∙◌, ap, subst, ⊎_elim, arith}
-use Rattle.std.proofs.lemmas.Bool.{cases_lt, le-leb, lt-leb, le-ltb, lt-ltb, eq-eqb, ne_eqb}
+use Rattle.std.proofs.Common.{◌≡◌, ℕ, zero, suc, ◌+◌, ◌<◌, ◌≤◌, ◌↔◌, List, [], ◌∷◌, ◌++◌, Option, None, Some, Result, Ok, Err, Bool, true, false, not, if◌then◌else◌, IfOk, IfSome, IsSome, IsTrue, OnOk, OnErr, All, codes, get_or, length, map, slice_get, slice_index, is_some, refl, sym, ◌∙◌, ap, subst, ⊎_elim, arith}
+use Rattle.std.proofs.lemmas.Bool.{cases_lt, le-leb, lt-leb, eq-eqb, ne_eqb}
 use Rattle.std.proofs.lemmas.List.{length-map}
 use Rattle.std.proofs.lemmas.List.Elements.{recursion_from_All}
 use Rattle.std.specs.Result.{is_err}
@@ -32,7 +32,6 @@ use Rattle.lucid_drive.specs.declared.happened.Happened.{Happened}
 use Rattle.lucid_drive.specs.declared.happened.Happened.TheVariants.{Nothing, Busy, Entered, Empty, Ahead, Went, Left, Looked}
 use Rattle.lucid_drive.proofs.Driving.{all_at}
 use Rattle.lucid_drive.proofs.Moving.{enters_at, leaves_at, moves_at, passed_of, stays_in}
-use Rattle.lucid_drive.proofs.Moving as moving
 use Rattle.lucid_drive.proofs.Standing.{Laws, passed_many, stands_in, taken}
 
 module _ (parts : Parts) (scene : Scene) (p : Progress) (pipe : PipeParts) (k : ℕ) where

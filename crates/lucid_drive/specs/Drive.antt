@@ -3,7 +3,6 @@ use Rattle.std.specs.Prelude.{ℕ, zero, suc, ◌+◌, ◌-◌, ◌%◌, List, [
 use Rattle.std.specs.Option.{option_map_or}
 use Rattle.lucid_base.specs.Cells.{cell_at}
 use Rattle.lucid_base.specs.declared.array.ArrayDef.{ArrayDef}
-use Rattle.lucid_conf.specs.declared.scene.FileEvent.{FileEvent}
 use Rattle.lucid_conf.specs.declared.scene.Scene.{Scene}
 use Rattle.lucid_conf.specs.declared.scene.Step.{Step}
 use Rattle.lucid_conf.specs.declared.scene.Step.TheVariants.{Enter, Go, Look}

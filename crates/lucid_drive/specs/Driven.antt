@@ -1,15 +1,13 @@
 -- Rows of stages, of any kind, that stand where a drive is; and when passes through them do what the program does.
-use Rattle.std.specs.Prelude.{◌≡◌, ℕ, zero, suc, ◌+◌, ◌<◌, ◌≤◌, List, [], ◌∷◌, ◌++◌, Option, None, Some, get_or, length, map, slice_index, take, is_some}
-use Rattle.std.specs.List.{AllByRecursion}
+use Rattle.std.specs.Prelude.{◌≡◌, ℕ, ◌≤◌, List, length, map, take}
 use Rattle.lucid_base.specs.Cells.{zero_cells}
 use Rattle.lucid_base.specs.declared.event.Out.{Out}
 use Rattle.lucid_core.specs.Parts.{Parts}
 use Rattle.lucid_core.specs.Step as core
 use Rattle.lucid_core.specs.Step.{Entry}
-use Rattle.lucid_pipe_stream.specs.Moves.{entered_by, goes}
-use Rattle.lucid_pipe_stream.specs.Picture.{IsPicture, after}
-use Rattle.lucid_pipe_stream.specs.Rows.{Row, Steps, row, whole}
-use Rattle.lucid_drive.specs.Drive.{Drive, Progress, entries, is_taken, moved}
+use Rattle.lucid_pipe_stream.specs.Picture.{IsPicture}
+use Rattle.lucid_pipe_stream.specs.Rows.{Row, Steps, whole}
+use Rattle.lucid_drive.specs.Drive.{Drive, Progress, entries}
 
 -- What left: which event entered, when and where, and what it sent out.
 pub record Gone : Type 0 where

@@ -1,5 +1,5 @@
 -- How packets that are in flight after the last step finish: the oldest moves on, a stage at a time.
-use Rattle.std.specs.Prelude.{ℕ, zero, suc, List, [], Option, None, Some, Bool, if◌then◌else◌, length}
+use Rattle.std.specs.Prelude.{ℕ, zero, suc, [], Option, None, Some, Bool, if◌then◌else◌, length}
 use Rattle.lucid_drive.specs.Drive.{Done, Drive, Progress, is_taken, left_text, moved, stays}
 
 -- The last number below n that passes a test.

@@ -1,15 +1,14 @@
 -- A pipe that stands where a drive is: its rows are those of an empty one after what entered and what passed each stage.
-use Rattle.std.specs.Prelude.{◌≡◌, ℕ, ◌<◌, ◌^◌, List, Option, None, IsTrue, length, take}
+use Rattle.std.specs.Prelude.{◌≡◌, ℕ, ◌<◌, ◌^◌, List, None, IsTrue, length, take}
 use Rattle.std.specs.List.{AllByRecursion}
 use Rattle.lucid_base.specs.Cells.{row_of, zero_cells}
-use Rattle.lucid_code.specs.Parts as code
 use Rattle.lucid_conf.specs.declared.scene.Scene.{Scene}
 use Rattle.lucid_core.specs.Fits.{cells_fit, event_fits}
 use Rattle.lucid_core.specs.Parts.{Parts}
 use Rattle.lucid_core.specs.Step.{Entry}
 use Rattle.lucid_pipe.specs.Packets.{Packet, entering, sent_by}
 use Rattle.lucid_pipe.specs.Pipe.{PipeParts}
-use Rattle.lucid_pipe.specs.Rows.{by_array, owns, pipe_rows, steps_of}
+use Rattle.lucid_pipe.specs.Rows.{owns, pipe_rows, steps_of}
 use Rattle.lucid_tables.specs.Placed.{PlacedParts, stage_of}
 use Rattle.lucid_normal_form.specs.Stands.{StandsFor}
 use Rattle.lucid_drive.specs.Drive.{Drive, Progress, entries}

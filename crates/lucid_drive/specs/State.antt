@@ -1,10 +1,12 @@
 -- How far a drive is, by the numbers of its state.
-use Rattle.std.specs.Prelude.{◌≡◌, ℕ, zero, suc, ◌-◌, ◌<◌, ◌≤◌, ◌^◌, [], Option, None, Some, Bool, false, if◌then◌else◌, length, nat_lt, slice_get, take}
+use Rattle.std.specs.Prelude.{◌≡◌, ℕ, suc, ◌-◌, ◌<◌, ◌≤◌, ◌^◌, [], Option, None, Some, false, if◌then◌else◌, length, nat_lt, slice_get, take}
 use Rattle.std.specs.Option.{option_map_or}
 use Rattle.lucid_conf.specs.Kept.{IsScene}
 use Rattle.lucid_conf.specs.declared.scene.Scene.{Scene}
 use Rattle.lucid_core.specs.Parts.{Parts}
-use Rattle.lucid_pipe.specs.Pipe.{PipeParts, packet_at}
+use Rattle.lucid_normal_form.specs.Stands.{StandsFor}
+use Rattle.lucid_pipe.specs.Pipe.{PipeParts, empty_pipe, packet_at}
+use Rattle.lucid_tables.specs.Placed.{PlacedParts}
 use Rattle.lucid_drive.specs.Drive.{Done, Drive, Progress, begun, does, progress_from, stays}
 use Rattle.lucid_drive.specs.Flush.{flushed_by, flushes}
 use Rattle.lucid_drive.specs.Standing.{IsAt, drive_of}
@@ -50,3 +52,9 @@ pub record StandsAt (parts : Parts) (scene : Scene) (s : DriveState) (pipe : Pip
 -- No packet is in the pipe.
 abbrev pub IsEmpty : PipeParts → Type 0
 IsEmpty pipe = (k : ℕ) → packet_at pipe k ≡ None
+
+-- A pipe without packets in which all cells are 0 stands at a new state, where its code stands for the program and has its arrays.
+abbrev pub NewStands : Type 0
+NewStands =
+    (parts : Parts) (scene : Scene) (placed : PlacedParts) → IsScene parts scene → StandsFor placed.code parts → placed.code.arrays ≡ parts.arrays →
+    StandsAfter parts scene (record { done = 0; flushed = 0; entered = 0; failed = false }) 0 (empty_pipe placed)

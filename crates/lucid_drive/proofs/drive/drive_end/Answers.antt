@@ -1,9 +1,8 @@
-use Rattle.std.proofs.Common.{rules, ◌≡◌, ℕ, ◌-◌, List, ◌++◌, OnErr, OnOk, length, ◌∙◌, ap, subst}
+use Rattle.std.proofs.Common.{ℕ, ◌-◌, List, ◌++◌, OnErr, OnOk, ◌∙◌, ap, subst}
 use Rattle.lucid_core.specs.Step as core
 use Rattle.lucid_io.specs.Puts.{PutsAll, PutsPart}
 use Rattle.lucid_log.specs.Cells.{cells_text}
-use Rattle.lucid_drive.specs.Drive.{ending_text, entries, last_text}
-use Rattle.lucid_drive.specs.Standing.{drive_of}
+use Rattle.lucid_drive.specs.Drive.{ending_text, entries}
 use Rattle.lucid_drive.proofs.States.{last_cells}
 use Rattle.lucid_drive.proofs.drive.drive_end.Goals as goal
 

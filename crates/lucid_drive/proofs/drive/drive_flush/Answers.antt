@@ -1,4 +1,4 @@
-use Rattle.std.proofs.Common.{◌≡◌, ℕ, List, Option, None, Some, refl, sym, ◌∙◌, ap, subst}
+use Rattle.std.proofs.Common.{ℕ, List, Option, None, Some, refl, sym, ◌∙◌, ap, subst}
 use Rattle.lucid_io.proofs.Leaves.{Leaves-nothing, Leaves-whole}
 use Rattle.lucid_io.specs.Puts.{PutsAll, PutsPart}
 use Rattle.lucid_drive.specs.Flush.{flushes_at}

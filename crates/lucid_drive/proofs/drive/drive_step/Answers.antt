@@ -1,4 +1,4 @@
-use Rattle.std.proofs.Common.{◌≡◌, ℕ, List, sym, ◌∙◌, ap, subst}
+use Rattle.std.proofs.Common.{ℕ, List, sym, ◌∙◌, ap, subst}
 use Rattle.lucid_io.specs.Puts.{PutsPart}
 use Rattle.lucid_drive.specs.Drive.{Done}
 use Rattle.lucid_drive.specs.Standing.{drive_of}

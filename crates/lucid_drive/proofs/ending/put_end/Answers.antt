@@ -1,4 +1,4 @@
-use Rattle.std.proofs.Common.{◌≡◌, List, ◌++◌, sym, ap, refl}
+use Rattle.std.proofs.Common.{List, ◌++◌, sym, ap, refl}
 use Rattle.std.proofs.lemmas.Result.{on_err_weaker}
 use Rattle.lucid_base.specs.declared.array.ArrayDef.{ArrayDef}
 use Rattle.lucid_io.proofs.Leaves.{Leaves-after, Leaves-whole, PutsPart-last}

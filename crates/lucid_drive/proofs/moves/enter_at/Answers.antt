@@ -1,4 +1,4 @@
-use Rattle.std.proofs.Common.{rules, ◌≡◌, ◌<◌, ◌^◌, get_or, length, sym, subst}
+use Rattle.std.proofs.Common.{◌≡◌, ◌<◌, get_or, sym, subst}
 use Rattle.lucid_drive.specs.Standing.{Fits}
 use Rattle.lucid_drive.proofs.Standing.{is_input_of}
 use Rattle.lucid_drive.proofs.Steps.{did_enter, entry_at, file_fits}
