@@ -1,0 +1,27 @@
+-- Rows of stages, of any kind, that stand where a drive is; and when passes through them do what the program does.
+use Rattle.std.specs.Prelude.{◌≡◌, ℕ, ◌≤◌, List, length, map, take}
+use Rattle.lucid_base.specs.Cells.{zero_cells}
+use Rattle.lucid_base.specs.declared.event.Out.{Out}
+use Rattle.lucid_core.specs.Parts.{Parts}
+use Rattle.lucid_core.specs.Step as core
+use Rattle.lucid_core.specs.Step.{Entry}
+use Rattle.lucid_pipe_stream.specs.Picture.{IsPicture}
+use Rattle.lucid_pipe_stream.specs.Rows.{Row, Steps, whole}
+use Rattle.lucid_drive.specs.Drive.{Drive, Progress, entries}
+
+-- What left: which event entered, when and where, and what it sent out.
+pub record Gone : Type 0 where
+  pub entry : Entry
+  pub outs : List Out
+
+-- A pass does what the program's step does, from good cells, for entries that fit.
+pub record DoSteps {C P : Type 0} (parts : Parts) (step : Steps C P) (cells : List C) (view : List C → List (List ℕ)) (packet : Entry → P) (sent : P → Gone) (Good : List C → Type 0) (Fits : Entry → Type 0) : Type 0 where
+  pub start : view cells ≡ zero_cells parts.arrays
+  pub good : Good cells
+  pub pass : (cs : List C) (e : Entry) → Good cs → Fits e → (let w = whole step cs (packet e) in let s = core.step parts (view cs) e.now e.me e.event in (view w.0 ≡ s.cells) × (sent w.1 ≡ record { entry = e; outs = s.outs }) × Good w.0)
+
+-- What the events that entered and the packets that passed make of the rows.
+pub record IsDriven {C P : Type 0} (d : Drive) (step : Steps C P) (cells : List C) (packet : Entry → P) (p : Progress) (rows : List (Row C P)) : Type 0 where
+  pub within : p.entered ≤ length (entries d.scene)
+  pub long : length rows ≡ length p.passed
+  pub picture : IsPicture step cells (map packet (take p.entered (entries d.scene))) p.passed rows

@@ -1,0 +1,53 @@
+-- A pipe that stands where a drive is: its rows are those of an empty one after what entered and what passed each stage.
+use Rattle.std.specs.Prelude.{◌≡◌, ℕ, ◌<◌, ◌^◌, List, None, IsTrue, length, take}
+use Rattle.std.specs.List.{AllByRecursion}
+use Rattle.lucid_base.specs.Cells.{row_of, zero_cells}
+use Rattle.lucid_conf.specs.declared.scene.Scene.{Scene}
+use Rattle.lucid_core.specs.Fits.{cells_fit, event_fits}
+use Rattle.lucid_core.specs.Parts.{Parts}
+use Rattle.lucid_core.specs.Step.{Entry}
+use Rattle.lucid_pipe.specs.Packets.{Packet, entering, sent_by}
+use Rattle.lucid_pipe.specs.Pipe.{PipeParts}
+use Rattle.lucid_pipe.specs.Rows.{owns, pipe_rows, steps_of}
+use Rattle.lucid_tables.specs.Placed.{PlacedParts, stage_of}
+use Rattle.lucid_normal_form.specs.Stands.{StandsFor}
+use Rattle.lucid_drive.specs.Drive.{Drive, Progress, entries}
+use Rattle.lucid_drive.specs.Driven.{Gone, IsDriven}
+
+abbrev pub Cells : Type 0
+Cells = List (List ℕ)
+
+abbrev pub first_cells : PlacedParts → List Cells
+first_cells placed = owns placed.stages (zero_cells placed.code.arrays)
+
+abbrev pub packet_of : PlacedParts → Entry → Packet
+packet_of placed e = entering placed.code e.event e.now e.me
+
+abbrev pub gone_of : Packet → Gone
+gone_of p = record { entry = record { now = p.now; me = p.me; event = p.event }; outs = sent_by p.outs }
+
+-- The cells by stage are those of cells that fit the program, and an array that stands in no stage holds 0.
+pub record IsGood (placed : PlacedParts) (parts : Parts) (cs : List Cells) : Type 0 where
+  pub all : Cells
+  pub fit : IsTrue (cells_fit parts all)
+  pub parted : cs ≡ owns placed.stages all
+  pub long : length all ≡ length placed.code.arrays
+  pub rest : (g : ℕ) → stage_of placed.stages g ≡ None → row_of all g ≡ row_of (zero_cells placed.code.arrays) g
+
+-- What is asked of an event that enters.
+pub record Fits (parts : Parts) (e : Entry) : Type 0 where
+  pub event : IsTrue (event_fits parts e.event)
+  pub id : e.event.id < 2 ^ 32
+  pub now : e.now < 2 ^ 64
+  pub me : e.me < 2 ^ 32
+
+abbrev pub drive_of : Parts → PipeParts → Scene → Drive
+drive_of parts pipe scene = record { parts = parts; stages = pipe.placed.stages; scene = scene }
+
+-- The pipe's code stands for the program, and the pipe is what the events that entered and the packets that passed make of an empty one.
+pub record IsAt (parts : Parts) (scene : Scene) (p : Progress) (pipe : PipeParts) : Type 0 where
+  pub stands_for : StandsFor pipe.placed.code parts
+  pub arrays : pipe.placed.code.arrays ≡ parts.arrays
+  pub long : length pipe.slots ≡ length pipe.placed.stages
+  pub fit : AllByRecursion (Fits parts) (take p.entered (entries scene))
+  pub driven : IsDriven (drive_of parts pipe scene) (steps_of pipe.placed.code pipe.placed.stages) (first_cells pipe.placed) (packet_of pipe.placed) p (pipe_rows pipe)

@@ -1,0 +1,141 @@
+// What a step of a drive writes: a line, and the block of a packet that left.
+ghost use Rattle.std.specs.Prelude.{◌≡◌, ◌<◌, ◌++◌, ◌%◌, length, OnOk, OnErr};
+ghost use Rattle.lucid_io.specs.Puts.{PutsAll, PutsPart};
+ghost use Rattle.lucid_log.specs.Cell.{array_name};
+ghost use Rattle.std.specs.Prelude.{codes, decimal};
+ghost use Rattle.lucid_drive.specs.Drive.{line};
+ghost use Rattle.lucid_drive.specs.Happened.{FitsTo, PassedFits, happened_block, happened_text, looked_text, passed_text};
+ghost use Rattle.lucid_drive.specs.declared.happened.Happened.TheVariants.{Looked};
+
+use crate::happened::Happened;
+use lucid_base::ArrayDef;
+use lucid_core::Core;
+use lucid_io::{Sink, WriteFault};
+use lucid_log::{Piece, put_block, put_pieces};
+use lucid_pipe::Passed;
+
+/// Writes a word and a number.
+fn put_line<S: Sink>(sink: &mut S, word: &[u8], n: u64) -> Result<(), WriteFault>
+    ensures all { OnOk result (PutsAll S.written S.faults sink.old sink.new (line word.now n)) }
+    ensures part { OnErr result (PutsPart S.written S.faults sink.old sink.new (line word.now n)) }
+{
+    put_pieces(
+        sink,
+        &[Piece::Text(word), Piece::Number(n), Piece::Text(b"\n")],
+    )
+}
+
+/// Writes the block of what left.
+fn put_passed<S: Sink>(sink: &mut S, core: &Core, passed: &Passed) -> Result<(), WriteFault>
+    requires { PassedFits core.now passed.now }
+    ensures all { OnOk result (PutsAll S.written S.faults sink.old sink.new (passed_text core.now passed.entry.now)) }
+    ensures part { OnErr result (PutsPart S.written S.faults sink.old sink.new (passed_text core.now passed.entry.now)) }
+{
+    put_block(
+        sink,
+        core,
+        passed.now,
+        passed.me,
+        &passed.event,
+        &passed.outs,
+        0,
+    )
+}
+
+/// Writes `go K` and the block of what left.
+fn put_left<S: Sink>(sink: &mut S, core: &Core, k: usize, passed: &Passed) -> Result<(), WriteFault>
+    requires { PassedFits core.now passed.now }
+    ensures all { OnOk result (PutsAll S.written S.faults sink.old sink.new (line (codes "go ") k ++ passed_text core.now passed.entry.now)) }
+    ensures part { OnErr result (PutsPart S.written S.faults sink.old sink.new (line (codes "go ") k ++ passed_text core.now passed.entry.now)) }
+{
+    put_line(sink, b"go ", k as u64)?;
+    put_passed(sink, core, passed)
+}
+
+/// Writes what a step writes.
+#[tactic(auto, using(crate::proofs::Putting::looked_some))]
+pub(crate) fn put_happened<S: Sink>(
+    sink: &mut S,
+    core: &Core,
+    happened: &Happened,
+) -> Result<(), WriteFault>
+    requires { FitsTo core.now happened.now }
+    ensures all { OnOk result (PutsAll S.written S.faults sink.old sink.new (happened_text core.now happened.now)) }
+    ensures part { OnErr result (PutsPart S.written S.faults sink.old sink.new (happened_text core.now happened.now)) }
+{
+    match happened {
+        Happened::Nothing => put_pieces(sink, &[Piece::Text(b"none\n")]),
+        Happened::Busy => put_pieces(sink, &[Piece::Text(b"busy\n")]),
+        Happened::Entered(n) => put_line(sink, b"enter ", *n),
+        Happened::Empty(k) => put_line(sink, b"empty ", *k as u64),
+        Happened::Ahead(k) => put_line(sink, b"ahead ", *k as u64),
+        Happened::Went(k) => put_line(sink, b"go ", *k as u64),
+        Happened::Left(k, passed) => put_left(sink, core, *k, passed),
+        Happened::Looked(array, cell, value) => put_looked(sink, core, *array, *cell, *value),
+    }
+}
+
+/// Writes the block of what left, where something did.
+pub(crate) fn put_out<S: Sink>(
+    sink: &mut S,
+    core: &Core,
+    happened: &Happened,
+) -> Result<(), WriteFault>
+    requires { FitsTo core.now happened.now }
+    ensures all { OnOk result (PutsAll S.written S.faults sink.old sink.new (happened_block core.now happened.now)) }
+    ensures part { OnErr result (PutsPart S.written S.faults sink.old sink.new (happened_block core.now happened.now)) }
+{
+    match happened {
+        Happened::Left(_, passed) => put_passed(sink, core, passed),
+        _ => Ok(()),
+    }
+}
+
+/// Writes the line of a look.
+#[tactic(auto, using(crate::proofs::Putting::looked_some))]
+fn put_looked<S: Sink>(
+    sink: &mut S,
+    core: &Core,
+    array: u32,
+    cell: u64,
+    value: u64,
+) -> Result<(), WriteFault>
+    requires { array < length core.now.arrays }
+    ensures all { OnOk result (PutsAll S.written S.faults sink.old sink.new (happened_text core.now (Looked array cell value))) }
+    ensures part { OnErr result (PutsPart S.written S.faults sink.old sink.new (happened_text core.now (Looked array cell value))) }
+{
+    let found = &core.arrays()[array as usize];
+    put_look(sink, found, cell, value)
+}
+
+/// The same, of an array.
+fn put_look<S: Sink>(
+    sink: &mut S,
+    array: &ArrayDef,
+    cell: u64,
+    value: u64,
+) -> Result<(), WriteFault>
+    ensures all { OnOk result (PutsAll S.written S.faults sink.old sink.new (looked_text array.now cell value)) }
+    ensures part { OnErr result (PutsPart S.written S.faults sink.old sink.new (looked_text array.now cell value)) }
+{
+    put_pieces(
+        sink,
+        &[
+            Piece::Text(b"look "),
+            Piece::Text(array.name.bytes()),
+            Piece::Text(b"["),
+            Piece::Number(place(array.size, cell)),
+            Piece::Text(b"] = "),
+            Piece::Number(value),
+            Piece::Text(b"\n"),
+        ],
+    )
+}
+
+/// Cell `i` is `i` modulo the size.
+#[tactic(auto, using(crate::proofs::Putting::no_size))]
+fn place(size: u32, cell: u64) -> u64
+    ensures { result ≡ cell % size }
+{
+    if size == 0 { cell } else { cell % size as u64 }
+}

@@ -1,0 +1,54 @@
+// How far a drive is.
+ghost use Rattle.std.specs.Prelude.{◌≡◌, false};
+
+/// How many steps of the scenario are done, how often the oldest packet moved after the last of them, and how many events entered. Which
+/// pipe it tells of, `StandsAt` says.
+#[derive(Clone, Copy)]
+pub struct DriveState {
+    pub(crate) done: u64,
+    pub(crate) flushed: u64,
+    pub(crate) entered: u64,
+    pub(crate) failed: bool,
+}
+
+impl DriveState {
+    /// Nothing is done.
+    pub fn new() -> DriveState
+        ensures { result ≡ record { done = 0; flushed = 0; entered = 0; failed = false } }
+    {
+        DriveState {
+            done: 0,
+            flushed: 0,
+            entered: 0,
+            failed: false,
+        }
+    }
+
+    /// The number of steps done.
+    pub fn done(&self) -> u64
+        ensures { result ≡ self.now.done }
+    {
+        self.done
+    }
+
+    /// The number of moves of the oldest packet, which stops at the greatest number of 64 bits.
+    pub fn flushed(&self) -> u64
+        ensures { result ≡ self.now.flushed }
+    {
+        self.flushed
+    }
+
+    /// The number of events that entered.
+    pub fn entered(&self) -> u64
+        ensures { result ≡ self.now.entered }
+    {
+        self.entered
+    }
+
+    /// Whether a step or a flush answered an error. Then the pipe stands at no state any more.
+    pub fn failed(&self) -> bool
+        ensures { result ≡ self.now.failed }
+    {
+        self.failed
+    }
+}
