@@ -1,0 +1,10 @@
+mod FirstStages
+mod Firsts
+mod Growing
+mod Widths
+mod Places
+mod FitsKeep
+mod FitsAccepted
+mod AuditExamples
+mod Counted
+mod OneAudit

@@ -1,0 +1,162 @@
+// Reading a placement file, by the definition of specs/PlanFile.
+ghost use Rattle.std.specs.Prelude.{◌≡◌, [], None, Some, Ok, Err, IfOk, IfErr, codes, length, option_and_then};
+ghost use Rattle.serde_json.specs.Find.{get, as_array};
+ghost use Rattle.serde_json.specs.View.{view, items_view, members_view};
+ghost use Rattle.lucid_conf.specs.Answers.{Reads};
+ghost use Rattle.lucid_audit.specs.declared.plan.PlanKey.TheVariants.{Nodes};
+ghost use Rattle.lucid_audit.specs.PlanFile as spec;
+ghost use Rattle.lucid_audit.specs.PlanFile.{Gives, Refuses, Answers, plan_read, nodes_read, pairs_from};
+
+use crate::{Plan, PlanError, PlanKey};
+use lucid_base::Items;
+use serde_json::{Map, Value};
+use std::alloc::Global;
+
+/// The plan that the bytes write for so many nodes: Ok exactly where they are JSON that `plan_read` reads, with what it reads; `NotJson`
+/// exactly where they are no JSON; `BadField` exactly where it refuses, with the key and the place that it names. A plan has so many places.
+pub fn plan_of(alloc: Global, bytes: &[u8], nodes: usize) -> Result<Plan, PlanError>
+    ensures value { Answers result (plan_read nodes) bytes.now }
+    ensures count { IfOk result (λ plan. length plan.pairs ≡ nodes) }
+{
+    let value = value_of(alloc, bytes)?;
+    let pairs = read_plan(alloc, &value, nodes)?;
+    Ok(Plan { pairs })
+}
+
+/// The value that the bytes spell.
+fn value_of(alloc: Global, bytes: &[u8]) -> Result<Value, PlanError>
+    ensures ok { IfOk result (λ v. Reads bytes.now (view v)) }
+    ensures err { IfErr result (λ e. Refuses e (λ d. Ok d) bytes.now) }
+{
+    match Value::from_slice(alloc, bytes) {
+        Ok(value) => Ok(value),
+        Err(error) => {
+            if error.is_memory() {
+                Err(PlanError::Memory)
+            } else {
+                Err(PlanError::NotJson)
+            }
+        }
+    }
+}
+
+/// The fault of a key.
+fn bad<T>(key: PlanKey) -> Result<T, PlanError>
+    ensures value { Gives result (Err (key, None)) }
+    ensures never { IfOk result (λ _. ⊥) }
+{
+    Err(PlanError::BadField { key, place: None })
+}
+
+/// The pairs that the file's value writes for so many nodes.
+#[tactic(auto, using(crate::proofs::Counted::none_ok))]
+fn read_plan(alloc: Global, value: &Value, nodes: usize) -> Result<Items<(u32, u32)>, PlanError>
+    ensures value { Gives result (plan_read nodes (view value.now)) }
+    ensures count { IfOk result (λ pairs. length pairs ≡ nodes) }
+{
+    match value.as_object() {
+        None => bad(PlanKey::File),
+        Some(members) => {
+            if all_known(members) {
+                read_nodes(alloc, value, nodes)
+            } else {
+                bad(PlanKey::Other)
+            }
+        }
+    }
+}
+
+/// Whether the file has no key but `nodes`.
+fn all_known(members: &Map<String, Value>) -> bool
+    ensures { result ≡ spec.all_known (members_view members.now.entries) }
+{
+    for (key, _) in members.iter() {
+        if key.as_str() != "nodes" {
+            return false;
+        }
+    }
+    true
+}
+
+/// The pairs of the list `nodes`.
+#[tactic(auto, using(crate::proofs::Counted::none_ok))]
+fn read_nodes(alloc: Global, value: &Value, nodes: usize) -> Result<Items<(u32, u32)>, PlanError>
+    ensures value { Gives result (nodes_read nodes (option_and_then as_array (get (codes "nodes") (view value.now)))) }
+    ensures count { IfOk result (λ pairs. length pairs ≡ nodes) }
+{
+    match value.get("nodes") {
+        None => bad(PlanKey::Nodes),
+        Some(found) => match found.as_array() {
+            None => bad(PlanKey::Nodes),
+            Some(list) => counted(alloc, list.as_slice(), nodes),
+        },
+    }
+}
+
+/// The pairs of a list that has so many.
+#[tactic(auto, using(crate::proofs::Counted::counted, crate::proofs::Counted::none_ok))]
+fn counted(alloc: Global, values: &[Value], nodes: usize) -> Result<Items<(u32, u32)>, PlanError>
+    ensures value { Gives result (nodes_read nodes (Some (items_view values.now))) }
+    ensures count { IfOk result (λ pairs. length pairs ≡ nodes) }
+{
+    if values.len() == nodes {
+        each_pair(alloc, values)
+    } else {
+        bad(PlanKey::Nodes)
+    }
+}
+
+/// The pairs of a list.
+#[tactic(auto, using(crate::proofs::Counted::none_ok))]
+fn each_pair(alloc: Global, values: &[Value]) -> Result<Items<(u32, u32)>, PlanError>
+    ensures value { Gives result (pairs_from [] (items_view values.now)) }
+    ensures count { IfOk result (λ pairs. length pairs ≡ length values.now) }
+{
+    let mut pairs = Items::new(alloc);
+    for value in values {
+        match pair(value) {
+            None => return bad_at(pairs.len()),
+            Some(pair) => pairs.push(pair)?,
+        }
+    }
+    Ok(pairs)
+}
+
+/// The fault of an item of the list.
+fn bad_at<T>(place: usize) -> Result<T, PlanError>
+    ensures value { Gives result (Err (Nodes, Some place)) }
+    ensures never { IfOk result (λ _. ⊥) }
+{
+    match u32::try_from(place) {
+        Ok(place) => Err(PlanError::BadField {
+            key: PlanKey::Nodes,
+            place: Some(place),
+        }),
+        // No memory holds so many items.
+        Err(_) => Err(PlanError::Memory),
+    }
+}
+
+/// `[stage, table]`
+fn pair(item: &Value) -> Option<(u32, u32)>
+    ensures { result ≡ spec.pair (view item.now) }
+{
+    let stage = small_at(item, 0)?;
+    let table = small_at(item, 1)?;
+    if item.get(2usize).is_some() {
+        return None;
+    }
+    Some((stage, table))
+}
+
+/// The number below 2^32 at a place of a list.
+fn small_at(item: &Value, place: usize) -> Option<u32>
+    ensures { result ≡ spec.small_at place (view item.now) }
+{
+    let number = item.get(place)?.as_u64()?;
+    if number < 4_294_967_296 {
+        Some(number as u32)
+    } else {
+        None
+    }
+}
