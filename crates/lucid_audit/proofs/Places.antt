@@ -14,7 +14,7 @@ use Rattle.lucid_tables.specs.Rows.{table}
 use Rattle.lucid_merge.specs.Laws.{ProductsAct, ProductsName, GuardsContradict}
 use Rattle.lucid_conf.specs.declared.limits.Limits.{Limits}
 use Rattle.lucid_conf.specs.Kept.{AreLimits}
-use Rattle.lucid_layout.specs.declared.node.Node.{Node}
+use Rattle.lucid_code.specs.declared.node.Node.{Node}
 use Rattle.lucid_layout.specs.declared.node.Work.{Work}
 use Rattle.lucid_layout.specs.declared.stage.Pair.{Pair}
 use Rattle.lucid_layout.specs.declared.stage.Seat.{Seat}
