@@ -4,24 +4,25 @@ use Rattle.std.specs.Io.KnownBytes.{Appends, Keeps}
 use Rattle.std.proofs.KnownBytes.{Appends-nil, Appends-kept}
 use Rattle.lucid_io.specs.Contents.{SameHeld}
 use Rattle.lucid_io.specs.Counts.{Rose, SameCounts, OthersKept}
-use Rattle.lucid_io.specs.Puts.{PutsAll, PutsPart}
+use Rattle.lucid_io.specs.declared.reading.Take.{Take}
+use Rattle.lucid_io.specs.declared.reading.Take.TheVariants as take
 use Rattle.lucid_top.specs.declared.command.Command.{Command}
 use Rattle.lucid_top.specs.declared.command.NamedFile.{NamedFile}
 use Rattle.lucid_top.specs.declared.refusal.Refusal.{Refusal}
 use Rattle.lucid_top.specs.declared.refusal.Refusal.TheVariants as refusal
 use Rattle.lucid_top.specs.declared.status.Status.{Status}
 use Rattle.lucid_top.specs.declared.status.Status.TheVariants as status
-use Rattle.lucid_io.specs.declared.reading.Take.{Take}
-use Rattle.lucid_io.specs.declared.reading.Take.TheVariants as take
-use Rattle.lucid_top.specs.Answer.{AnswersTo, Answers, CommandAnswers, MayStop, OverTexts, TellsFor}
-use Rattle.lucid_top.specs.Call.{CommandStops, Does, Ended, EndSaid, PerformsOver, command_files}
-use Rattle.lucid_top.specs.Command.{command_of, files_of}
-use Rattle.lucid_top.specs.Files.{FilesRead, Held, IsOneOf, Texts, contents, of_take}
+use Rattle.lucid_top.specs.Answer.{Question, given, Answers, AnswersTo, CanStop, IsTold, OverTexts, StopsOf, StopsOver, command_files, told_texts}
+use Rattle.lucid_top.specs.Call.{Call, Ended, EndSaid, PerformsOver, files_named, question}
+use Rattle.lucid_top.specs.Command.{command_of}
+use Rattle.lucid_top.specs.Files.{FilesRead, IsOneOf, Texts, of_take}
 use Rattle.lucid_top.specs.Outcome.{Alike, End, IsTheAnswer, Outcome, SameRefusal, end_status, outcome_status}
 use Rattle.lucid_top.specs.Refusal.{line_of, status_of}
 use Rattle.lucid_top.specs.Status.{IsDetermined}
+use Rattle.lucid_top.specs.Views.{FilesView, SinkView}
 use Rattle.lucid_top.specs.Words.{word_at}
-use Rattle.lucid_top.specs.Writing.{Performs, PutsSome, Refuses, Said, Untouched}
+use Rattle.lucid_top.specs.Writing.{Performs, Refuses}
+use Rattle.lucid_top.proofs.Seen.{All, Part, Prefix, Nothing, Line}
 use Rattle.lucid_top.proofs.Readings.{Agrees, read-agrees, read-why, read-rose, read-long, read-gave_more, read-held, read-others, read-quiet}
 
 -- ---- what is alike
@@ -45,34 +46,31 @@ pub record IsAnswer (told : Type 0) (answers : Outcome → Type 0) (o : Outcome)
   pub is : told → answers o
   pub only : (p : Outcome) → answers p → Alike p o
 
-abbrev pub By : {W : Type 0} → Type 0 → Type 0 → (Outcome → Type 0) → (W → Option (List ℕ)) → (W → ℕ) → W → W → End → Type 0
-By told stops answers written faults out out' (Ok u) = (text : List ℕ) × IsAnswer told answers (Ok text) × PutsAll written faults out out' text
-By told stops answers written faults out out' (Err refusal.WriteFault) = (text : List ℕ) × IsAnswer told answers (Ok text) × PutsPart written faults out out' text
-By told stops answers written faults out out' (Err refusal.Memory) =
-    Untouched written faults out out' ⊎ (stops × (text : List ℕ) × IsAnswer told answers (Ok text) × PutsSome written faults out out' text)
-By told stops answers written faults out out' (Err (refusal.ReadFault word)) = Untouched written faults out out'
-By told stops answers written faults out out' (Err r) = IsAnswer told answers (Err r) × Untouched written faults out out'
+abbrev pub By : Type 0 → Type 0 → (Outcome → Type 0) → SinkView → SinkView → End → Type 0
+By told stops answers out out' (Ok u) = (text : List ℕ) × IsAnswer told answers (Ok text) × All out out' text
+By told stops answers out out' (Err refusal.WriteFault) = (text : List ℕ) × IsAnswer told answers (Ok text) × Part out out' text
+By told stops answers out out' (Err refusal.Memory) = Nothing out out' ⊎ (stops × (text : List ℕ) × IsAnswer told answers (Ok text) × Prefix out out' text)
+By told stops answers out out' (Err (refusal.ReadFault word)) = Nothing out out'
+By told stops answers out out' (Err r) = IsAnswer told answers (Err r) × Nothing out out'
 
-pub record Answered {W : Type 0} (told stops : Type 0) (answers : Outcome → Type 0) (written : W → Option (List ℕ)) (faults : W → ℕ) (out out' : W) (end : End) : Type 0 where
-  pub by : By told stops answers written faults out out' end
+pub record Answered (told stops : Type 0) (answers : Outcome → Type 0) (out out' : SinkView) (end : End) : Type 0 where
+  pub by : By told stops answers out out' end
 
 -- an answer over the texts that were read is one over the files
 answer-as : {told : Type 0} {A B : Outcome → Type 0} (o : Outcome) → (told → (p : Outcome) → A p → B p) → ((p : Outcome) → B p → A p) → IsTheAnswer A o → IsAnswer told B o
 answer-as o into back answer = record { is = λ told. into told o answer.is; only = λ p b. answer.only p (back p b) }
 
-refuses-as : {W told s s' : Type 0} {A B : Outcome → Type 0} (written : W → Option (List ℕ)) (faults : W → ℕ) (out out' : W) (r : Refusal) →
-    (s → s') → (told → (p : Outcome) → A p → B p) → ((p : Outcome) → B p → A p) → Refuses s A written faults out out' r → By told s' B written faults out out' (Err r)
-refuses-as written faults out out' refusal.WriteFault stops into back d = (d.0, answer-as (Ok d.0) into back d.1, d.2)
-refuses-as written faults out out' refusal.Memory stops into back d =
-    elim d [ inl u ↦ inl u | inr p ↦ inr (stops p.0, p.1, answer-as (Ok p.1) into back p.2, p.3) ]
-refuses-as written faults out out' (refusal.ReadFault word) stops into back d = absurd d
-refuses-as written faults out out' (refusal.TooLong word) stops into back d = absurd d
-refuses-as written faults out out' r stops into back d = (answer-as (Err r) into back d.0, d.1)
+module _ {told s s' : Type 0} {A B : Outcome → Type 0} (out out' : SinkView) (stops : s → s') (into : told → (p : Outcome) → A p → B p) (back : (p : Outcome) → B p → A p) where
+  refuses-as : (r : Refusal) → Refuses s A SinkView.written SinkView.faults out out' r → By told s' B out out' (Err r)
+  refuses-as refusal.WriteFault d = (d.0, answer-as (Ok d.0) into back d.1, d.2)
+  refuses-as refusal.Memory d = elim d [ inl u ↦ inl u | inr p ↦ inr (stops p.0, p.1, answer-as (Ok p.1) into back p.2, p.3) ]
+  refuses-as (refusal.ReadFault word) d = absurd d
+  refuses-as (refusal.TooLong word) d = absurd d
+  refuses-as r d = (answer-as (Err r) into back d.0, d.1)
 
-performs-as : {W told s s' : Type 0} {A B : Outcome → Type 0} (written : W → Option (List ℕ)) (faults : W → ℕ) (out out' : W) (end : End) →
-    (s → s') → (told → (p : Outcome) → A p → B p) → ((p : Outcome) → B p → A p) → Performs s A written faults out out' end → By told s' B written faults out out' end
-performs-as written faults out out' (Ok u) stops into back d = (d.0, answer-as (Ok d.0) into back d.1, d.2)
-performs-as written faults out out' (Err r) stops into back d = refuses-as written faults out out' r stops into back d
+  performs-as : (end : End) → Performs s A SinkView.written SinkView.faults out out' end → By told s' B out out' end
+  performs-as (Ok u) d = (d.0, answer-as (Ok d.0) into back d.1, d.2)
+  performs-as (Err r) d = refuses-as r d
 
 into_texts : (texts : List (List ℕ)) (told : Option Texts) (A : List (List ℕ) → Outcome → Type 0) → Agrees (Ok texts) told → IsSome told → (p : Outcome) → A texts p → OverTexts told A p
 into_texts texts None A agrees is p a = absurd (cc)
@@ -82,6 +80,10 @@ from_texts : (texts : List (List ℕ)) (told : Option Texts) (A : List (List ℕ
 from_texts texts None A agrees p a = absurd a
 from_texts texts (Some t) A agrees p a = subst (λ (s : Texts). OverTexts (Some s) A p) agrees a
 
+stop_texts : (texts : List (List ℕ)) (told : Option Texts) (S : List (List ℕ) → Type 0) → Agrees (Ok texts) told → S texts → StopsOver told S
+stop_texts texts None S agrees s = (texts, s)
+stop_texts texts (Some t) S agrees s = subst (λ (u : Texts). StopsOver (Some u) S) (sym agrees) s
+
 long-answer : (word : ℕ) (told : Option Texts) (A : List (List ℕ) → Outcome → Type 0) → Agrees (Err (refusal.TooLong word)) told → IsAnswer (IsSome told) (OverTexts told A) (Err (refusal.TooLong word))
 long-answer word None A agrees = record { is = λ told. absurd (cc); only = λ p a. absurd a }
 long-answer word (Some t) A agrees =
@@ -89,43 +91,34 @@ long-answer word (Some t) A agrees =
     (record { is = λ told. refl; only = λ p a. subst (λ (o : Outcome). Alike o (Err (refusal.TooLong word))) (sym a) (Alike-refl (Err (refusal.TooLong word))) })
 
 -- a file was not taken
-taken-by : {W : Type 0} (stops : Type 0) (written : W → Option (List ℕ)) (faults : W → ℕ) (out out' : W) (told : Option Texts) (A : List (List ℕ) → Outcome → Type 0) (word : ℕ) (why : Take) →
-    Agrees (Err (of_take word why)) told → Untouched written faults out out' → By (IsSome told) stops (OverTexts told A) written faults out out' (Err (of_take word why))
-taken-by stops written faults out out' told A word take.ReadFault agrees untouched = untouched
-taken-by stops written faults out out' told A word take.Memory agrees untouched = inl untouched
-taken-by stops written faults out out' told A word take.TooLong agrees untouched = (long-answer word told A agrees, untouched)
+taken-by : (told : Option Texts) (S : Type 0) (A : List (List ℕ) → Outcome → Type 0) (out out' : SinkView) (word : ℕ) (why : Take) →
+    Agrees (Err (of_take word why)) told → Nothing out out' → By (IsSome told) S (OverTexts told A) out out' (Err (of_take word why))
+taken-by told S A out out' word take.ReadFault agrees untouched = untouched
+taken-by told S A out out' word take.Memory agrees untouched = inl untouched
+taken-by told S A out out' word take.TooLong agrees untouched = (long-answer word told A agrees, untouched)
 
-over-by : {F W : Type 0} (held : F → Held) (given : F → ℕ) (met : F → List ℕ → ℕ) (files files' : F) (written : W → Option (List ℕ)) (faults : W → ℕ) (out out' : W) (words : List (List ℕ)) (c : Command) (texts : Texts) (end : End) →
-    FilesRead held given met words files files' (files_of c) texts → PerformsOver written faults out out' c words texts end →
-    By (TellsFor (Some c) words (held files)) (CommandStops (Some c)) (AnswersTo (Some c) words (held files)) written faults out out' end
-over-by held given met files files' written faults out out' words c (Ok texts) end reads performs =
-    let told = contents (held files) words (files_of c) in
-    let agrees : Agrees (Ok texts) told = read-agrees held given met words files files' (files_of c) (Ok texts) reads in
-    performs-as written faults out out' end (λ stops. (texts, stops)) (λ is p a. into_texts texts told (CommandAnswers c words) agrees is p a) (from_texts texts told (CommandAnswers c words) agrees) performs
-over-by held given met files files' written faults out out' words c (Err r) end reads performs =
-    let told = contents (held files) words (files_of c) in
-    let agrees : Agrees (Err r) told = read-agrees held given met words files files' (files_of c) (Err r) reads in
-    let why = read-why held given met words files files' (files_of c) (Err r) r reads refl in
-    let is : end ≡ Err (of_take why.0 why.1) = performs.0 ∙ ap (λ (s : Refusal). Err s) why.2 in
-    subst (By (IsSome told) (CommandStops (Some c)) (OverTexts told (CommandAnswers c words)) written faults out out') (sym is)
-    (taken-by (CommandStops (Some c)) written faults out out' told (CommandAnswers c words) why.0 why.1 (subst (λ (s : Refusal). Agrees (Err s) told) why.2 agrees) performs.1)
-
-does-by : {F W : Type 0} (held : F → Held) (given : F → ℕ) (met : F → List ℕ → ℕ) (files files' : F) (written : W → Option (List ℕ)) (faults : W → ℕ) (out out' : W) (words : List (List ℕ)) (co : Option Command) (end : End) →
-    Does held given met files files' written faults out out' words co end → By (TellsFor co words (held files)) (CommandStops co) (AnswersTo co words (held files)) written faults out out' end
-does-by held given met files files' written faults out out' words None end does =
+over-by : (co : Option Command) (q : Question) (files files' : FilesView) (out out' : SinkView) (texts : Texts) (end : End) (told : Option Texts) →
+    Agrees texts told → (FilesRead q.words files files' (command_files co) texts) → PerformsOver co q out out' texts end →
+    By (IsSome told) (StopsOver told (λ ts. StopsOf co (given q ts))) (OverTexts told (λ ts. AnswersTo co (given q ts))) out out' end
+over-by None q files files' out out' texts end told agrees reads performs =
+    let here : texts ≡ Ok [] = reads.1 in
+    let ok : Agrees (Ok []) told = subst (λ (t : Texts). Agrees t told) here agrees in
     let usage : Outcome = Err refusal.Usage in
-    subst (By (Unit {0}) ⊥ (λ o. o ≡ usage) written faults out out') (sym does.2)
-    (record { is = λ told. refl; only = λ p a. subst (λ (o : Outcome). Alike o usage) (sym a) (Alike-refl usage) }, does.1)
-does-by held given met files files' written faults out out' words (Some c) end does =
-    over-by held given met files files' written faults out out' words c does.0 end does.1 does.2
+    let answer : IsTheAnswer (λ (o : Outcome). o ≡ usage) usage = record { is = refl; only = λ p a. subst (λ (o : Outcome). Alike o usage) (sym a) (Alike-refl usage) } in
+    subst (By (IsSome told) (StopsOver told (λ ts. ⊥)) (OverTexts told (λ ts (o : Outcome). o ≡ usage)) out out') (sym performs.0)
+    (answer-as usage (λ is p a. into_texts [] told (λ ts (o : Outcome). o ≡ usage) ok is p a) (from_texts [] told (λ ts (o : Outcome). o ≡ usage) ok) answer, performs.1)
+over-by (Some c) q files files' out out' (Ok texts) end told agrees reads performs =
+    let A = λ (ts : List (List ℕ)). AnswersTo (Some c) (given q ts) in
+    performs-as out out' (stop_texts texts told (λ ts. StopsOf (Some c) (given q ts)) agrees) (λ is p a. into_texts texts told A agrees is p a) (from_texts texts told A agrees) end performs
+over-by (Some c) q files files' out out' (Err r) end told agrees reads performs =
+    let A = λ (ts : List (List ℕ)). AnswersTo (Some c) (given q ts) in
+    let S = StopsOver told (λ ts. StopsOf (Some c) (given q ts)) in
+    let why = read-why q.words files files' (command_files (Some c)) (Err r) r reads refl in
+    let is : end ≡ Err (of_take why.0 why.1) = performs.0 ∙ ap (λ (s : Refusal). Err s) why.2 in
+    subst (By (IsSome told) S (OverTexts told A) out out') (sym is)
+    (taken-by told S A out out' why.0 why.1 (subst (λ (s : Refusal). Agrees (Err s) told) why.2 agrees) performs.1)
 
-pub answered : {F W E : Type 0} {held : F → Held} {given : F → ℕ} {met : F → List ℕ → ℕ} {files files' : F} {written : W → Option (List ℕ)} {faults : W → ℕ} {out out' : W}
-    {told : E → Option (List ℕ)} {failed : E → ℕ} {err err' : E} {words : List (List ℕ)} {result : Status} (e : Ended held given met files files' written faults out out' told failed err err' words result) →
-    Answered (TellsFor (command_of words) words (held files)) (CommandStops (command_of words)) (Answers words (held files)) written faults out out' e.end
-answered {F} {W} {E} {held} {given} {met} {files} {files'} {written} {faults} {out} {out'} {told} {failed} {err} {err'} {words} {result} e =
-    record { by = does-by held given met files files' written faults out out' words (command_of words) e.end e.does }
-
--- ---- the clauses
+-- ---- what no end comes to
 
 -- no refusal has the status of success
 never_ok : (r : Refusal) → status_of r ≡ status.Ok → ⊥
@@ -138,218 +131,251 @@ alike-status (Ok a) (Err s) same = absurd same
 alike-status (Err r) (Ok b) same = absurd same
 alike-status (Err r) (Err s) same = sym (same-status r s same)
 
-status-by : {W : Type 0} (told stops : Type 0) (answers : Outcome → Type 0) (written : W → Option (List ℕ)) (faults : W → ℕ) (out out' : W) (end : End) →
-    By told stops answers written faults out out' end → IsDetermined (end_status end) → (p : Outcome) → answers p → end_status end ≡ outcome_status p
-status-by told stops answers written faults out out' (Ok u) by determined p a = alike-status p (Ok by.0) (by.1.only p a)
-status-by told stops answers written faults out out' (Err refusal.WriteFault) by determined p a = absurd determined
-status-by told stops answers written faults out out' (Err refusal.Memory) by determined p a = absurd determined
-status-by told stops answers written faults out out' (Err (refusal.ReadFault word)) by determined p a = absurd determined
-status-by told stops answers written faults out out' (Err r) by determined p a = alike-status p (Err r) (by.0.only p a)
-
-pub answered-status : {W told stops : Type 0} {answers : Outcome → Type 0} {written : W → Option (List ℕ)} {faults : W → ℕ} {out out' : W} {end : End} →
-    Answered told stops answers written faults out out' end → IsDetermined (end_status end) → (p : Outcome) → answers p → end_status end ≡ outcome_status p
-answered-status {W} {told} {stops} {answers} {written} {faults} {out} {out'} {end} a = status-by told stops answers written faults out out' end a.by
-
 -- nothing is a prefix
-PutsSome-none : {W : Type 0} (written : W → Option (List ℕ)) (faults : W → ℕ) (out out' : W) (text : List ℕ) → Untouched written faults out out' → PutsSome written faults out out' text
-PutsSome-none written faults out out' text untouched = record {
+PutsSome-none : (out out' : SinkView) (text : List ℕ) → Nothing out out' → Prefix out out' text
+PutsSome-none out out' text untouched = record {
   count = 0;
   within = omega arith;
-  bytes = Appends-kept (written out) (written out) (written out') [] (Appends-nil (written out)) untouched.keeps;
+  bytes = Appends-kept out.written out.written out'.written [] (Appends-nil out.written) untouched.keeps;
   quiet = untouched.quiet;
 }
-
--- at Ok a text that is an answer was put whole
-pub answered-ok : {W told stops : Type 0} {answers : Outcome → Type 0} {written : W → Option (List ℕ)} {faults : W → ℕ} {out out' : W} (end : End) →
-    Answered told stops answers written faults out out' end → end_status end ≡ status.Ok → (text : List ℕ) → answers (Ok text) → PutsAll written faults out out' text
-answered-ok {W} {told} {stops} {answers} {written} {faults} {out} {out'} (Ok u) a is text asked = subst (PutsAll written faults out out') (sym (a.by.1.only (Ok text) asked)) a.by.2
-answered-ok (Err r) a is text asked = absurd (never_ok r is)
-
--- at a write fault it was cut
-pub answered-cut : {W told stops : Type 0} {answers : Outcome → Type 0} {written : W → Option (List ℕ)} {faults : W → ℕ} {out out' : W} (end : End) →
-    Answered told stops answers written faults out out' end → end_status end ≡ status.WriteFault → (text : List ℕ) → answers (Ok text) → PutsPart written faults out out' text
-answered-cut {W} {told} {stops} {answers} {written} {faults} {out} {out'} (Err refusal.WriteFault) a is text asked = subst (PutsPart written faults out out') (sym (a.by.1.only (Ok text) asked)) a.by.2
-answered-cut (Ok u) a is text asked = absurd (cc)
-answered-cut (Err r) a is text asked = absurd (cc)
-
--- and the count of faults rose, as it does where no file tells what it holds
-pub answered-fault : {W told stops : Type 0} {answers : Outcome → Type 0} {written : W → Option (List ℕ)} {faults : W → ℕ} {out out' : W} (end : End) →
-    Answered told stops answers written faults out out' end → end_status end ≡ status.WriteFault → Rose (faults out) (faults out')
-answered-fault (Err refusal.WriteFault) a is = a.by.2.cause
-answered-fault (Ok u) a is = absurd (cc)
-answered-fault (Err r) a is = absurd (cc)
-
--- a refusal that is an answer is alike to the one that was given, which is an answer too
-pub answered-err : {W told stops : Type 0} {answers : Outcome → Type 0} {written : W → Option (List ℕ)} {faults : W → ℕ} {out out' : W} (end : End) →
-    Answered told stops answers written faults out out' end → IsDetermined (end_status end) → told → (r : Refusal) → answers (Err r) →
-    (s : Refusal) × answers (Err s) × SameRefusal r s × (end ≡ Err s)
-answered-err (Ok u) a determined tells r asked = absurd (a.by.1.only (Err r) asked)
-answered-err (Err refusal.WriteFault) a determined tells r asked = absurd determined
-answered-err (Err refusal.Memory) a determined tells r asked = absurd determined
-answered-err (Err (refusal.ReadFault word)) a determined tells r asked = absurd determined
-answered-err (Err s) a determined tells r asked = (s, a.by.0.is tells, a.by.0.only (Err r) asked, refl)
-
--- where the files tell what they hold, there is an answer
-pub answered-is : {W told stops : Type 0} {answers : Outcome → Type 0} {written : W → Option (List ℕ)} {faults : W → ℕ} {out out' : W} (end : End) →
-    Answered told stops answers written faults out out' end → IsDetermined (end_status end) → told → (o : Outcome) × answers o
-answered-is (Ok u) a determined tells = (Ok a.by.0, a.by.1.is tells)
-answered-is (Err refusal.WriteFault) a determined tells = absurd determined
-answered-is (Err refusal.Memory) a determined tells = absurd determined
-answered-is (Err (refusal.ReadFault word)) a determined tells = absurd determined
-answered-is (Err r) a determined tells = (Err r, a.by.0.is tells)
-
--- want of memory leaves nothing written, or a prefix of the text
-pub answered-memory : {W told stops : Type 0} {answers : Outcome → Type 0} {written : W → Option (List ℕ)} {faults : W → ℕ} {out out' : W} (end : End) →
-    Answered told stops answers written faults out out' end → end_status end ≡ status.Memory → (text : List ℕ) → answers (Ok text) → PutsSome written faults out out' text
-answered-memory {W} {told} {stops} {answers} {written} {faults} {out} {out'} (Err refusal.Memory) a is text asked =
-    elim a.by [
-      | inl untouched ↦ PutsSome-none written faults out out' text untouched
-      | inr p ↦ subst (PutsSome written faults out out') (sym (p.2.only (Ok text) asked)) p.3
-    ]
-answered-memory (Ok u) a is text asked = absurd (cc)
-answered-memory (Err r) a is text asked = absurd (cc)
-
--- every other refusal leaves nothing written, and so does want of memory where a command never stops
-pub answered-silent : {W told stops : Type 0} {answers : Outcome → Type 0} {written : W → Option (List ℕ)} {faults : W → ℕ} {out out' : W} (end : End) →
-    Answered told stops answers written faults out out' end → end_status end ≢ status.Ok → end_status end ≢ status.WriteFault → (end_status end ≡ status.Memory → ¬ stops) →
-    Keeps (written out) (written out')
-answered-silent (Ok u) a ok fault never = absurd (ok refl)
-answered-silent (Err refusal.WriteFault) a ok fault never = absurd (fault refl)
-answered-silent (Err refusal.Memory) a ok fault never = elim a.by [ inl untouched ↦ untouched.keeps | inr p ↦ absurd (never refl p.0) ]
-answered-silent (Err (refusal.ReadFault word)) a ok fault never = a.by.keeps
-answered-silent (Err r) a ok fault never = a.by.1.keeps
 
 -- what was written before stays, and some text may follow it
 kept-grows : (old new : Option (List ℕ)) → Keeps old new → (text : List ℕ) × Appends old new text
 kept-grows old new keeps = ([], Appends-kept old old new [] (Appends-nil old) keeps)
 
-pub answered-grows : {W told stops : Type 0} {answers : Outcome → Type 0} {written : W → Option (List ℕ)} {faults : W → ℕ} {out out' : W} (end : End) →
-    Answered told stops answers written faults out out' end → (text : List ℕ) × Appends (written out) (written out') text
-answered-grows (Ok u) a = (a.by.0, a.by.2.bytes)
-answered-grows (Err refusal.WriteFault) a = (_, a.by.2.bytes.2)
-answered-grows {W} {told} {stops} {answers} {written} {faults} {out} {out'} (Err refusal.Memory) a =
-    elim a.by [ inl untouched ↦ kept-grows (written out) (written out') untouched.keeps | inr p ↦ (_, p.3.bytes) ]
-answered-grows {W} {told} {stops} {answers} {written} {faults} {out} {out'} (Err (refusal.ReadFault word)) a = kept-grows (written out) (written out') a.by.keeps
-answered-grows {W} {told} {stops} {answers} {written} {faults} {out} {out'} (Err r) a = kept-grows (written out) (written out') a.by.1.keeps
-
--- ---- the files
-
 -- an end by a file is that of the reading: a command meets no file
-file-end : {W : Type 0} (written : W → Option (List ℕ)) (faults : W → ℕ) (out out' : W) (c : Command) (words : List (List ℕ)) (texts : Texts) (end : End) (word : ℕ) (why : Take) →
-    why ≢ take.Memory → PerformsOver written faults out out' c words texts end → end ≡ Err (of_take word why) → texts ≡ Err (of_take word why)
-file-end written faults out out' c words (Err r) end word why memory performs is =
+file-end : (co : Option Command) (q : Question) (out out' : SinkView) (texts : Texts) (end : End) (word : ℕ) (why : Take) →
+    why ≢ take.Memory → PerformsOver co q out out' texts end → end ≡ Err (of_take word why) → texts ≡ Err (of_take word why)
+file-end None q out out' texts end word take.ReadFault memory performs is = absurd (let no : ◌≡◌ {A = End} (Err refusal.Usage) (Err (refusal.ReadFault word)) = sym performs.0 ∙ is in cc)
+file-end None q out out' texts end word take.TooLong memory performs is = absurd (let no : ◌≡◌ {A = End} (Err refusal.Usage) (Err (refusal.TooLong word)) = sym performs.0 ∙ is in cc)
+file-end None q out out' texts end word take.Memory memory performs is = absurd (memory refl)
+file-end (Some c) q out out' (Err r) end word why memory performs is =
     let both : ◌≡◌ {A = End} (Err r) (Err (of_take word why)) = sym performs.0 ∙ is in
     let same : r ≡ of_take word why = cc in
     ap (λ (s : Refusal). Err s) same
-file-end written faults out out' c words (Ok texts) end word why memory performs is =
-    absurd (none why memory (subst (Performs (MayStop c texts) (CommandAnswers c words texts) written faults out out') is performs))
+file-end (Some c) q out out' (Ok texts) end word why memory performs is =
+    absurd (none why memory (subst (λ (e : End). PerformsOver (Some c) q out out' (Ok texts) e) is performs))
   where
-    none : (w : Take) → w ≢ take.Memory → Performs (MayStop c texts) (CommandAnswers c words texts) written faults out out' (Err (of_take word w)) → ⊥
+    none : (w : Take) → w ≢ take.Memory → PerformsOver (Some c) q out out' (Ok texts) (Err (of_take word w)) → ⊥
     none take.ReadFault not p = p
     none take.TooLong not p = p
     none take.Memory not p = not refl
 
-pub does-rose : {F W : Type 0} (held : F → Held) (given : F → ℕ) (met : F → List ℕ → ℕ) (files files' : F) (written : W → Option (List ℕ)) (faults : W → ℕ) (out out' : W) (words : List (List ℕ)) (co : Option Command) (end : End) (word : ℕ) →
-    Does held given met files files' written faults out out' words co end → end ≡ Err (refusal.ReadFault word) →
-    (file : NamedFile) × IsOneOf (command_files co) file × (file.word ≡ word) × Rose (met files (word_at words file.word)) (met files' (word_at words file.word))
-does-rose held given met files files' written faults out out' words None end word does is = let no : ◌≡◌ {A = End} (Err refusal.Usage) (Err (refusal.ReadFault word)) = sym does.2 ∙ is in absurd (cc)
-does-rose held given met files files' written faults out out' words (Some c) end word does is =
-    read-rose held given met words files files' (files_of c) does.0 word does.1 (file-end written faults out out' c words does.0 end word take.ReadFault (λ same. cc) does.2 is)
+-- ---- an end that is answered
 
-pub does-long : {F W : Type 0} (held : F → Held) (given : F → ℕ) (met : F → List ℕ → ℕ) (files files' : F) (written : W → Option (List ℕ)) (faults : W → ℕ) (out out' : W) (words : List (List ℕ)) (co : Option Command) (end : End) (word : ℕ) →
-    Does held given met files files' written faults out out' words co end → end ≡ Err (refusal.TooLong word) →
-    (file : NamedFile) × IsOneOf (command_files co) file × (file.word ≡ word) × (given files' ≡ file.limit + 1)
-does-long held given met files files' written faults out out' words None end word does is = let no : ◌≡◌ {A = End} (Err refusal.Usage) (Err (refusal.TooLong word)) = sym does.2 ∙ is in absurd (cc)
-does-long held given met files files' written faults out out' words (Some c) end word does is =
-    read-long held given met words files files' (files_of c) does.0 word does.1 (file-end written faults out out' c words does.0 end word take.TooLong (λ same. cc) does.2 is)
+module _ {told stops : Type 0} {answers : Outcome → Type 0} {out out' : SinkView} where
+  determined-status : (end : End) → Answered told stops answers out out' end → IsDetermined (end_status end) → (p : Outcome) → answers p → end_status end ≡ outcome_status p
+  determined-status (Ok u) a determined p asked = alike-status p (Ok a.by.0) (a.by.1.only p asked)
+  determined-status (Err refusal.WriteFault) a determined p asked = absurd determined
+  determined-status (Err refusal.Memory) a determined p asked = absurd determined
+  determined-status (Err (refusal.ReadFault word)) a determined p asked = absurd determined
+  determined-status (Err r) a determined p asked = alike-status p (Err r) (a.by.0.only p asked)
 
--- where one file is named and gave more than its limit
-pub does-gave_more : {F W : Type 0} (held : F → Held) (given : F → ℕ) (met : F → List ℕ → ℕ) (files files' : F) (written : W → Option (List ℕ)) (faults : W → ℕ) (out out' : W) (words : List (List ℕ)) (co : Option Command) (end : End) (file : NamedFile) →
-    Does held given met files files' written faults out out' words co end → command_files co ≡ file ∷ [] → given files' ≡ file.limit + 1 →
-    (end_status end ≡ status.TooLong) ⊎ (end_status end ≡ status.Memory)
-does-gave_more held given met files files' written faults out out' words None end file does one more = absurd (cc)
-does-gave_more held given met files files' written faults out out' words (Some c) end file does one more =
-    at does.0 (read-gave_more held given met words files files' file does.0 (subst (λ (l : List NamedFile). FilesRead held given met words files files' l does.0) one does.1) more) does.2
-  where
-    at : (texts : Texts) → (texts ≡ Err (refusal.TooLong file.word)) ⊎ (texts ≡ Err refusal.Memory) → PerformsOver written faults out out' c words texts end →
-        (end_status end ≡ status.TooLong) ⊎ (end_status end ≡ status.Memory)
-    at (Ok texts) causes performs = absurd (elim causes [ inl h ↦ cc | inr h ↦ cc ])
-    at (Err r) causes performs =
-        elim causes [
-          | inl h ↦ let same : r ≡ refusal.TooLong file.word = cc in let is : end ≡ Err (refusal.TooLong file.word) = performs.0 ∙ ap (λ (s : Refusal). Err s) same in inl (ap end_status is)
-          | inr h ↦ let same : r ≡ refusal.Memory = cc in let is : end ≡ Err refusal.Memory = performs.0 ∙ ap (λ (s : Refusal). Err s) same in inr (ap end_status is)
-        ]
+  ok-all : (end : End) → Answered told stops answers out out' end → end_status end ≡ status.Ok → (text : List ℕ) → answers (Ok text) → All out out' text
+  ok-all (Ok u) a is text asked = subst (All out out') (sym (a.by.1.only (Ok text) asked)) a.by.2
+  ok-all (Err r) a is text asked = absurd (never_ok r is)
 
-pub does-others : {F W : Type 0} (held : F → Held) (given : F → ℕ) (met : F → List ℕ → ℕ) (files files' : F) (written : W → Option (List ℕ)) (faults : W → ℕ) (out out' : W) (words : List (List ℕ)) (co : Option Command) (end : End) →
-    Does held given met files files' written faults out out' words co end →
-    OthersKept (λ name. (file : NamedFile) × IsOneOf (command_files co) file × (name ≡ word_at words file.word)) (held files) (met files) (met files')
-does-others held given met files files' written faults out out' words None end does = λ name other told. ap (λ t. met t name) does.0
-does-others held given met files files' written faults out out' words (Some c) end does = read-others held given met words files files' (files_of c) does.0 does.1
+  fault-part : (end : End) → Answered told stops answers out out' end → end_status end ≡ status.WriteFault → (text : List ℕ) → answers (Ok text) → Part out out' text
+  fault-part (Err refusal.WriteFault) a is text asked = subst (Part out out') (sym (a.by.1.only (Ok text) asked)) a.by.2
+  fault-part (Ok u) a is text asked = absurd (cc)
+  fault-part (Err r) a is text asked = absurd (cc)
 
-pub does-held : {F W : Type 0} (held : F → Held) (given : F → ℕ) (met : F → List ℕ → ℕ) (files files' : F) (written : W → Option (List ℕ)) (faults : W → ℕ) (out out' : W) (words : List (List ℕ)) (co : Option Command) (end : End) →
-    Does held given met files files' written faults out out' words co end → SameHeld (held files) (held files')
-does-held held given met files files' written faults out out' words None end does = λ name. ap (λ t. held t name) does.0
-does-held held given met files files' written faults out out' words (Some c) end does = read-held held given met words files files' (files_of c) does.0 does.1
+  fault-rose : (end : End) → Answered told stops answers out out' end → end_status end ≡ status.WriteFault → Rose out.faults out'.faults
+  fault-rose (Err refusal.WriteFault) a is = a.by.2.cause
+  fault-rose (Ok u) a is = absurd (cc)
+  fault-rose (Err r) a is = absurd (cc)
 
--- the texts that were read end by a read fault only where the call does
-pub does-quiet : {F W : Type 0} (held : F → Held) (given : F → ℕ) (met : F → List ℕ → ℕ) (files files' : F) (written : W → Option (List ℕ)) (faults : W → ℕ) (out out' : W) (words : List (List ℕ)) (co : Option Command) (end : End) →
-    Does held given met files files' written faults out out' words co end → end_status end ≢ status.ReadFault → SameCounts (met files) (met files')
-does-quiet held given met files files' written faults out out' words None end does not = λ name. ap (λ t. met t name) does.0
-does-quiet held given met files files' written faults out out' words (Some c) end does not =
-    read-quiet held given met words files files' (files_of c) does.0 does.1 (none does.0 does.2)
-  where
-    none : (texts : Texts) → PerformsOver written faults out out' c words texts end → (word : ℕ) → texts ≡ Err (refusal.ReadFault word) → ⊥
-    none (Ok texts) performs word is = cc
-    none (Err r) performs word is =
-        let same : r ≡ refusal.ReadFault word = cc in
-        not (ap end_status (performs.0 ∙ ap (λ (s : Refusal). Err s) same))
+  -- a refusal that is an answer is alike to the one that was given, which is an answer too
+  refused-as : (end : End) → Answered told stops answers out out' end → IsDetermined (end_status end) → told → (r : Refusal) → answers (Err r) →
+      (s : Refusal) × answers (Err s) × SameRefusal r s × (end ≡ Err s)
+  refused-as (Ok u) a determined tells r asked = absurd (a.by.1.only (Err r) asked)
+  refused-as (Err refusal.WriteFault) a determined tells r asked = absurd determined
+  refused-as (Err refusal.Memory) a determined tells r asked = absurd determined
+  refused-as (Err (refusal.ReadFault word)) a determined tells r asked = absurd determined
+  refused-as (Err s) a determined tells r asked = (s, a.by.0.is tells, a.by.0.only (Err r) asked, refl)
 
--- ---- the line
+  is-answered : (end : End) → Answered told stops answers out out' end → IsDetermined (end_status end) → told → (o : Outcome) × answers o
+  is-answered (Ok u) a determined tells = (Ok a.by.0, a.by.1.is tells)
+  is-answered (Err refusal.WriteFault) a determined tells = absurd determined
+  is-answered (Err refusal.Memory) a determined tells = absurd determined
+  is-answered (Err (refusal.ReadFault word)) a determined tells = absurd determined
+  is-answered (Err r) a determined tells = (Err r, a.by.0.is tells)
 
--- which refusal has the status of a file that was not taken
-pub fault-end : (end : End) → end_status end ≡ status.ReadFault → (word : ℕ) × (end ≡ Err (refusal.ReadFault word))
+  memory-prefix : (end : End) → Answered told stops answers out out' end → end_status end ≡ status.Memory → (text : List ℕ) → answers (Ok text) → Prefix out out' text
+  memory-prefix (Err refusal.Memory) a is text asked = elim a.by [ inl u ↦ PutsSome-none out out' text u | inr p ↦ subst (Prefix out out') (sym (p.2.only (Ok text) asked)) p.3 ]
+  memory-prefix (Ok u) a is text asked = absurd (cc)
+  memory-prefix (Err r) a is text asked = absurd (cc)
+
+  refused-silent : (end : End) → Answered told stops answers out out' end → end_status end ≢ status.Ok → end_status end ≢ status.WriteFault → (end_status end ≡ status.Memory → ¬ stops) →
+      Keeps out.written out'.written
+  refused-silent (Ok u) a ok fault never = absurd (ok refl)
+  refused-silent (Err refusal.WriteFault) a ok fault never = absurd (fault refl)
+  refused-silent (Err refusal.Memory) a ok fault never = elim a.by [ inl u ↦ u.keeps | inr p ↦ absurd (never refl p.0) ]
+  refused-silent (Err (refusal.ReadFault word)) a ok fault never = a.by.keeps
+  refused-silent (Err r) a ok fault never = a.by.1.keeps
+
+  any-grows : (end : End) → Answered told stops answers out out' end → (text : List ℕ) × Appends out.written out'.written text
+  any-grows (Ok u) a = (a.by.0, a.by.2.bytes)
+  any-grows (Err refusal.WriteFault) a = (_, a.by.2.bytes.2)
+  any-grows (Err refusal.Memory) a = elim a.by [ inl u ↦ kept-grows out.written out'.written u.keeps | inr p ↦ (_, p.3.bytes) ]
+  any-grows (Err (refusal.ReadFault word)) a = kept-grows out.written out'.written a.by.keeps
+  any-grows (Err r) a = kept-grows out.written out'.written a.by.1.keeps
+
+  unfailed-done : (end : End) → Answered told stops answers out out' end → ((word : ℕ) → end ≡ Err (refusal.ReadFault word) → ⊥) → ¬ Rose out.faults out'.faults → (text : List ℕ) → answers (Ok text) →
+      (end_status end ≡ status.Ok) ⊎ (end_status end ≡ status.Memory)
+  unfailed-done (Ok u) a read unmet text asked = inl refl
+  unfailed-done (Err refusal.WriteFault) a read unmet text asked = absurd (unmet a.by.2.cause)
+  unfailed-done (Err refusal.Memory) a read unmet text asked = inr refl
+  unfailed-done (Err (refusal.ReadFault word)) a read unmet text asked = absurd (read word refl)
+  unfailed-done (Err r) a read unmet text asked = absurd (a.by.0.only (Ok text) asked)
+
+-- words that have an answer name files that tell what they hold
+over-told : (told : Option Texts) (A : List (List ℕ) → Outcome → Type 0) (o : Outcome) → OverTexts told A o → IsSome told
+over-told None A o a = absurd a
+over-told (Some t) A o a = refl
+
+-- ---- which refusal a file's status has, and its line
+
+fault-end : (end : End) → end_status end ≡ status.ReadFault → (word : ℕ) × (end ≡ Err (refusal.ReadFault word))
 fault-end (Err (refusal.ReadFault word)) is = (word, refl)
 fault-end (Ok u) is = absurd (cc)
 fault-end (Err r) is = absurd (cc)
 
-pub long-end : (end : End) → end_status end ≡ status.TooLong → (word : ℕ) × (end ≡ Err (refusal.TooLong word))
+long-end : (end : End) → end_status end ≡ status.TooLong → (word : ℕ) × (end ≡ Err (refusal.TooLong word))
 long-end (Err (refusal.TooLong word)) is = (word, refl)
 long-end (Ok u) is = absurd (cc)
 long-end (Err r) is = absurd (cc)
 
-pub said-as : {E : Type 0} (told : E → Option (List ℕ)) (failed : E → ℕ) (err err' : E) (words : List (List ℕ)) (end : End) (r : Refusal) → EndSaid told failed err err' words end → end ≡ Err r →
-    Said told failed err err' (line_of words r)
-said-as told failed err err' words end r said is = subst (EndSaid told failed err err' words) is said
+said-line : (err err' : SinkView) (words : List (List ℕ)) (end : End) → EndSaid err err' words end → end_status end ≢ status.Ok →
+    (r : Refusal) × (status_of r ≡ end_status end) × Line err err' (line_of words r)
+said-line err err' words (Ok u) said not = absurd (not refl)
+said-line err err' words (Err r) said not = (r, refl, said)
 
-pub said-line : {E : Type 0} (told : E → Option (List ℕ)) (failed : E → ℕ) (err err' : E) (words : List (List ℕ)) (end : End) → EndSaid told failed err err' words end → end_status end ≢ status.Ok →
-    (r : Refusal) × (status_of r ≡ end_status end) × Said told failed err err' (line_of words r)
-said-line told failed err err' words (Ok u) said not = absurd (not refl)
-said-line told failed err err' words (Err r) said not = (r, refl, said)
+said-nothing : (err err' : SinkView) (words : List (List ℕ)) (end : End) → EndSaid err err' words end → end_status end ≡ status.Ok → Keeps err.written err'.written
+said-nothing err err' words (Ok u) said is = said.keeps
+said-nothing err err' words (Err r) said is = absurd (never_ok r is)
 
-pub said-nothing : {E : Type 0} (told : E → Option (List ℕ)) (failed : E → ℕ) (err err' : E) (words : List (List ℕ)) (end : End) → EndSaid told failed err err' words end → end_status end ≡ status.Ok →
-    Keeps (told err) (told err')
-said-nothing told failed err err' words (Ok u) said is = said.keeps
-said-nothing told failed err err' words (Err r) said is = absurd (never_ok r is)
+-- where one file is named and gave more than its limit
+gave-end : (co : Option Command) (q : Question) (out out' : SinkView) (texts : Texts) (end : End) (word : ℕ) →
+    (texts ≡ Err (refusal.TooLong word)) ⊎ (texts ≡ Err refusal.Memory) → (co ≡ None → ⊥) → PerformsOver co q out out' texts end →
+    (end_status end ≡ status.TooLong) ⊎ (end_status end ≡ status.Memory)
+gave-end None q out out' texts end word causes some performs = absurd (some refl)
+gave-end (Some c) q out out' (Ok texts) end word causes some performs = absurd (elim causes [ inl h ↦ cc | inr h ↦ cc ])
+gave-end (Some c) q out out' (Err r) end word causes some performs = elim causes [
+  | inl h ↦ let same : r ≡ refusal.TooLong word = cc in let is : end ≡ Err (refusal.TooLong word) = performs.0 ∙ ap (λ (s : Refusal). Err s) same in inl (ap end_status is)
+  | inr h ↦ let same : r ≡ refusal.Memory = cc in let is : end ≡ Err refusal.Memory = performs.0 ∙ ap (λ (s : Refusal). Err s) same in inr (ap end_status is)
+]
 
--- ---- completeness
+-- the texts that were read end by a read fault only where the call does
+not-fault : (co : Option Command) (q : Question) (out out' : SinkView) (texts : Texts) (end : End) (word : ℕ) →
+    (co ≡ None → texts ≡ Ok []) → PerformsOver co q out out' texts end → end_status end ≢ status.ReadFault → texts ≡ Err (refusal.ReadFault word) → ⊥
+not-fault None q out out' texts end word none performs not is = let no : ◌≡◌ {A = Texts} (Ok []) (Err (refusal.ReadFault word)) = sym (none refl) ∙ is in cc
+not-fault (Some c) q out out' (Ok texts) end word none performs not is = cc
+not-fault (Some c) q out out' (Err r) end word none performs not is =
+    let same : r ≡ refusal.ReadFault word = cc in
+    not (ap end_status (performs.0 ∙ ap (λ (s : Refusal). Err s) same))
 
-pub answered-complete : {W told stops : Type 0} {answers : Outcome → Type 0} {written : W → Option (List ℕ)} {faults : W → ℕ} {out out' : W} (end : End) →
-    Answered told stops answers written faults out out' end → ((word : ℕ) → end ≡ Err (refusal.ReadFault word) → ⊥) → ¬ Rose (faults out) (faults out') → (text : List ℕ) → answers (Ok text) →
-    (end_status end ≡ status.Ok) ⊎ (end_status end ≡ status.Memory)
-answered-complete (Ok u) a read unmet text asked = inl refl
-answered-complete (Err refusal.WriteFault) a read unmet text asked = absurd (unmet a.by.2.cause)
-answered-complete (Err refusal.Memory) a read unmet text asked = inr refl
-answered-complete (Err (refusal.ReadFault word)) a read unmet text asked = absurd (read word refl)
-answered-complete (Err r) a read unmet text asked = absurd (a.by.0.only (Ok text) asked)
+no-files : (co : Option Command) (words : List (List ℕ)) (files files' : FilesView) (texts : Texts) → FilesRead words files files' (command_files co) texts → co ≡ None → texts ≡ Ok []
+no-files None words files files' texts reads is = reads.1
+no-files (Some c) words files files' texts reads is = absurd (cc)
 
--- words that have an answer name files that tell what they hold
-told-by : (co : Option Command) (words : List (List ℕ)) (held : Held) (o : Outcome) → AnswersTo co words held o → TellsFor co words held
-told-by None words held o a = tt
-told-by (Some c) words held o a = at (contents held words (files_of c)) a
-  where
-    at : (told : Option Texts) → OverTexts told (CommandAnswers c words) o → IsSome told
-    at None a = absurd a
-    at (Some t) a = refl
+some-files : (co : Option Command) (file : NamedFile) → command_files co ≡ file ∷ [] → co ≡ None → ⊥
+some-files None file one is = cc
+some-files (Some c) file one is = cc
 
-pub answers-told : (words : List (List ℕ)) (held : Held) (o : Outcome) → Answers words held o → TellsFor (command_of words) words held
-answers-told words held o a = told-by (command_of words) words held o a
+-- ---- the clauses of the top call
+
+-- no count of a named file rose
+abbrev pub Unmet : Call → Type 0
+Unmet c = (file : NamedFile) → IsOneOf (files_named c.words) file → ¬ Rose (c.files.faults (word_at c.words file.word)) (c.files'.faults (word_at c.words file.word))
+
+-- how it ended, by what words and told files determine
+answered : {c : Call} {err err' : SinkView} {result : Status} (e : Ended c err err' result) → Answered (IsTold (question c)) (CanStop (question c)) (Answers (question c)) c.out c.out' e.end
+answered {c} {err} {err'} {result} e = record {
+  by = over-by (command_of c.words) (question c) c.files c.files' c.out c.out' e.done.texts e.end (told_texts (question c))
+      (read-agrees c.words c.files c.files' (command_files (command_of c.words)) e.done.texts e.done.reads) e.done.reads e.done.does;
+}
+
+module _ {c : Call} {err err' : SinkView} {result : Status} (e : Ended c err err' result) where
+  determined : IsDetermined result → IsDetermined (end_status e.end)
+  determined d = subst IsDetermined e.status d
+
+  pub status-clause : IsDetermined result → (o : Outcome) → Answers (question c) o → result ≡ outcome_status o
+  status-clause d o asked = e.status ∙ determined-status e.end (answered e) (determined d) o asked
+
+  pub out-clause : result ≡ status.Ok → (text : List ℕ) → Answers (question c) (Ok text) → All c.out c.out' text
+  out-clause ok text asked = ok-all e.end (answered e) (sym e.status ∙ ok) text asked
+
+  pub err-clause : IsDetermined result → (r : Refusal) → Answers (question c) (Err r) →
+      (s : Refusal) × Answers (question c) (Err s) × SameRefusal r s × Line err err' (line_of c.words s)
+  err-clause d r asked =
+      let s = refused-as e.end (answered e) (determined d) (over-told (told_texts (question c)) _ _ asked) r asked in
+      (s.0, s.1, s.2, subst (EndSaid err err' c.words) s.3 e.said)
+
+  pub answered-clause : IsDetermined result → IsTold (question c) → (o : Outcome) × Answers (question c) o
+  answered-clause d told = is-answered e.end (answered e) (determined d) told
+
+  rose-clause : (word : ℕ) → e.end ≡ Err (refusal.ReadFault word) →
+      (file : NamedFile) × IsOneOf (files_named c.words) file × (file.word ≡ word) × Rose (c.files.faults (word_at c.words file.word)) (c.files'.faults (word_at c.words file.word))
+  rose-clause word is = read-rose c.words c.files c.files' (files_named c.words) e.done.texts word e.done.reads
+      (file-end (command_of c.words) (question c) c.out c.out' e.done.texts e.end word take.ReadFault (λ same. cc) e.done.does is)
+
+  pub complete-clause : (text : List ℕ) → Answers (question c) (Ok text) → Unmet c →
+      ¬ Rose c.out.faults c.out'.faults → (result ≡ status.Ok) ⊎ (result ≡ status.Memory)
+  complete-clause text asked quiet unmet =
+      subst (λ (s : Status). (s ≡ status.Ok) ⊎ (s ≡ status.Memory)) (sym e.status)
+      (unfailed-done e.end (answered e) (λ word is. let rose = rose-clause word is in quiet rose.0 rose.1 rose.3) unmet text asked)
+
+  pub read_fault-clause : result ≡ status.ReadFault → (file : NamedFile) × IsOneOf (files_named c.words) file ×
+      Rose (c.files.faults (word_at c.words file.word)) (c.files'.faults (word_at c.words file.word)) × Line err err' (line_of c.words (refusal.ReadFault file.word))
+  read_fault-clause is =
+      let end = fault-end e.end (sym e.status ∙ is) in
+      let rose = rose-clause end.0 end.1 in
+      (rose.0, rose.1, rose.3, subst (EndSaid err err' c.words) (end.1 ∙ ap (λ (n : ℕ). Err (refusal.ReadFault n)) (sym rose.2)) e.said)
+
+  pub too_long-clause : result ≡ status.TooLong → (file : NamedFile) × IsOneOf (files_named c.words) file × (c.files'.given ≡ file.limit + 1) ×
+      Line err err' (line_of c.words (refusal.TooLong file.word))
+  too_long-clause is =
+      let end = long-end e.end (sym e.status ∙ is) in
+      let long = read-long c.words c.files c.files' (files_named c.words) e.done.texts end.0 e.done.reads
+      (file-end (command_of c.words) (question c) c.out c.out' e.done.texts e.end end.0 take.TooLong (λ same. cc) e.done.does end.1) in
+      (long.0, long.1, long.3, subst (EndSaid err err' c.words) (end.1 ∙ ap (λ (n : ℕ). Err (refusal.TooLong n)) (sym long.2)) e.said)
+
+  pub gave_more-clause : (file : NamedFile) → files_named c.words ≡ file ∷ [] → c.files'.given ≡ file.limit + 1 → (result ≡ status.TooLong) ⊎ (result ≡ status.Memory)
+  gave_more-clause file one more =
+      subst (λ (s : Status). (s ≡ status.TooLong) ⊎ (s ≡ status.Memory)) (sym e.status)
+      (gave-end (command_of c.words) (question c) c.out c.out' e.done.texts e.end file.word
+      (read-gave_more c.words c.files c.files' file e.done.texts (subst (λ (l : List NamedFile). FilesRead c.words c.files c.files' l e.done.texts) one e.done.reads) more)
+      (some-files (command_of c.words) file one) e.done.does)
+
+  pub write_fault-clause : result ≡ status.WriteFault → Rose c.out.faults c.out'.faults
+  write_fault-clause is = fault-rose e.end (answered e) (sym e.status ∙ is)
+
+  pub cut-clause : result ≡ status.WriteFault → (text : List ℕ) → Answers (question c) (Ok text) → Part c.out c.out' text
+  cut-clause is text asked = fault-part e.end (answered e) (sym e.status ∙ is) text asked
+
+  pub memory-clause : result ≡ status.Memory → (text : List ℕ) → Answers (question c) (Ok text) → Prefix c.out c.out' text
+  memory-clause is text asked = memory-prefix e.end (answered e) (sym e.status ∙ is) text asked
+
+  pub silent-clause : result ≢ status.Ok → result ≢ status.WriteFault → (result ≡ status.Memory → ¬ CanStop (question c)) → Keeps c.out.written c.out'.written
+  silent-clause ok fault never = refused-silent e.end (answered e) (λ is. ok (e.status ∙ is)) (λ is. fault (e.status ∙ is)) (λ is. never (e.status ∙ is))
+
+  pub grows-clause : (text : List ℕ) × Appends c.out.written c.out'.written text
+  grows-clause = any-grows e.end (answered e)
+
+  pub said-clause : result ≢ status.Ok → (r : Refusal) × (status_of r ≡ result) × Line err err' (line_of c.words r)
+  said-clause not = let line = said-line err err' c.words e.end e.said (λ is. not (e.status ∙ is)) in (line.0, line.1 ∙ sym e.status, line.2)
+
+  pub unsaid-clause : result ≡ status.Ok → Keeps err.written err'.written
+  unsaid-clause ok = said-nothing err err' c.words e.end e.said (sym e.status ∙ ok)
+
+  pub held-clause : SameHeld c.files.held c.files'.held
+  held-clause = read-held c.words c.files c.files' (files_named c.words) e.done.texts e.done.reads
+
+  pub quiet-clause : result ≢ status.ReadFault → SameCounts c.files.faults c.files'.faults
+  quiet-clause not = read-quiet c.words c.files c.files' (files_named c.words) e.done.texts e.done.reads
+      (λ word is. not-fault (command_of c.words) (question c) c.out c.out' e.done.texts e.end word (no-files (command_of c.words) c.words c.files c.files' e.done.texts e.done.reads) e.done.does (λ s. not (e.status ∙ s)) is)
+
+  pub others-clause : OthersKept (λ name. (file : NamedFile) × IsOneOf (files_named c.words) file × (name ≡ word_at c.words file.word)) c.files.held c.files.faults c.files'.faults
+  others-clause = read-others c.words c.files c.files' (files_named c.words) e.done.texts e.done.reads

@@ -6,6 +6,8 @@ pub mod Ordering
 pub mod Parts
 pub mod Reading
 pub mod Readings
+pub mod Seen
 pub mod Stopping
 pub mod Tokens
 pub mod Trees
+pub mod Works

@@ -1,57 +1,58 @@
 -- What a call does, and how it ended: `Ended` is all that `lucid` promises.
-use Rattle.std.specs.Prelude.{◌≡◌, ℕ, List, [], Option, Some, None, Ok, Err, map, String, string_bytes}
+use Rattle.std.specs.Prelude.{◌≡◌, ℕ, List, Option, Some, None, Ok, Err, map, String, string_bytes}
 use Rattle.std.specs.declared.alloc.Global.{Global}
 use Rattle.lucid_io.specs.Counts.{Rose}
 use Rattle.lucid_top.specs.declared.command.Command.{Command}
 use Rattle.lucid_top.specs.declared.command.NamedFile.{NamedFile}
 use Rattle.lucid_top.specs.declared.refusal.Refusal.TheVariants as refusal
 use Rattle.lucid_top.specs.declared.status.Status.{Status}
-use Rattle.lucid_top.specs.Answer.{Answers, CommandAnswers, IsTold, MayStop}
-use Rattle.lucid_top.specs.Command.{command_of, files_of}
-use Rattle.lucid_top.specs.Files.{Faults, Held, Texts, FilesRead, IsOneOf}
-use Rattle.lucid_top.specs.Outcome.{End, Outcome, end_status}
+use Rattle.lucid_top.specs.Answer.{Question, CommandAnswers, MayStop, command_files, given}
+use Rattle.lucid_top.specs.Command.{command_of}
+use Rattle.lucid_top.specs.Files.{Texts, FilesRead, IsOneOf}
+use Rattle.lucid_top.specs.Outcome.{End, end_status}
 use Rattle.lucid_top.specs.Refusal.{line_of}
+use Rattle.lucid_top.specs.Views.{FilesView, Held, SinkView}
 use Rattle.lucid_top.specs.Words.{Bytes, word_at}
 use Rattle.lucid_top.specs.Writing.{Said, Untouched, Performs}
 
--- the command is performed over the texts that were read; where a file was not taken, that is the end
-abbrev pub PerformsOver : {W : Type 0} → (W → Option Bytes) → (W → ℕ) → W → W → Command → List Bytes → Texts → End → Type 0
-PerformsOver written faults out out' c words (Err r) end = (end ≡ Err r) × Untouched written faults out out'
-PerformsOver written faults out out' c words (Ok texts) end =
-    Performs (MayStop c texts) (CommandAnswers c words texts) written faults out out' end
+-- a call: its words, and the files and the output that it was handed, before and after; `err` is apart, since the work is done before it is
+-- written
+pub record Call : Type 0 where
+  pub words : List Bytes
+  pub files : FilesView
+  pub files' : FilesView
+  pub out : SinkView
+  pub out' : SinkView
 
--- what a call of these words does to files and output: it reads the files that they name, and performs the command over their texts
-abbrev pub Does : {F W : Type 0} → (F → Held) → (F → ℕ) → (F → Faults) → F → F → (W → Option Bytes) → (W → ℕ) → W → W →
-    List Bytes → Option Command → End → Type 0
-Does held given counts files files' written faults out out' words None end =
-    (files' ≡ files) × Untouched written faults out out' × (end ≡ Err refusal.Usage)
-Does held given counts files files' written faults out out' words (Some c) end =
-    (texts : Texts) × FilesRead held given counts words files files' (files_of c) texts
-    × PerformsOver written faults out out' c words texts end
+-- what determines its answer
+abbrev pub question : Call → Question
+question c = record { words = c.words; held = c.files.held }
+
+-- The command is performed over the texts that were read; where a file was not taken, that is the end, and where the words are no
+-- command, `Usage`.
+abbrev pub PerformsOver : Option Command → Question → SinkView → SinkView → Texts → End → Type 0
+PerformsOver None q out out' texts end = (end ≡ Err refusal.Usage) × Untouched SinkView.written SinkView.faults out out'
+PerformsOver (Some c) q out out' (Err r) end = (end ≡ Err r) × Untouched SinkView.written SinkView.faults out out'
+PerformsOver (Some c) q out out' (Ok texts) end =
+    Performs (MayStop c (given q texts)) (CommandAnswers c (given q texts)) SinkView.written SinkView.faults out out' end
 
 -- nothing at Ok, else the line of the refusal
-abbrev pub EndSaid : {E : Type 0} → (E → Option Bytes) → (E → ℕ) → E → E → List Bytes → End → Type 0
-EndSaid err_written err_faults err err' words (Ok u) = Untouched err_written err_faults err err'
-EndSaid err_written err_faults err err' words (Err r) = Said err_written err_faults err err' (line_of words r)
+abbrev pub EndSaid : SinkView → SinkView → List Bytes → End → Type 0
+EndSaid err err' words (Ok u) = Untouched SinkView.written SinkView.faults err err'
+EndSaid err err' words (Err r) = Said SinkView.written SinkView.faults err err' (line_of words r)
 
--- how a call of these words ended: its status, what it did to files and output, and what it wrote to `err`
-pub record Ended {F W E : Type 0} (held : F → Held) (given : F → ℕ) (counts : F → Faults) (files files' : F)
-    (written : W → Option Bytes) (faults : W → ℕ) (out out' : W)
-    (err_written : E → Option Bytes) (err_faults : E → ℕ) (err err' : E) (words : List Bytes) (result : Status) : Type 0 where
+-- what a call did, up to this end: it read the files that the words name, and performed the command over their texts
+pub record Done (c : Call) (end : End) : Type 0 where
+  pub texts : Texts
+  pub reads : FilesRead c.words c.files c.files' (command_files (command_of c.words)) texts
+  pub does : PerformsOver (command_of c.words) (question c) c.out c.out' texts end
+
+-- how a call ended: its status, what it did, and what it wrote to `err`
+pub record Ended (c : Call) (err err' : SinkView) (result : Status) : Type 0 where
   pub end : End
   pub status : result ≡ end_status end
-  pub does : Does held given counts files files' written faults out out' words (command_of words) end
-  pub said : EndSaid err_written err_faults err err' words end
-
--- the words that name files
-abbrev pub command_files : Option Command → List NamedFile
-command_files None = []
-command_files (Some c) = files_of c
-
--- the command may run out of memory after it began to write, over some texts
-abbrev pub CommandStops : Option Command → Type 0
-CommandStops None = ⊥
-CommandStops (Some c) = (texts : List Bytes) × MayStop c texts
+  pub done : Done c end
+  pub said : EndSaid err err' c.words end
 
 -- ---- the same over the words as the call takes them
 
@@ -61,8 +62,11 @@ Words = List (String Global)
 abbrev pub bytes_of : Words → List Bytes
 bytes_of words = map string_bytes words
 
+abbrev pub files_named : List Bytes → List NamedFile
+files_named words = command_files (command_of words)
+
 abbrev pub named_files : Words → List NamedFile
-named_files words = command_files (command_of (bytes_of words))
+named_files words = files_named (bytes_of words)
 
 -- this file is one that the words name
 abbrev pub Names : Words → NamedFile → Type 0
@@ -76,16 +80,10 @@ abbrev pub IsNamed : Words → Bytes → Type 0
 IsNamed words name = (file : NamedFile) × Names words file × (name ≡ name_of words file)
 
 -- no count of a named file rose
-abbrev pub Unfailed : {F : Type 0} → (F → Faults) → F → F → Words → Type 0
+abbrev pub Unfailed : {F : Type 0} → (F → Bytes → ℕ) → F → F → Words → Type 0
 Unfailed counts old new words =
     (file : NamedFile) → Names words file → ¬ Rose (counts old (name_of words file)) (counts new (name_of words file))
 
--- this is what the words ask for over these files
-abbrev pub Asked : {F : Type 0} → (F → Held) → F → Words → Outcome → Type 0
-Asked held files words o = Answers (bytes_of words) (held files) o
-
-abbrev pub Told : {F : Type 0} → (F → Held) → F → Words → Type 0
-Told held files words = IsTold (bytes_of words) (held files)
-
-abbrev pub CanStop : Words → Type 0
-CanStop words = CommandStops (command_of (bytes_of words))
+-- what determines the answer of these words, over what files hold
+abbrev pub asked : Words → Held → Question
+asked words held = record { words = bytes_of words; held = held }

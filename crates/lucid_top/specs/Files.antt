@@ -1,5 +1,5 @@
 -- The files that the words name: how they are read in word order, and what they are told to hold. This page owns all that is said
--- of statuses 2 and 3. `held`, `given` and `faults` are those of the files.
+-- of statuses 2 and 3.
 use Rattle.std.specs.Prelude.{◌≡◌, ◌≢◌, ℕ, ◌+◌, ◌<◌, ◌≤◌, ◌⊎◌, List, [], ◌∷◌, ◌++◌, Option, Some, None, Result, Ok, Err, IfSome, if◌then◌else◌}
 use Rattle.std.specs.Prelude.{length, map, nat_lt, option_map, Vec}
 use Rattle.std.specs.declared.alloc.Global.{Global}
@@ -10,15 +10,8 @@ use Rattle.lucid_io.specs.declared.reading.Take.TheVariants as take
 use Rattle.lucid_top.specs.declared.command.NamedFile.{NamedFile}
 use Rattle.lucid_top.specs.declared.refusal.Refusal.{Refusal}
 use Rattle.lucid_top.specs.declared.refusal.Refusal.TheVariants as refusal
+use Rattle.lucid_top.specs.Views.{FilesView, Held}
 use Rattle.lucid_top.specs.Words.{Bytes, word_at}
-
--- what a name holds, where that is told
-abbrev pub Held : Type 0
-Held = Bytes → Option Bytes
-
--- the count of faults of each name
-abbrev pub Faults : Type 0
-Faults = Bytes → ℕ
 
 -- the texts of files in word order, or why one was not taken
 abbrev pub Texts : Type 0
@@ -36,43 +29,41 @@ before text (Ok texts) = Ok (text ∷ texts)
 before text (Err r) = Err r
 
 -- the file of this name was read whole
-pub record ReadsWhole {T : Type 0} (held : T → Held) (given : T → ℕ) (faults : T → Faults)
-    (old new : T) (name : Bytes) (limit : ℕ) (text : Bytes) : Type 0 where
-  pub bytes : IfSome (held old name) (λ bytes. text ≡ bytes)
+pub record ReadsWhole (old new : FilesView) (name : Bytes) (limit : ℕ) (text : Bytes) : Type 0 where
+  pub bytes : IfSome (old.held name) (λ bytes. text ≡ bytes)
   pub within : length text ≤ limit
-  pub gave : given new ≡ length text
-  pub same : SameHeld (held old) (held new)
-  pub quiet : SameCounts (faults old) (faults new)
+  pub gave : new.given ≡ length text
+  pub same : SameHeld old.held new.held
+  pub quiet : SameCounts old.faults new.faults
 
 -- the file of this name was not taken, and this is why
-pub record ReadsNot {T : Type 0} (held : T → Held) (given : T → ℕ) (faults : T → Faults)
-    (old new : T) (name : Bytes) (limit : ℕ) (why : Take) : Type 0 where
-  pub read_fault : why ≡ take.ReadFault → Rose (faults old name) (faults new name)
-  pub too_long : why ≡ take.TooLong → given new ≡ limit + 1
-  pub gave_more : given new ≡ limit + 1 → (why ≡ take.TooLong) ⊎ (why ≡ take.Memory)
-  pub longer : why ≡ take.TooLong → IfSome (held old name) (λ bytes. limit < length bytes)
-  pub same : SameHeld (held old) (held new)
-  pub later : NoneFell (faults old) (faults new)
-  pub quiet : why ≢ take.ReadFault → SameCounts (faults old) (faults new)
-  pub others : OthersKept (λ other. other ≡ name) (held old) (faults old) (faults new)
+pub record ReadsNot (old new : FilesView) (name : Bytes) (limit : ℕ) (why : Take) : Type 0 where
+  pub read_fault : why ≡ take.ReadFault → Rose (old.faults name) (new.faults name)
+  pub too_long : why ≡ take.TooLong → new.given ≡ limit + 1
+  pub gave_more : new.given ≡ limit + 1 → (why ≡ take.TooLong) ⊎ (why ≡ take.Memory)
+  pub longer : why ≡ take.TooLong → IfSome (old.held name) (λ bytes. limit < length bytes)
+  pub same : SameHeld old.held new.held
+  pub later : NoneFell old.faults new.faults
+  pub quiet : why ≢ take.ReadFault → SameCounts old.faults new.faults
+  pub others : OthersKept (λ other. other ≡ name) old.held old.faults new.faults
 
 -- this file was read whole, and its text comes after those before
-abbrev pub ReadsOne : {T : Type 0} → (T → Held) → (T → ℕ) → (T → Faults) → List Bytes → T → T → NamedFile → List Bytes → List Bytes → Type 0
-ReadsOne held given faults words old new file texts texts' =
-    (text : Bytes) × ReadsWhole held given faults old new (word_at words file.word) file.limit text × (texts' ≡ texts ++ text ∷ [])
+abbrev pub ReadsOne : List Bytes → FilesView → FilesView → NamedFile → List Bytes → List Bytes → Type 0
+ReadsOne words old new file texts texts' =
+    (text : Bytes) × ReadsWhole old new (word_at words file.word) file.limit text × (texts' ≡ texts ++ text ∷ [])
 
 -- this file was refused so
-abbrev pub ReadsNone : {T : Type 0} → (T → Held) → (T → ℕ) → (T → Faults) → List Bytes → T → T → NamedFile → Refusal → Type 0
-ReadsNone held given faults words old new file r =
-    (why : Take) × ReadsNot held given faults old new (word_at words file.word) file.limit why × (r ≡ of_take file.word why)
+abbrev pub ReadsNone : List Bytes → FilesView → FilesView → NamedFile → Refusal → Type 0
+ReadsNone words old new file r =
+    (why : Take) × ReadsNot old new (word_at words file.word) file.limit why × (r ≡ of_take file.word why)
 
 -- The files were read in word order, each whole, up to the end or to the first that was refused.
-abbrev pub FilesRead : {T : Type 0} → (T → Held) → (T → ℕ) → (T → Faults) → List Bytes → T → T → List NamedFile → Texts → Type 0
-FilesRead held given faults words old new [] end = (new ≡ old) × (end ≡ Ok [])
-FilesRead {T} held given faults words old new (file ∷ rest) end =
-    ((r : Refusal) × ReadsNone held given faults words old new file r × (end ≡ Err r))
-    ⊎ ((mid : T) × (text : Bytes) × (later : Texts) × ReadsWhole held given faults old mid (word_at words file.word) file.limit text
-    × FilesRead held given faults words mid new rest later × (end ≡ before text later))
+abbrev pub FilesRead : List Bytes → FilesView → FilesView → List NamedFile → Texts → Type 0
+FilesRead words old new [] end = (new ≡ old) × (end ≡ Ok [])
+FilesRead words old new (file ∷ rest) end =
+    ((r : Refusal) × ReadsNone words old new file r × (end ≡ Err r))
+    ⊎ ((mid : FilesView) × (text : Bytes) × (later : Texts) × ReadsWhole old mid (word_at words file.word) file.limit text
+    × FilesRead words mid new rest later × (end ≡ before text later))
 
 -- the texts, as the code holds them
 abbrev pub texts_in : List (Vec ℕ Global) → List Bytes

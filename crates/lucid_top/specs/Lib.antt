@@ -10,5 +10,6 @@ pub mod Refusal
 pub mod RunWhole
 pub mod Settings
 pub mod Status
+pub mod Views
 pub mod Words
 pub mod Writing

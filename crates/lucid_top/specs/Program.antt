@@ -1,4 +1,5 @@
--- From a program's text to the program, part by part: tokens, tree, types, order. Every command that takes a program begins so.
+-- From a program's text to the program, part by part: tokens, tree, types, order. Every command that takes a program begins so. What comes
+-- after the tokens knows a text by its source alone: a part that changes texts before they are parsed would stand in `IsSource`.
 use Rattle.std.specs.Prelude.{◌≡◌, ℕ, ◌-◌, List, [], ◌∷◌, Option, None, Some, Result, Ok, Err, if◌then◌else◌, map, nat_eq, option_map, slice_get}
 use Rattle.std.specs.List.{find}
 use Rattle.std.specs.Option.{option_and_then, option_or, unwrap_or}
@@ -28,6 +29,18 @@ abbrev pub AreTokens : Bytes → Result (List Token) Refusal → Type 0
 AreTokens text (Ok ts) = Reads text ts
 AreTokens text (Err (refusal.NoToken at)) = StopsAt text at
 AreTokens text (Err r) = ⊥
+
+-- a text and its tokens
+pub record Source : Type 0 where
+  pub text : Bytes
+  pub tokens : List Token
+
+abbrev pub source : Bytes → List Token → Source
+source text ts = record { text = text; tokens = ts }
+
+-- the source of the text, or the reason why it has none
+abbrev pub IsSource : Bytes → Result Source Refusal → Type 0
+IsSource text o = FollowedBy (AreTokens text) (λ ts p. p ≡ Ok (source text ts)) o
 
 -- the tree that the tokens spell; or the first token at which nesting is too deep, and else that of the first declaration without a tree
 abbrev pub IsParsed : Bytes → List Token → Result Tree Refusal → Type 0
@@ -87,4 +100,4 @@ IsProgramFrom text ts o = FollowedBy (IsParsed text ts) IsProgramOf o
 
 -- the program of the text, or the reason why it has none
 abbrev pub IsProgram : Bytes → Result Parts Refusal → Type 0
-IsProgram text o = FollowedBy (AreTokens text) (IsProgramFrom text) o
+IsProgram text o = FollowedBy (IsSource text) (λ s. IsProgramFrom s.text s.tokens) o

@@ -1,6 +1,6 @@
 // The commands, one file each, and the one match over them. A command prepares what is to be written, or refuses, and then writes it.
 ghost use Rattle.std.specs.Prelude.{◌≡◌, length, map, string_bytes};
-ghost use Rattle.lucid_top.specs.Answer.{CommandAnswers, MayStop};
+ghost use Rattle.lucid_top.specs.Answer.{CommandAnswers, Given, MayStop};
 ghost use Rattle.lucid_top.specs.Command.{files_of};
 ghost use Rattle.lucid_top.specs.Files.{texts_in};
 ghost use Rattle.lucid_top.specs.Writing.{Performs};
@@ -26,8 +26,8 @@ pub fn perform<W: Sink>(
     out: &mut W,
 ) -> Result<(), Refusal>
     requires { length texts.now ≡ length (files_of command) }
-    ensures { let texts' = texts_in texts.now in let answers = CommandAnswers command (map string_bytes words.now) texts' in
-        Performs (MayStop command texts') answers W.written W.faults out.old out.new result }
+    ensures { let g : Given = record { words = map string_bytes words.now; texts = texts_in texts.now } in
+        Performs (MayStop command g) (CommandAnswers command g) W.written W.faults out.old out.new result }
 {
     match command {
         Command::Check => check(alloc, texts, out),

@@ -1,6 +1,7 @@
 // The files that the words name, read in word order. All that is said of statuses 2 and 3 comes from here.
 ghost use Rattle.std.specs.Prelude.{◌<◌, ◌^◌, All, OnOk, IfErr, length, map, string_bytes};
 ghost use Rattle.lucid_top.specs.Files.{FilesRead, ReadsOne, ReadsNone, texts_of, texts_in};
+ghost use Rattle.lucid_top.specs.Views.{files_view};
 
 use crate::command::NamedFile;
 use crate::refusal::Refusal;
@@ -16,8 +17,8 @@ pub fn read_files<F: Files>(
 ) -> Result<Vec<Vec<u8>>, Refusal>
     requires there { All (λ file. file.word < length words.now) named.now }
     requires small { All (λ file. file.limit < 2 ^ 32) named.now }
-    ensures { let words' = map string_bytes words.now in
-        FilesRead F.held F.given F.faults words' files.old files.new named.now (texts_of result) }
+    ensures { let seen = files_view F.held F.given F.faults in
+        FilesRead (map string_bytes words.now) (seen files.old) (seen files.new) named.now (texts_of result) }
 {
     let mut texts = Vec::new(alloc);
     for file in named {
@@ -36,10 +37,10 @@ fn read_next<F: Files>(
 ) -> Result<(), Refusal>
     requires there { file.now.word < length words.now }
     requires small { file.now.limit < 2 ^ 32 }
-    ensures whole { let words' = map string_bytes words.now in let before = texts_in texts.old.items in
-        OnOk result (ReadsOne F.held F.given F.faults words' files.old files.new file.now before (texts_in texts.new.items)) }
-    ensures not { let words' = map string_bytes words.now in
-        IfErr result (λ r. ReadsNone F.held F.given F.faults words' files.old files.new file.now r) }
+    ensures whole { let seen = files_view F.held F.given F.faults in let before = texts_in texts.old.items in
+        OnOk result (ReadsOne (map string_bytes words.now) (seen files.old) (seen files.new) file.now before (texts_in texts.new.items)) }
+    ensures not { let seen = files_view F.held F.given F.faults in
+        IfErr result (λ r. ReadsNone (map string_bytes words.now) (seen files.old) (seen files.new) file.now r) }
 {
     match read_all(alloc, files, words[file.word].as_str(), file.limit) {
         Ok(text) => {

@@ -5,6 +5,7 @@
 
 mod command;
 mod commands;
+mod example;
 mod files;
 mod number;
 mod program;
@@ -13,5 +14,6 @@ mod settings;
 mod status;
 mod top;
 
+pub use example::answers_are_there;
 pub use status::{Status, faults_alone_are_free};
 pub use top::lucid;

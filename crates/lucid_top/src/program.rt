@@ -4,8 +4,8 @@ ghost use Rattle.std.specs.List.{find};
 ghost use Rattle.std.specs.Option.{unwrap_or};
 ghost use Rattle.lucid_lex.specs.Reading.{Reads};
 ghost use Rattle.lucid_top.specs.Outcome.{Prepares};
-ghost use Rattle.lucid_top.specs.Program.{AreTokens, IsElaborated, IsOrdered, IsParsed, IsProgram, IsProgramFrom, IsProgramOf};
-ghost use Rattle.lucid_top.specs.Program.{array_name, array_param as array_param_of, declared_line, param_of};
+ghost use Rattle.lucid_top.specs.Program.{AreTokens, IsElaborated, IsOrdered, IsParsed, IsProgram, IsProgramFrom, IsProgramOf, IsSource};
+ghost use Rattle.lucid_top.specs.Program.{array_name, array_param as array_param_of, declared_line, param_of, source};
 
 use crate::refusal::Refusal;
 use lucid_base::{ArrayName, Id, Memory, Steps, uncounted};
@@ -22,8 +22,17 @@ use std::sync::ledger::{Blank, Ledger};
 pub fn accepted(alloc: Global, text: &[u8]) -> Result<Core, Refusal>
     ensures { Prepares (IsProgram text.now) (λ core. core) result }
 {
-    let tokens = tokens_of(alloc, text)?;
+    let tokens = source_of(alloc, text)?;
     accepted_tokens(alloc, text, tokens.as_slice())
+}
+
+// The tokens of the source of the text. Its own text is the one that was given.
+fn source_of(alloc: Global, text: &[u8]) -> Result<Vec<Token>, Refusal>
+    ensures source { Prepares (IsSource text.now) (λ tokens. source text.now tokens.items) result }
+    ensures read { IfOk result (λ tokens. Reads text.now tokens.items) }
+{
+    let tokens = tokens_of(alloc, text)?;
+    Ok(tokens)
 }
 
 // The program that the tokens of the text spell.

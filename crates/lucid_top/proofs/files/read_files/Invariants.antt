@@ -1,10 +1,11 @@
 use Rattle.std.proofs.Common.{drop, map, string_bytes}
 use Rattle.lucid_top.specs.Files.{texts_in}
+use Rattle.lucid_top.specs.Views.{files_view}
 use Rattle.lucid_top.proofs.Reading.{SoFar}
 use Rattle.lucid_top.proofs.files.read_files.Given as goal
 
 -- the files that are left
 abbrev pub invariant-loop-file : goal.invariant-loop-file
 invariant-loop-file g l =
-    SoFar g.F.Files.held g.F.Files.given g.F.Files.faults (map string_bytes l.words) l.fn.files l.files
-    l.named (drop l.file-index l.named) (texts_in l.texts.items)
+    let seen = files_view g.F.Files.held g.F.Files.given g.F.Files.faults in
+    SoFar (map string_bytes l.words) (seen l.fn.files) (seen l.files) l.named (drop l.file-index l.named) (texts_in l.texts.items)

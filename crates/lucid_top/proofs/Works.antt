@@ -1,0 +1,41 @@
+-- How the work of a call ends: each of its three exits.
+use Rattle.std.proofs.Common.{◌≡◌, ℕ, List, [], Option, Some, None, Ok, Err, refl, sym, subst, Vec, Global}
+use Rattle.lucid_top.specs.declared.command.Command.{Command}
+use Rattle.lucid_top.specs.declared.command.NamedFile.{NamedFile}
+use Rattle.lucid_top.specs.declared.refusal.Refusal.{Refusal}
+use Rattle.lucid_top.specs.declared.refusal.Refusal.TheVariants as refusal
+use Rattle.lucid_top.specs.Answer.{command_files}
+use Rattle.lucid_top.specs.Call.{Call, Done, PerformsOver, question}
+use Rattle.lucid_top.specs.Command.{command_of, files_of}
+use Rattle.lucid_top.specs.Files.{FilesRead, texts_in}
+use Rattle.lucid_top.specs.Outcome.{End}
+use Rattle.lucid_top.proofs.Seen.{Nothing}
+
+-- the words are no command
+pub does-usage : (c : Call) → command_of c.words ≡ None → c.files' ≡ c.files → Nothing c.out c.out' →
+    Done c (Err refusal.Usage)
+does-usage c is files nothing = record {
+  texts = Ok [];
+  reads = subst (λ (o : Option Command). FilesRead c.words c.files c.files' (command_files o) (Ok [])) (sym is) (files, refl);
+  does = subst (λ (o : Option Command). PerformsOver o (question c) c.out c.out' (Ok []) (Err refusal.Usage)) (sym is) (refl, nothing);
+}
+
+-- a file was not taken
+pub does-refused : (d : Command) (c : Call) {named : List NamedFile} {r : Refusal} {end : End} → command_of c.words ≡ Some d → named ≡ files_of d →
+    FilesRead c.words c.files c.files' named (Err r) → end ≡ Err r → Nothing c.out c.out' → Done c end
+does-refused d c {named} {r} {end} is names reads ends nothing = record {
+  texts = Err r;
+  reads = subst (λ (o : Option Command). FilesRead c.words c.files c.files' (command_files o) (Err r)) (sym is) (subst (λ (l : List NamedFile). FilesRead c.words c.files c.files' l (Err r)) names reads);
+  does = subst (λ (o : Option Command). PerformsOver o (question c) c.out c.out' (Err r) end) (sym is) (ends, nothing);
+}
+
+-- all files were read, and the command was performed over their texts
+pub does-performed : (d : Command) (c : Call) {named : List NamedFile} {vs slice : List (Vec ℕ Global)} {end : End} → command_of c.words ≡ Some d → named ≡ files_of d →
+    FilesRead c.words c.files c.files' named (Ok (texts_in vs)) → slice ≡ vs → PerformsOver (Some d) (question c) c.out c.out' (Ok (texts_in slice)) end → Done c end
+does-performed d c {named} {vs} {slice} {end} is names reads same performs = record {
+  texts = Ok (texts_in slice);
+  reads = subst (λ (o : Option Command). FilesRead c.words c.files c.files' (command_files o) (Ok (texts_in slice))) (sym is)
+      (subst (λ (l : List (Vec ℕ Global)). FilesRead c.words c.files c.files' (files_of d) (Ok (texts_in l))) (sym same)
+      (subst (λ (l : List NamedFile). FilesRead c.words c.files c.files' l (Ok (texts_in vs))) names reads));
+  does = subst (λ (o : Option Command). PerformsOver o (question c) c.out c.out' (Ok (texts_in slice)) end) (sym is) performs;
+}
