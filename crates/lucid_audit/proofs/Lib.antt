@@ -7,4 +7,5 @@ mod FitsKeep
 mod FitsAccepted
 mod AuditExamples
 mod Counted
+mod CountsRefuse
 mod OneAudit

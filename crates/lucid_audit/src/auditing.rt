@@ -1,8 +1,7 @@
 // The audit of a placement.
-ghost use Rattle.std.specs.Prelude.{◌≡◌, ◌<◌, ◌^◌, [], length, map, IfOk, IfErr, OnOk};
+ghost use Rattle.std.specs.Prelude.{◌≡◌, ◌<◌, ◌^◌, [], length, map, IfOk, IfErr};
 ghost use Rattle.std.specs.List.{AllByRecursion};
 ghost use Rattle.lucid_conf.specs.Kept.{AreLimits};
-ghost use Rattle.lucid_layout.specs.Counts.{CountsFit};
 ghost use Rattle.lucid_layout.specs.Fit.{seats as seats_of};
 ghost use Rattle.lucid_layout.specs.Nodes.{nodes as nodes_of, works as works_of};
 ghost use Rattle.lucid_layout.specs.Search.{Within};
@@ -19,7 +18,7 @@ use crate::{AuditError, Plan};
 use lucid_base::Memory;
 use lucid_code::Code;
 use lucid_conf::Limits;
-use lucid_layout::{FitError, Seat, Stage, nodes, stage_codes, test_counts};
+use lucid_layout::{Seat, Stage, nodes, stage_codes, test_counts};
 use lucid_merge::{guards_contradict, products_act, products_name};
 use lucid_tables::Placed;
 use std::alloc::Global;
@@ -27,33 +26,20 @@ use std::alloc::Global;
 /// The code in the stages and tables of a plan, which has a place for each node (asked of the caller): Ok exactly where the counts of the
 /// code keep their limits and the places of its nodes the rules (`IsAudited` of specs/Audit), and else the first cause (`IsRefused` of
 /// specs/Refused). A pass through the stages does what the code does, as `Placed::code` tells.
+#[tactic(auto, using(crate::proofs::CountsRefuse::counts_refuse))]
 pub fn audit(alloc: Global, code: Code, limits: &Limits, plan: &Plan) -> Result<Placed, AuditError>
     requires limits { AreLimits limits.now }
     requires pairs { length plan.now.pairs ≡ length (nodes_of code.ops) }
     ensures ok { IfOk result (IsAudited code limits.now (pairs_of plan.now.pairs)) }
     ensures err { IfErr result (IsRefused code limits.now (pairs_of plan.now.pairs)) }
 {
-    counts(alloc, &code, limits)?;
+    test_counts(alloc, &code, limits)?;
     let nodes = nodes(alloc, &code)?;
     let seats = seats(alloc, code.ops(), nodes.as_slice(), plan.pairs.as_slice())?;
     let stages = audited(alloc, &code, seats.as_slice(), limits)?;
     match placed(alloc, code, limits, seats.as_slice(), stages) {
         Ok(placed) => Ok(placed),
         Err(Memory) => Err(AuditError::Memory),
-    }
-}
-
-/// The test of the counts. It names no node, so that first fit's other cause doesn't come.
-fn counts(alloc: Global, code: &Code, limits: &Limits) -> Result<(), AuditError>
-    ensures ok { OnOk result (CountsFit code.now limits.now) }
-    ensures err { (ps : _) → IfErr result (IsRefused code.now limits.now ps) }
-{
-    match test_counts(alloc, code, limits) {
-        Ok(()) => Ok(()),
-        Err(FitError::Ops(n)) => Err(AuditError::Ops(n)),
-        Err(FitError::Fields(n)) => Err(AuditError::Fields(n)),
-        Err(FitError::Arms(array)) => Err(AuditError::Arms(array)),
-        Err(FitError::Node(_) | FitError::Memory) => Err(AuditError::Memory),
     }
 }
 

@@ -1,8 +1,10 @@
 // Why a placement is refused.
 ghost use Rattle.std.specs.Prelude.{◌≡◌};
 ghost use Rattle.lucid_audit.specs.declared.error.AuditError.TheVariants as error;
+ghost use Rattle.lucid_audit.specs.Refused.{audit_error};
 
 use lucid_base::Memory;
+use lucid_layout::CountError;
 use std::alloc::{AllocError, AllocFailed};
 
 /// Why a placement is refused (`IsRefused` of specs/Refused), in the order in which the causes are tried.
@@ -24,6 +26,19 @@ pub enum AuditError {
     Arrays(u32),
     /// Memory ran out.
     Memory,
+}
+
+impl From<CountError> for AuditError {
+    ghost from_gives = { λ c e. e ≡ audit_error c };
+
+    fn from(error: CountError) -> AuditError {
+        match error {
+            CountError::Ops(n) => AuditError::Ops(n),
+            CountError::Fields(n) => AuditError::Fields(n),
+            CountError::Arms(array) => AuditError::Arms(array),
+            CountError::Memory => AuditError::Memory,
+        }
+    }
 }
 
 impl From<Memory> for AuditError {

@@ -20,6 +20,7 @@ use std::alloc::Global;
 
 /// The code in stages and tables by first fit: Ok exactly where its counts keep their limits and each node has a place (`IsLayout` of
 /// specs/Layout), and else the first cause (`IsRefused`). A pass through the stages does what the code does, as `Placed::code` tells.
+#[tactic(auto, using(crate::proofs::CountsRefuse::counts_refuse))]
 pub fn place(alloc: Global, code: &Code, limits: &Limits) -> Result<Placed, FitError>
     requires { AreLimits limits.now }
     ensures ok { IfOk result (IsLayout code.now limits.now) }

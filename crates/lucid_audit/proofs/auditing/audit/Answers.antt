@@ -1,24 +1,18 @@
-use Rattle.std.proofs.Common.{rules, ◌≡◌, sym, ap, subst, length, ◌∙◌, arith}
+use Rattle.std.proofs.Common.{◌≡◌, sym, ap, subst, length, ◌∙◌, arith}
 use Rattle.std.specs.List.{AllByRecursion}
 use Rattle.lucid_layout.specs.Fit.{seats}
 use Rattle.lucid_layout.specs.Nodes.{works}
 use Rattle.lucid_layout.specs.Search.{Within}
 use Rattle.lucid_layout.proofs.Numbers.{ops_within, writes_within, no_more_works}
 use Rattle.lucid_audit.specs.Audit.{pairs_of}
-use Rattle.lucid_audit.specs.Refused.{IsRefused}
-use Rattle.lucid_audit.proofs.Widths.{err_from}
 use Rattle.lucid_audit.proofs.Places.{seats_are, seats_few, each_seat}
 use Rattle.lucid_audit.proofs.auditing.audit.Goals as goal
-
-pub returns-in_err-counts-clause-err : goal.returns-in_err-counts-clause-err
-returns-in_err-counts-clause-err c = err_from (IsRefused c.args.code c.args.limits.now (pairs_of c.args.plan.now.pairs)) c.from_residual.result c.in_err-counts.field-0.0 (search rules)
-    (c.in_err-counts.ensures.err (pairs_of c.args.plan.now.pairs))
 
 pub audited-requires-clause-few : goal.audited-requires-clause-few
 audited-requires-clause-few c =
     let are : c.as_slice-3.result.now ≡ seats (works c.args.code.ops) (pairs_of c.args.plan.now.pairs) =
     c.as_slice-3.ensures.value ∙ c.in_ok-seats.ensures ∙ seats_are _ c.args.code.ops _ _ _ c.args.plan.now.pairs c.ops.ensures.value (c.as_slice.ensures.value ∙ c.in_ok-nodes.ensures) c.as_slice-2.ensures in
-    omega (arith, c.in_ok-counts.ensures.ok.ops, no_more_works c.args.code.ops, ap length are, seats_few (works c.args.code.ops) (pairs_of c.args.plan.now.pairs))
+    omega (arith, c.in_ok-test_counts.ensures.ok.ops, no_more_works c.args.code.ops, ap length are, seats_few (works c.args.code.ops) (pairs_of c.args.plan.now.pairs))
 
 pub audited-requires-clause-ops : goal.audited-requires-clause-ops
 audited-requires-clause-ops c =

@@ -1,0 +1,3 @@
+mod ArraysThere
+mod Puts
+mod TextExamples
