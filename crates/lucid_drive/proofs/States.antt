@@ -46,7 +46,7 @@ pub step_is : (d : Drive) (n : ℕ) (s : Step) → n < length d.scene.steps → 
 step_is d n s lt this =
     ap (λ (o : Option Step). option_map_or (does d (progress_at d n 0)) o (stays [] (progress_at d n 0))) (slice_get-get_or d.scene.steps n s lt ∙ ap (λ (x : Step). Some x) (sym this))
 
-next_is : (d : Drive) (n : ℕ) (s : Step) → n < length d.scene.steps → s ≡ get_or d.scene.steps n s → progress_at d (n + 1) 0 ≡ (does d (progress_at d n 0) s).progress
+pub next_is : (d : Drive) (n : ℕ) (s : Step) → n < length d.scene.steps → s ≡ get_or d.scene.steps n s → progress_at d (n + 1) 0 ≡ (does d (progress_at d n 0) s).progress
 next_is d n s lt this =
     ap (λ (m : ℕ). progress_from d (begun d) (take m d.scene.steps)) (add-one n)
     ∙ ap (progress_from d (begun d)) (take_more n d.scene.steps s lt this)
@@ -88,7 +88,7 @@ pub record Found (test : ℕ → Bool) (n k : ℕ) : Type 0 where
   pub within : k < n
   pub behind : (j : ℕ) → k < j → j < n → test j ≡ false
 
-last_found : (test : ℕ → Bool) (n k : ℕ) → last_below test n ≡ Some k → Found test n k
+pub last_found : (test : ℕ → Bool) (n k : ℕ) → last_below test n ≡ Some k → Found test n k
 last_found test zero k is = cc
 last_found test (suc n) k is = by (test n) refl (λ (e : last_below test n ≡ Some k). last_found test n k e)
   where
@@ -161,7 +161,7 @@ module _ (parts : Parts) (scene : Scene) (p : Progress) (pipe : PipeParts) (is :
       last_same (λ (k : ℕ). is_some (packet_at pipe k)) (is_taken p) (length pipe.slots) (λ (k : ℕ). taken parts scene p pipe is k)
       ∙ ap (last_below (is_taken p)) (is.long ∙ sym (passed_many parts scene p pipe is))
 
-  free_behind : (k : ℕ) → oldest p ≡ Some k → is_taken p (k + 1) ≡ false
+  pub free_behind : (k : ℕ) → oldest p ≡ Some k → is_taken p (k + 1) ≡ false
   free_behind k found =
       let f = last_found (is_taken p) (length p.passed) k found in
       ⊎_elim (λ (lt : k + 1 < length p.passed). f.behind (k + 1) (omega arith) lt)

@@ -115,9 +115,17 @@ ending_text entered left = codes "entered " ++ decimal entered ++ codes " left "
 abbrev pub last_text : Drive → ℕ → List ℕ
 last_text d n = cells_text 0 d.parts.arrays (after d.parts (entries d.scene) n) ++ ending_text n (length d.scene.events - n)
 
--- The blocks of those in flight, the oldest first, and what comes last.
+-- The blocks of those in flight, the oldest first.
+abbrev pub flight_text : Drive → Progress → List ℕ
+flight_text d p = pieces (block_of d) (left p) (p.entered - left p)
+
+-- They, and what comes last.
 abbrev pub end_text : Drive → Progress → List ℕ
-end_text d p = pieces (block_of d) (left p) (p.entered - left p) ++ last_text d p.entered
+end_text d p = flight_text d p ++ last_text d p.entered
+
+-- The progress after all steps.
+abbrev pub after_steps : Drive → Progress
+after_steps d = progress_from d (begun d) d.scene.steps
 
 abbrev pub drive_log : Drive → List ℕ
-drive_log d = text_from d (begun d) d.scene.steps ++ end_text d (progress_from d (begun d) d.scene.steps)
+drive_log d = text_from d (begun d) d.scene.steps ++ end_text d (after_steps d)

@@ -1,7 +1,9 @@
+pub mod Changes
 pub mod Drive
 pub mod Driven
 pub mod Examples
 pub mod Flush
 pub mod Happened
+pub mod Sights
 pub mod Standing
 pub mod State

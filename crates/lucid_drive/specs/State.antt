@@ -1,5 +1,5 @@
 -- How far a drive is, by the numbers of its state.
-use Rattle.std.specs.Prelude.{◌≡◌, ℕ, suc, ◌-◌, ◌<◌, ◌≤◌, ◌^◌, [], Option, None, Some, false, if◌then◌else◌, length, nat_lt, slice_get, take}
+use Rattle.std.specs.Prelude.{◌≡◌, ℕ, suc, ◌-◌, ◌<◌, ◌≤◌, ◌^◌, List, [], Option, None, Some, false, if◌then◌else◌, length, nat_lt, slice_get, take}
 use Rattle.std.specs.Option.{option_map_or}
 use Rattle.lucid_conf.specs.Kept.{IsScene}
 use Rattle.lucid_conf.specs.declared.scene.Scene.{Scene}
@@ -7,7 +7,7 @@ use Rattle.lucid_core.specs.Parts.{Parts}
 use Rattle.lucid_normal_form.specs.Stands.{StandsFor}
 use Rattle.lucid_pipe.specs.Pipe.{PipeParts, empty_pipe, packet_at}
 use Rattle.lucid_tables.specs.Placed.{PlacedParts}
-use Rattle.lucid_drive.specs.Drive.{Done, Drive, Progress, begun, does, progress_from, stays}
+use Rattle.lucid_drive.specs.Drive.{Done, Drive, Progress, begun, does, progress_from, stays, text_from}
 use Rattle.lucid_drive.specs.Flush.{flushed_by, flushes}
 use Rattle.lucid_drive.specs.Standing.{IsAt, drive_of}
 use Rattle.lucid_drive.specs.declared.state.DriveState.{DriveState}
@@ -15,6 +15,10 @@ use Rattle.lucid_drive.specs.declared.state.DriveState.{DriveState}
 -- The progress that the first `done` steps give, and then so many moves of the oldest packet.
 abbrev pub progress_at : Drive → ℕ → ℕ → Progress
 progress_at d done moves = flushed_by d (progress_from d (begun d) (take done d.scene.steps)) moves
+
+-- What the first steps write.
+abbrev pub text_to : Drive → ℕ → List ℕ
+text_to d count = text_from d (begun d) (take count d.scene.steps)
 
 -- What the step of this number does after those before it.
 abbrev pub step_at : Drive → ℕ → Done

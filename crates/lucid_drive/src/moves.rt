@@ -1,9 +1,10 @@
 // The steps of a drive, as moves of its pipe. Each is told for whatever progress the pipe stands at, and needs no more of a pipe than that.
-ghost use Rattle.std.specs.Prelude.{◌≡◌, ◌<◌, ◌^◌, length};
+ghost use Rattle.std.specs.Prelude.{◌≡◌, ◌<◌, ◌^◌, None, length};
 ghost use Rattle.lucid_conf.specs.Kept.{IsScene, IsStep};
 ghost use Rattle.lucid_normal_form.specs.Stands.{StandsFor};
+ghost use Rattle.lucid_drive.specs.Changes.{Changes};
 ghost use Rattle.lucid_drive.specs.Drive.{Progress, does, enters, goes, look_text, stays};
-ghost use Rattle.lucid_drive.specs.Happened.{Did};
+ghost use Rattle.lucid_drive.specs.Happened.{Did, happened_at};
 ghost use Rattle.lucid_drive.specs.Standing.{IsAt, drive_of};
 
 use crate::happened::{Happened, told, told_entry};
@@ -14,6 +15,7 @@ use lucid_pipe::Pipe;
 /// The packet in slot `k` moves on, if it can.
 pub(crate) fn go(pipe: &mut Pipe, core: &Core, scene: &Scene, k: usize) -> Happened
     ensures placed { pipe.new.placed ≡ pipe.old.placed }
+    ensures changes { Changes pipe.old (happened_at result) pipe.new }
     ensures did { (p : Progress) → IsAt core.now scene.now p pipe.old → Did core.now scene.now p.entered (goes (drive_of core.now pipe.old scene.now) p k) result pipe.new }
 {
     pipe.keeps_laws();
@@ -29,6 +31,7 @@ pub(crate) fn enter(pipe: &mut Pipe, core: &Core, scene: &Scene, entered: u64) -
     requires scene { IsScene core.now scene.now }
     requires stands_for { StandsFor pipe.old.placed.code core.now }
     ensures placed { pipe.new.placed ≡ pipe.old.placed }
+    ensures changes { Changes pipe.old (happened_at result) pipe.new }
     ensures did { (p : Progress) → p.entered ≡ entered → IsAt core.now scene.now p pipe.old → Did core.now scene.now p.entered (enters (drive_of core.now pipe.old scene.now) p) result pipe.new }
 {
     if entered < scene.events.len() as u64 {
@@ -44,6 +47,7 @@ fn enter_at(pipe: &mut Pipe, core: &Core, scene: &Scene, entered: u64) -> Happen
     requires stands_for { StandsFor pipe.old.placed.code core.now }
     requires there { entered < length scene.now.events }
     ensures placed { pipe.new.placed ≡ pipe.old.placed }
+    ensures changes { Changes pipe.old (happened_at result) pipe.new }
     ensures did { (p : Progress) → p.entered ≡ entered → IsAt core.now scene.now p pipe.old → Did core.now scene.now p.entered (enters (drive_of core.now pipe.old scene.now) p) result pipe.new }
 {
     pipe.keeps_laws();
@@ -56,7 +60,8 @@ fn enter_at(pipe: &mut Pipe, core: &Core, scene: &Scene, entered: u64) -> Happen
 /// The cell of a declared array is shown.
 pub(crate) fn look(pipe: &Pipe, core: &Core, scene: &Scene, array: u32, cell: u64) -> Happened
     requires there { array < length core.now.arrays }
-    ensures { (p : Progress) → IsAt core.now scene.now p pipe.now → Did core.now scene.now p.entered (stays (look_text (drive_of core.now pipe.now scene.now) p array cell) p) result pipe.now }
+    ensures still { happened_at result ≡ None }
+    ensures did { (p : Progress) → IsAt core.now scene.now p pipe.now → Did core.now scene.now p.entered (stays (look_text (drive_of core.now pipe.now scene.now) p array cell) p) result pipe.now }
 {
     pipe.keeps_laws();
     cells_stay_fit(core);
@@ -87,6 +92,7 @@ pub(crate) fn step(
     requires stands_for { StandsFor pipe.old.placed.code core.now }
     requires step { IsStep core.now step }
     ensures placed { pipe.new.placed ≡ pipe.old.placed }
+    ensures changes { Changes pipe.old (happened_at result) pipe.new }
     ensures did { (p : Progress) → p.entered ≡ entered → IsAt core.now scene.now p pipe.old → Did core.now scene.now p.entered (does (drive_of core.now pipe.old scene.now) p step) result pipe.new }
 {
     match step {
