@@ -1,0 +1,5 @@
+pub mod Choices
+pub mod Draws
+pub mod Limits
+pub mod Program
+pub mod Scene

@@ -1,0 +1,4 @@
+pub mod Bench
+pub mod Endings
+pub mod Line
+pub mod Tally
