@@ -100,7 +100,7 @@ mode == "file" { files[name] = files[name] $0 "\n"; next }
 /^! / && (mode == "call" || mode == "parts") {
     if (mode == "parts") end_open()
     code = $2
-    err = substr($0, length("!  ") + length($2) + 1) "\n"
+    err = whole(substr($0, length("!  ") + length($2) + 1)) "\n"
     next
 }
 /^[+-]( |$)/ && (mode == "parts" || mode == "call" && out == "") {

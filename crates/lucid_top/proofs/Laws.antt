@@ -1,29 +1,39 @@
 -- What follows from how a call ended, for each clause of the top call.
-use Rattle.std.proofs.Common.{◌≡◌, ◌≢◌, ℕ, ◌+◌, ◌⊎◌, inl, inr, List, [], ◌∷◌, Option, Some, None, IsSome, Ok, Err, refl, sym, ◌∙◌, ap, subst, arith}
+use Rattle.std.proofs.Common.{◌≡◌, ◌≢◌, ℕ, ◌+◌, ◌⊎◌, inl, inr, List, [], ◌∷◌, Option, Some, None, IsSome, Result, Ok, Err, refl, sym, ◌∙◌, ap, subst, arith, append-nil, map}
 use Rattle.std.specs.Io.KnownBytes.{Appends, Keeps}
 use Rattle.std.proofs.KnownBytes.{Appends-nil, Appends-kept}
 use Rattle.lucid_io.specs.Contents.{SameHeld}
 use Rattle.lucid_io.specs.Counts.{Rose, SameCounts, OthersKept}
 use Rattle.lucid_io.specs.declared.reading.Take.{Take}
 use Rattle.lucid_io.specs.declared.reading.Take.TheVariants as take
-use Rattle.lucid_top.specs.declared.command.Command.{Command}
-use Rattle.lucid_top.specs.declared.command.NamedFile.{NamedFile}
-use Rattle.lucid_top.specs.declared.refusal.Refusal.{Refusal}
-use Rattle.lucid_top.specs.declared.refusal.Refusal.TheVariants as refusal
-use Rattle.lucid_top.specs.declared.status.Status.{Status}
-use Rattle.lucid_top.specs.declared.status.Status.TheVariants as status
+use Rattle.lucid_top_words.specs.declared.command.Command.{Command}
+use Rattle.lucid_top_words.specs.declared.command.NamedFile.{NamedFile}
+use Rattle.lucid_top_words.specs.declared.refusal.Refusal.{Refusal}
+use Rattle.lucid_top_words.specs.declared.refusal.Refusal.TheVariants as refusal
+use Rattle.lucid_top_words.specs.declared.status.Status.{Status}
+use Rattle.lucid_top_words.specs.declared.status.Status.TheVariants as status
 use Rattle.lucid_top.specs.Answer.{Question, given, Answers, AnswersTo, CanStop, IsTold, OverTexts, StopsOf, StopsOver, command_files, told_texts}
-use Rattle.lucid_top.specs.Call.{Call, Ended, EndSaid, PerformsOver, files_named, question}
-use Rattle.lucid_top.specs.Command.{command_of}
-use Rattle.lucid_top.specs.Files.{FilesRead, IsOneOf, Texts, of_take}
-use Rattle.lucid_top.specs.Outcome.{Alike, End, IsTheAnswer, Outcome, SameRefusal, end_status, outcome_status}
-use Rattle.lucid_top.specs.Refusal.{line_of, status_of}
-use Rattle.lucid_top.specs.Status.{IsDetermined}
-use Rattle.lucid_top.specs.Views.{FilesView, SinkView}
-use Rattle.lucid_top.specs.Words.{word_at}
-use Rattle.lucid_top.specs.Writing.{Performs, Refuses}
-use Rattle.lucid_top.proofs.Seen.{All, Part, Prefix, Nothing, Line}
-use Rattle.lucid_top.proofs.Readings.{Agrees, read-agrees, read-why, read-rose, read-long, read-gave_more, read-held, read-others, read-quiet}
+use Rattle.lucid_top.specs.Call.{Call, Ended, EndSaid, PerformsOver, RunsOver, ShowsOver, files_named, question}
+use Rattle.lucid_net.specs.Sights.{ShowsAll}
+use Rattle.lucid_code.specs.Parts as code
+use Rattle.lucid_pipe.specs.declared.sight.Sight.{Sight}
+use Rattle.lucid_top.specs.Headline.{Accepted, AuditAccepts, FirstFitPlaces, Hold, Holds, Three, drive, network_log, ready_of, run_pipe, run_placed, run_whole, steps_log}
+use Rattle.lucid_top.specs.Passes.{SamePasses}
+use Rattle.lucid_top.specs.Pipes.{sights_of}
+use Rattle.lucid_top.specs.RunPipe.{RunPipeShows}
+use Rattle.lucid_top.specs.Watching.{Seen, Shown, ToldBefore}
+use Rattle.lucid_top_fit.specs.Passes.{PassView, PassesRun}
+use Rattle.lucid_top.proofs.Headlines.{asks-drive, asks-pipe, asks-placed, asks-whole, shows-pipe, texts-pipe}
+use Rattle.lucid_top_words.specs.Command.{command_of}
+use Rattle.lucid_top_words.specs.Files.{FilesRead, IsOneOf, Texts, of_take}
+use Rattle.lucid_top_words.specs.Outcome.{Alike, End, IsTheAnswer, Outcome, SameRefusal, end_status, outcome_status}
+use Rattle.lucid_top_words.specs.Refusal.{line_of, status_of}
+use Rattle.lucid_top_words.specs.Status.{IsDetermined}
+use Rattle.lucid_top_words.specs.Views.{FilesView, SinkView}
+use Rattle.lucid_top_words.specs.Words.{word_at}
+use Rattle.lucid_top_words.specs.Writing.{Performs, Refuses}
+use Rattle.lucid_top_words.proofs.Seen.{All, Part, Prefix, Nothing, Line}
+use Rattle.lucid_top_words.proofs.Readings.{Agrees, read-agrees, read-why, read-rose, read-long, read-gave_more, read-held, read-others, read-quiet}
 
 -- ---- what is alike
 
@@ -284,6 +294,44 @@ some-files : (co : Option Command) (file : NamedFile) → command_files co ≡ f
 some-files None file one is = cc
 some-files (Some c) file one is = cc
 
+-- at Ok the texts were read
+ok-texts : (co : Option Command) (q : Question) (out out' : SinkView) (texts : Texts) (ts : List (List ℕ)) (end : End) → PerformsOver co q out out' texts end → end_status end ≡ status.Ok →
+    Agrees texts (Some (Ok ts)) → texts ≡ Ok ts
+ok-texts None q out out' texts ts end performs is agrees = let no : status.Usage ≡ status.Ok = sym (ap end_status performs.0) ∙ is in absurd (cc)
+ok-texts (Some c) q out out' (Ok texts) ts end performs is agrees = sym agrees
+ok-texts (Some c) q out out' (Err r) ts end performs is agrees = absurd (never_ok r (sym (ap end_status performs.0) ∙ is))
+
+-- ---- the watch and the passes
+
+shows-none : (old : Seen) → ShowsAll old old []
+shows-none None = tt
+shows-none (Some was) = sym (append-nil was)
+
+-- the sights that are the answer were shown
+shown-all : (shows : Result (List Sight) Refusal → Type 0) (old new : Seen) (end : End) (sights : List Sight) → Shown shows old new end → end_status end ≡ status.Ok → shows (Ok sights) → ShowsAll old new sights
+shown-all shows old new (Ok u) sights shown is asked = elim shown [
+  | inl none ↦ subst (λ (now : Seen). ShowsAll old now sights) (sym none.1) (subst (ShowsAll old old) (sym (none.0.only (Ok sights) asked)) (shows-none old))
+  | inr all ↦ subst (ShowsAll old new) (sym (all.1.only (Ok sights) asked)) all.2
+]
+shown-all shows old new (Err r) sights shown is asked = absurd (never_ok r is)
+
+-- what is told was told before
+shows-told : (old new : Seen) (sights : List Sight) → ShowsAll old new sights → ToldBefore old new
+shows-told old None sights shows told = absurd (cc)
+shows-told None (Some now) sights shows told = absurd shows
+shows-told (Some was) (Some now) sights shows told = refl
+
+shown-told : (shows : Result (List Sight) Refusal → Type 0) (old new : Seen) (end : End) → Shown shows old new end → ToldBefore old new
+shown-told shows old new (Ok u) shown told = elim shown [ inl none ↦ subst IsSome none.1 told | inr all ↦ shows-told old new all.0 all.2 told ]
+shown-told shows old new (Err r) shown told = elim shown [ inl same ↦ subst IsSome same told | inr some ↦ shows-told old new some.2.first some.2.shows told ]
+
+-- the passes that ran are those that there were
+ran-same : (runs : code.Parts → Type 0) (old new : List PassView) (end : End) → PassesRun runs old new end → SamePasses old new
+ran-same runs old new end ran = elim ran [
+  | inl kept ↦ record { names = ap (λ (ps : List PassView). map PassView.name ps) kept.0; gives = ap (λ (ps : List PassView). map PassView.gives ps) kept.0 }
+  | inr on ↦ record { names = on.3.names; gives = on.3.same }
+]
+
 -- ---- the clauses of the top call
 
 -- no count of a named file rose
@@ -379,3 +427,52 @@ module _ {c : Call} {err err' : SinkView} {result : Status} (e : Ended c err err
 
   pub others-clause : OthersKept (λ name. (file : NamedFile) × IsOneOf (files_named c.words) file × (name ≡ word_at c.words file.word)) c.files.held c.files.faults c.files'.faults
   others-clause = read-others c.words c.files c.files' (files_named c.words) e.done.texts e.done.reads
+
+  -- ---- the headline
+
+  -- a text that is asked for was written, where nothing failed
+  wrote : {w : List (List ℕ)} (text : List ℕ) → c.words ≡ w → Answers (record { words = w; held = c.files.held; passes = c.passes }) (Ok text) → Unmet c → ¬ Rose c.out.faults c.out'.faults →
+      ((result ≡ status.Ok) × All c.out c.out' text) ⊎ ((result ≡ status.Memory) × Prefix c.out c.out' text)
+  wrote {w} text is asked quiet unmet =
+      let asks : Answers (question c) (Ok text) = subst (λ (ws : List (List ℕ)). Answers (record { words = ws; held = c.files.held; passes = c.passes }) (Ok text)) (sym is) asked in
+      elim (complete-clause text asks quiet unmet) [
+        | inl ok ↦ inl (ok, out-clause ok text asks)
+        | inr out ↦ inr (out, memory-clause out text asks)
+      ]
+
+  pub whole-clause : (names texts : Three) → Hold c.files.held names texts → (a : Accepted texts) → Unmet c → ¬ Rose c.out.faults c.out'.faults → c.words ≡ run_whole names →
+      ((result ≡ status.Ok) × All c.out c.out' (network_log a)) ⊎ ((result ≡ status.Memory) × Prefix c.out c.out' (network_log a))
+  whole-clause names texts hold a quiet unmet is = wrote (network_log a) is (asks-whole hold a c.passes) quiet unmet
+
+  pub pipe-clause : (names texts : Three) → Hold c.files.held names texts → (a : Accepted texts) → FirstFitPlaces c.passes a → Unmet c → ¬ Rose c.out.faults c.out'.faults → c.words ≡ run_pipe names →
+      ((result ≡ status.Ok) × All c.out c.out' (network_log a)) ⊎ ((result ≡ status.Memory) × Prefix c.out c.out' (network_log a))
+  pipe-clause names texts hold a f quiet unmet is = wrote (network_log a) is (asks-pipe hold a f) quiet unmet
+
+  pub drive-clause : (names texts : Three) → Hold c.files.held names texts → (a : Accepted texts) → (f : FirstFitPlaces c.passes a) → Unmet c → ¬ Rose c.out.faults c.out'.faults → c.words ≡ drive names →
+      ((result ≡ status.Ok) × All c.out c.out' (steps_log f)) ⊎ ((result ≡ status.Memory) × Prefix c.out c.out' (steps_log f))
+  drive-clause names texts hold a f quiet unmet is = wrote (steps_log f) is (asks-drive hold a f) quiet unmet
+
+  pub placed-clause : (names texts : Three) → Hold c.files.held names texts → (placement text : List ℕ) → Holds c.files.held placement text 8388608 → (a : Accepted texts) → AuditAccepts c.passes a text →
+      Unmet c → ¬ Rose c.out.faults c.out'.faults → c.words ≡ run_placed names placement →
+      ((result ≡ status.Ok) × All c.out c.out' (network_log a)) ⊎ ((result ≡ status.Memory) × Prefix c.out c.out' (network_log a))
+  placed-clause names texts hold placement text holds a audit quiet unmet is = wrote (network_log a) is (asks-placed hold a holds audit) quiet unmet
+
+  pub shown-clause : (names texts : Three) → Hold c.files.held names texts → (a : Accepted texts) → (f : FirstFitPlaces c.passes a) → c.words ≡ run_pipe names → result ≡ status.Ok →
+      ShowsAll c.seen c.seen' (sights_of (ready_of f))
+  shown-clause names texts hold a f is ok =
+      let ts : List (List ℕ) = texts.program ∷ texts.limits ∷ texts.scenario ∷ [] in
+      let ends : end_status e.end ≡ status.Ok = sym e.status ∙ ok in
+      let told : told_texts (question c) ≡ Some (Ok ts) = subst (λ (w : List (List ℕ)). told_texts (record { words = w; held = c.files.held; passes = c.passes }) ≡ Some (Ok ts)) (sym is) (texts-pipe hold a) in
+      let agrees : Agrees e.done.texts (Some (Ok ts)) = subst (Agrees e.done.texts) told (read-agrees c.words c.files c.files' (command_files (command_of c.words)) e.done.texts e.done.reads) in
+      let read : e.done.texts ≡ Ok ts = ok-texts (command_of c.words) (question c) c.out c.out' e.done.texts ts e.end e.done.does ends agrees in
+      let shown : Shown (ShowsOver (command_of c.words) (question c) (Ok ts)) c.seen c.seen' e.end =
+      subst (λ (t : Texts). Shown (ShowsOver (command_of c.words) (question c) t) c.seen c.seen' e.end) read e.done.shown in
+      let pipe : Shown (RunPipeShows texts.program texts.limits texts.scenario c.passes) c.seen c.seen' e.end =
+      subst (λ (w : List (List ℕ)). Shown (ShowsOver (command_of w) (record { words = w; held = c.files.held; passes = c.passes }) (Ok ts)) c.seen c.seen' e.end) is shown in
+      shown-all (RunPipeShows texts.program texts.limits texts.scenario c.passes) c.seen c.seen' e.end (sights_of (ready_of f)) pipe ends (shows-pipe hold a f)
+
+  pub passes-clause : SamePasses c.passes c.passes'
+  passes-clause = ran-same (RunsOver (command_of c.words) (question c) e.done.texts) c.passes c.passes' e.end e.done.ran
+
+  pub told-clause : ToldBefore c.seen c.seen'
+  told-clause = shown-told (ShowsOver (command_of c.words) (question c) e.done.texts) c.seen c.seen' e.end e.done.shown

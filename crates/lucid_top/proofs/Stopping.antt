@@ -1,14 +1,21 @@
 -- How a command ends whose text is written while memory is taken.
-use Rattle.std.proofs.Common.{◌≡◌, ℕ, ◌≤◌, List, Option, inr, Ok, Err, length, take, sym, subst, arith, length-append}
+use Rattle.std.proofs.Common.{◌≡◌, ℕ, ◌≤◌, List, Option, inl, inr, ap, ◌∙◌, Ok, Err, length, take, refl, sym, subst, arith, length-append}
 use Rattle.std.proofs.Math.Seq.{take-append_seam}
 use Rattle.std.specs.Io.KnownBytes.{Appends}
-use Rattle.lucid_io.specs.Puts.{Leaves}
+use Rattle.lucid_io.specs.Puts.{Leaves, PutsPart}
 use Rattle.lucid_net.specs.declared.error.NetError.{NetError}
 use Rattle.lucid_net.specs.declared.error.NetError.TheVariants as net
 use Rattle.lucid_net.specs.Writes.{Writes}
-use Rattle.lucid_top.specs.Outcome.{End, IsTheAnswer, Outcome}
-use Rattle.lucid_top.specs.Refusal.{of_net}
-use Rattle.lucid_top.specs.Writing.{Performs, PutsSome}
+use Rattle.lucid_top_words.specs.declared.refusal.Refusal.TheVariants as refusal
+use Rattle.lucid_top_words.specs.Outcome.{End, IsTheAnswer, Outcome}
+use Rattle.lucid_top_words.specs.declared.refusal.Refusal.{Refusal}
+use Rattle.lucid_top_words.proofs.Parts.{one-text}
+use Rattle.lucid_top_words.proofs.Seen.{untouched}
+use Rattle.lucid_snap.specs.declared.error.SnapError.{SnapError}
+use Rattle.lucid_snap.specs.declared.error.SnapError.TheVariants as error
+use Rattle.lucid_snap.specs.Writes as snap
+use Rattle.lucid_top.specs.Causes.{of_net, of_snap}
+use Rattle.lucid_top_words.specs.Writing.{Performs, PutsSome}
 
 -- where some of the text is left, a prefix was written
 PutsSome-left : {W : Type 0} (written : W → Option (List ℕ)) (faults : W → ℕ) (out out' : W) (text rest : List ℕ) →
@@ -23,10 +30,30 @@ PutsSome-left written faults out out' text rest left = record {
 }
 
 -- a network that stopped ends the command that writes its log
-pub stopped : {W : Type 0} (answers : Outcome → Type 0) (written : W → Option (List ℕ)) (faults : W → ℕ) (out out' : W) (text : List ℕ) (e : NetError) (end : End) →
-    IsTheAnswer answers (Ok text) → Writes written faults out out' text (Err e) → end ≡ Err (of_net e) → Performs (Unit {0}) answers written faults out out' end
-stopped answers written faults out out' text e end answer writes is = subst (Performs (Unit {0}) answers written faults out out') (sym is) (at e writes)
+pub stopped : {W : Type 0} (stops : Type 0) (answers : Outcome → Type 0) (written : W → Option (List ℕ)) (faults : W → ℕ) (out out' : W) (text : List ℕ) (e : NetError) (end : End) →
+    IsTheAnswer answers (Ok text) → Writes written faults out out' text (Err e) → (e ≡ net.Memory → stops) → end ≡ Err (of_net e) → Performs stops answers written faults out out' end
+stopped stops answers written faults out out' text e end answer writes may is = subst (Performs stops answers written faults out out') (sym is) (at e writes may)
   where
-    at : (e : NetError) → Writes written faults out out' text (Err e) → Performs (Unit {0}) answers written faults out out' (Err (of_net e))
-    at net.WriteFault w = (text, answer, w)
-    at net.Memory w = inr (tt, text, answer, PutsSome-left written faults out out' text w.0 w.1)
+    at : (e : NetError) → Writes written faults out out' text (Err e) → (e ≡ net.Memory → stops) → Performs stops answers written faults out out' (Err (of_net e))
+    at net.WriteFault w may = (text, answer, w)
+    at net.Memory w may = inr (may refl, text, answer, PutsSome-left written faults out out' text w.0 w.1)
+
+-- a write failed of the one text that is written
+pub cut : {W : Type 0} (stops : Type 0) (written : W → Option (List ℕ)) (faults : W → ℕ) (out out' : W) (text : List ℕ) (end : End) →
+    PutsPart written faults out out' text → end ≡ Err refusal.WriteFault → Performs stops (λ o. o ≡ Ok text) written faults out out' end
+cut stops written faults out out' text end part is = subst (Performs stops (λ (o : Outcome). o ≡ Ok text) written faults out out') (sym is) (text, one-text text, part)
+
+-- a drive with a snapshot that stopped
+pub snap-stopped : {W : Type 0} (written : W → Option (List ℕ)) (faults : W → ℕ) (out out' : W) (text : List ℕ) (e : SnapError) (end : End) →
+    snap.Writes written faults out out' text (Err e) → end ≡ Err (of_snap e) → Performs (Unit {0}) (λ o. o ≡ Ok text) written faults out out' end
+snap-stopped written faults out out' text e end writes is = subst (Performs (Unit {0}) (λ (o : Outcome). o ≡ Ok text) written faults out out') (sym is) (at e writes)
+  where
+    at : (e : SnapError) → snap.Writes written faults out out' text (Err e) → Performs (Unit {0}) (λ (o : Outcome). o ≡ Ok text) written faults out out' (Err (of_snap e))
+    at error.WriteFault w = (text, one-text text, w)
+    at error.Memory w = inr (tt, text, one-text text, PutsSome-left written faults out out' text w.0 w.1)
+
+-- memory ran out before anything was written
+pub ended-by-memory : {W : Type 0} (stops : Type 0) (answers : Outcome → Type 0) (written : W → Option (List ℕ)) (faults : W → ℕ) (out : W) (r : Refusal) (end : End) →
+    r ≡ refusal.Memory → end ≡ Err r → Performs stops answers written faults out out end
+ended-by-memory stops answers written faults out r end memory is =
+    subst (Performs stops answers written faults out out) (sym (is ∙ ap (λ (s : Refusal). Err s) memory)) (inl untouched)

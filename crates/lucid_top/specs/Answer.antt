@@ -1,22 +1,38 @@
--- What words and the contents of files determine. A command is a line in `CommandAnswers` and in `MayStop`.
-use Rattle.std.specs.Prelude.{◌≡◌, ℕ, List, [], Option, None, Some, Ok, Err, IsSome}
-use Rattle.lucid_top.specs.declared.command.Command.{Command}
-use Rattle.lucid_top.specs.declared.command.Command.TheVariants as command
-use Rattle.lucid_top.specs.declared.command.NamedFile.{NamedFile}
-use Rattle.lucid_top.specs.declared.refusal.Refusal.TheVariants as refusal
+-- What words, the contents of files and passes determine. A command is a line in `CommandAnswers`, in `MayStop`, and where it runs the
+-- passes or shows the watch something, in `CommandRuns` and `CommandShows`.
+use Rattle.std.specs.Prelude.{◌≡◌, ℕ, List, [], Option, None, Some, Result, Ok, Err, IsSome}
+use Rattle.lucid_code.specs.Parts as code
+use Rattle.lucid_gen.specs.Limits.{limits_text}
+use Rattle.lucid_gen.specs.Program.{program_text}
+use Rattle.lucid_pipe.specs.declared.sight.Sight.{Sight}
+use Rattle.lucid_top_words.specs.declared.command.Command.{Command}
+use Rattle.lucid_top_words.specs.declared.command.Command.TheVariants as command
+use Rattle.lucid_top_words.specs.declared.command.NamedFile.{NamedFile}
+use Rattle.lucid_top_words.specs.declared.refusal.Refusal.{Refusal}
+use Rattle.lucid_top_words.specs.declared.refusal.Refusal.TheVariants as refusal
 use Rattle.lucid_top.specs.Check.{CheckAnswers}
-use Rattle.lucid_top.specs.Command.{command_of, files_of}
-use Rattle.lucid_top.specs.Files.{Texts, contents}
+use Rattle.lucid_top_words.specs.Command.{command_of, files_of}
+use Rattle.lucid_top_words.specs.Files.{Texts, contents}
+use Rattle.lucid_top.specs.Drive.{DriveAnswers, DriveShows}
+use Rattle.lucid_top.specs.Expand.{ExpandAnswers}
+use Rattle.lucid_top.specs.Generated.{BenchAnswers, BenchShows, GenAnswers}
+use Rattle.lucid_top.specs.Layout.{LayoutAnswers}
 use Rattle.lucid_top.specs.Once.{OnceAnswers}
-use Rattle.lucid_top.specs.Outcome.{Outcome}
+use Rattle.lucid_top.specs.Pipes.{RunsCode}
+use Rattle.lucid_top.specs.Placed.{AuditAnswers, RunPlacedAnswers, RunPlacedShows, StopsPlaced}
+use Rattle.lucid_top.specs.RunPipe.{RunPipeAnswers, RunPipeShows, StopsPiped}
+use Rattle.lucid_top_words.specs.Outcome.{Outcome}
 use Rattle.lucid_top.specs.RunWhole.{RunWholeAnswers}
-use Rattle.lucid_top.specs.Views.{Held}
-use Rattle.lucid_top.specs.Words.{Bytes, word_at}
+use Rattle.lucid_top.specs.Snap.{SnapAnswers}
+use Rattle.lucid_top_fit.specs.Passes.{PassView}
+use Rattle.lucid_top_words.specs.Views.{Held}
+use Rattle.lucid_top_words.specs.Words.{Bytes, word_at}
 
--- what a command is given: the words of the call, and the texts of the files that they name, in word order
+-- what a command is given: the words of the call, the texts of the files that they name, in word order, and the passes
 pub record Given : Type 0 where
   pub words : List Bytes
   pub texts : List Bytes
+  pub passes : List PassView
 
 -- the text of the file of this number, from 0
 abbrev pub text : ℕ → Given → Bytes
@@ -26,13 +42,50 @@ text n g = word_at g.texts n
 abbrev pub CommandAnswers : Command → Given → Outcome → Type 0
 CommandAnswers command.Check g o = CheckAnswers (text 0 g) o
 CommandAnswers (command.Once arguments) g o = OnceAnswers (text 0 g) (word_at g.words 2) arguments o
+CommandAnswers command.Expand g o = ExpandAnswers (text 0 g) o
+CommandAnswers command.Layout g o = LayoutAnswers (text 0 g) (text 1 g) g.passes o
 CommandAnswers command.RunWhole g o = RunWholeAnswers (text 0 g) (text 1 g) (text 2 g) o
+CommandAnswers command.RunPipe g o = RunPipeAnswers (text 0 g) (text 1 g) (text 2 g) g.passes o
+CommandAnswers command.RunPlaced g o = RunPlacedAnswers (text 0 g) (text 1 g) (text 2 g) (text 3 g) g.passes o
+CommandAnswers command.Drive g o = DriveAnswers (text 0 g) (text 1 g) (text 2 g) g.passes o
+CommandAnswers command.Audit g o = AuditAnswers (text 0 g) (text 1 g) (text 2 g) g.passes o
+CommandAnswers (command.Snap after) g o = SnapAnswers after (text 0 g) (text 1 g) (text 2 g) g.passes o
+CommandAnswers (command.Gen kind seed n) g o = GenAnswers kind seed n o
+CommandAnswers (command.Bench seed n) g o = BenchAnswers seed n g.passes o
 
 -- where a command may run out of memory after it began to write
 abbrev pub MayStop : Command → Given → Type 0
 MayStop command.Check g = ⊥
 MayStop (command.Once arguments) g = ⊥
+MayStop command.Expand g = ⊥
+MayStop command.Layout g = ⊥
 MayStop command.RunWhole g = Unit {0}
+MayStop command.RunPipe g = StopsPiped (text 0 g) (text 1 g) (text 2 g) g.passes
+MayStop command.RunPlaced g = StopsPlaced (text 0 g) (text 1 g) (text 2 g) (text 3 g) g.passes
+MayStop command.Drive g = ⊥
+MayStop command.Audit g = ⊥
+MayStop (command.Snap after) g = Unit {0}
+MayStop (command.Gen kind seed n) g = ⊥
+MayStop (command.Bench seed n) g = ⊥
+
+-- the code that a command runs the passes on
+abbrev pub CommandRuns : Command → Given → code.Parts → Type 0
+CommandRuns command.Layout g now = RunsCode (text 0 g) (text 1 g) now
+CommandRuns command.RunPipe g now = RunsCode (text 0 g) (text 1 g) now
+CommandRuns command.RunPlaced g now = RunsCode (text 0 g) (text 1 g) now
+CommandRuns command.Drive g now = RunsCode (text 0 g) (text 1 g) now
+CommandRuns command.Audit g now = RunsCode (text 0 g) (text 1 g) now
+CommandRuns (command.Snap after) g now = RunsCode (text 0 g) (text 1 g) now
+CommandRuns (command.Bench seed n) g now = RunsCode (program_text seed) limits_text now
+CommandRuns c g now = ⊥
+
+-- the sights that a command shows the watch
+abbrev pub CommandShows : Command → Given → Result (List Sight) Refusal → Type 0
+CommandShows command.RunPipe g o = RunPipeShows (text 0 g) (text 1 g) (text 2 g) g.passes o
+CommandShows command.RunPlaced g o = RunPlacedShows (text 0 g) (text 1 g) (text 2 g) (text 3 g) g.passes o
+CommandShows command.Drive g o = DriveShows (text 0 g) (text 1 g) (text 2 g) g.passes o
+CommandShows (command.Bench seed n) g o = BenchShows seed n g.passes o
+CommandShows c g o = o ≡ Ok []
 
 -- ---- the same for words that may be no command
 
@@ -51,14 +104,15 @@ command_files (Some c) = files_of c
 
 -- ---- the same over what the files hold
 
--- what determines the answer of a call: its words, and what the names of files hold, where that is told
+-- what determines the answer of a call: its words, what the names of files hold, where that is told, and the passes
 pub record Question : Type 0 where
   pub words : List Bytes
   pub held : Held
+  pub passes : List PassView
 
 -- what a command is given where these are the texts of its files
 abbrev pub given : Question → List Bytes → Given
-given q texts = record { words = q.words; texts = texts }
+given q texts = record { words = q.words; texts = texts; passes = q.passes }
 
 -- what the files of these words hold, or the first that is too long; None where one doesn't tell
 abbrev pub told_texts : Question → Option Texts

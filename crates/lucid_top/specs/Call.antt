@@ -1,32 +1,41 @@
 -- What a call does, and how it ended: `Ended` is all that `lucid` promises.
-use Rattle.std.specs.Prelude.{◌≡◌, ℕ, List, Option, Some, None, Ok, Err, map, String, string_bytes}
+use Rattle.std.specs.Prelude.{◌≡◌, ℕ, List, [], Option, Some, None, Result, Ok, Err, map, String, Vec, string_bytes}
 use Rattle.std.specs.declared.alloc.Global.{Global}
+use Rattle.lucid_code.specs.Parts as code
 use Rattle.lucid_io.specs.Counts.{Rose}
-use Rattle.lucid_top.specs.declared.command.Command.{Command}
-use Rattle.lucid_top.specs.declared.command.NamedFile.{NamedFile}
-use Rattle.lucid_top.specs.declared.refusal.Refusal.TheVariants as refusal
-use Rattle.lucid_top.specs.declared.status.Status.{Status}
-use Rattle.lucid_top.specs.Answer.{Question, CommandAnswers, MayStop, command_files, given}
-use Rattle.lucid_top.specs.Command.{command_of}
-use Rattle.lucid_top.specs.Files.{Texts, FilesRead, IsOneOf}
-use Rattle.lucid_top.specs.Outcome.{End, end_status}
-use Rattle.lucid_top.specs.Refusal.{line_of}
-use Rattle.lucid_top.specs.Views.{FilesView, Held, SinkView}
-use Rattle.lucid_top.specs.Words.{Bytes, word_at}
-use Rattle.lucid_top.specs.Writing.{Said, Untouched, Performs}
+use Rattle.lucid_pipe.specs.declared.sight.Sight.{Sight}
+use Rattle.lucid_top_words.specs.declared.command.Command.{Command}
+use Rattle.lucid_top_words.specs.declared.command.NamedFile.{NamedFile}
+use Rattle.lucid_top_words.specs.declared.refusal.Refusal.{Refusal}
+use Rattle.lucid_top_words.specs.declared.refusal.Refusal.TheVariants as refusal
+use Rattle.lucid_top_words.specs.declared.status.Status.{Status}
+use Rattle.lucid_top.specs.Answer.{Given, Question, CommandAnswers, CommandRuns, CommandShows, MayStop, command_files, given}
+use Rattle.lucid_top.specs.Watching.{Seen, Shown}
+use Rattle.lucid_top_fit.specs.Passes.{PassView, PassesRun}
+use Rattle.lucid_top_words.specs.Command.{command_of}
+use Rattle.lucid_top_words.specs.Files.{Texts, FilesRead, IsOneOf, texts_in}
+use Rattle.lucid_top_words.specs.Outcome.{End, end_status}
+use Rattle.lucid_top_words.specs.Refusal.{line_of}
+use Rattle.lucid_top_words.specs.Views.{FilesView, Held, SinkView}
+use Rattle.lucid_top_words.specs.Words.{Bytes, word_at}
+use Rattle.lucid_top_words.specs.Writing.{Said, Untouched, Performs}
 
--- a call: its words, and the files and the output that it was handed, before and after; `err` is apart, since the work is done before it is
--- written
+-- a call: its words, and the files, the output, the passes and the watch that it was handed, before and after; `err` is apart, since the
+-- work is done before it is written
 pub record Call : Type 0 where
   pub words : List Bytes
   pub files : FilesView
   pub files' : FilesView
   pub out : SinkView
   pub out' : SinkView
+  pub passes : List PassView
+  pub passes' : List PassView
+  pub seen : Seen
+  pub seen' : Seen
 
 -- what determines its answer
 abbrev pub question : Call → Question
-question c = record { words = c.words; held = c.files.held }
+question c = record { words = c.words; held = c.files.held; passes = c.passes }
 
 -- The command is performed over the texts that were read; where a file was not taken, that is the end, and where the words are no
 -- command, `Usage`.
@@ -36,16 +45,29 @@ PerformsOver (Some c) q out out' (Err r) end = (end ≡ Err r) × Untouched Sink
 PerformsOver (Some c) q out out' (Ok texts) end =
     Performs (MayStop c (given q texts)) (CommandAnswers c (given q texts)) SinkView.written SinkView.faults out out' end
 
+-- the code that passes are run on: none, but by a command whose files were read
+abbrev pub RunsOver : Option Command → Question → Texts → code.Parts → Type 0
+RunsOver (Some c) q (Ok texts) now = CommandRuns c (given q texts) now
+RunsOver co q texts now = ⊥
+
+-- the sights that are shown: none, but by a command whose files were read
+abbrev pub ShowsOver : Option Command → Question → Texts → Result (List Sight) Refusal → Type 0
+ShowsOver (Some c) q (Ok texts) o = CommandShows c (given q texts) o
+ShowsOver co q texts o = o ≡ Ok []
+
 -- nothing at Ok, else the line of the refusal
 abbrev pub EndSaid : SinkView → SinkView → List Bytes → End → Type 0
 EndSaid err err' words (Ok u) = Untouched SinkView.written SinkView.faults err err'
 EndSaid err err' words (Err r) = Said SinkView.written SinkView.faults err err' (line_of words r)
 
--- what a call did, up to this end: it read the files that the words name, and performed the command over their texts
+-- what a call did, up to this end: it read the files that the words name, and performed the command over their texts; what it made of
+-- the passes, and what it showed the watch
 pub record Done (c : Call) (end : End) : Type 0 where
   pub texts : Texts
   pub reads : FilesRead c.words c.files c.files' (command_files (command_of c.words)) texts
   pub does : PerformsOver (command_of c.words) (question c) c.out c.out' texts end
+  pub ran : PassesRun (RunsOver (command_of c.words) (question c) texts) c.passes c.passes' end
+  pub shown : Shown (ShowsOver (command_of c.words) (question c) texts) c.seen c.seen' end
 
 -- how a call ended: its status, what it did, and what it wrote to `err`
 pub record Ended (c : Call) (err err' : SinkView) (result : Status) : Type 0 where
@@ -84,6 +106,10 @@ abbrev pub Unfailed : {F : Type 0} → (F → Bytes → ℕ) → F → F → Wor
 Unfailed counts old new words =
     (file : NamedFile) → Names words file → ¬ Rose (counts old (name_of words file)) (counts new (name_of words file))
 
--- what determines the answer of these words, over what files hold
-abbrev pub asked : Words → Held → Question
-asked words held = record { words = bytes_of words; held = held }
+-- what determines the answer of these words, over what files hold and over passes
+abbrev pub asked : Words → Held → List PassView → Question
+asked words held passes = record { words = bytes_of words; held = held; passes = passes }
+
+-- what a command is given, as the code holds it
+abbrev pub given' : Words → List (Vec ℕ Global) → List PassView → Given
+given' words texts passes = record { words = bytes_of words; texts = texts_in texts; passes = passes }

@@ -9,10 +9,10 @@ use Rattle.lucid_core.specs.Parts.{Parts}
 use Rattle.lucid_core.specs.Step.{step}
 use Rattle.lucid_log.specs.Block.{block_text}
 use Rattle.lucid_log.specs.Cells.{cells_text}
-use Rattle.lucid_top.specs.declared.refusal.Refusal.TheVariants as refusal
-use Rattle.lucid_top.specs.Outcome.{Outcome, FollowedBy}
-use Rattle.lucid_top.specs.Program.{IsProgram}
-use Rattle.lucid_top.specs.Words.{Bytes}
+use Rattle.lucid_top_words.specs.declared.refusal.Refusal.TheVariants as refusal
+use Rattle.lucid_top_words.specs.Outcome.{Outcome, FollowedBy}
+use Rattle.lucid_top_program.specs.Program.{IsProgram}
+use Rattle.lucid_top_words.specs.Words.{Bytes}
 
 -- the last of these events with this name, the first of which has this number, or else what was found before
 abbrev pub last_of : Bytes → ℕ → Option ℕ → List EventDef → Option ℕ

@@ -1,19 +1,15 @@
-// The top call, and what it answers. What it does to files and streams, its status and its error line are tied to one definition,
+// The top call, and what it answers. What it does to files, streams, passes and a watch, its status and its error line are tied to one definition,
 // `Ended` of specs/Call.antt: the files that the words name are read in word order, and the answer of the words over what they
-// hold is written. A command is one file in commands/, and a line in each table of specs/. Stands on all crates of the program.
+// hold is written. What is written on pipelines is the log of handlers that run whole, as specs/Headline.antt says. A command is one file in
+// commands/, and a line in each table of specs/Answer. Stands on lucid_top_words, lucid_top_program and lucid_top_fit, and on the
+// crates that run what these prepare.
 #![tactic(auto)]
 
-mod command;
+mod causes;
 mod commands;
 mod example;
-mod files;
-mod number;
-mod program;
-mod refusal;
-mod settings;
-mod status;
 mod top;
 
 pub use example::answers_are_there;
-pub use status::{Status, faults_alone_are_free};
+pub use lucid_top_words::{Status, faults_alone_are_free};
 pub use top::lucid;

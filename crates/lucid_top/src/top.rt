@@ -1,4 +1,4 @@
-// The top call: all that the program does, over words, files and two sinks.
+// The top call: all that the program does, over words, files, two sinks, passes and a watch.
 ghost use Rattle.std.specs.Prelude.{◌≡◌, ◌≢◌, ◌⊎◌, ◌+◌, ℕ, List, [], ◌∷◌, None, Ok, Err};
 ghost use Rattle.std.specs.Io.KnownBytes.{Appends, Keeps};
 ghost use Rattle.lucid_io.specs.Contents.{SameHeld};
@@ -6,53 +6,88 @@ ghost use Rattle.lucid_io.specs.Counts.{Rose, SameCounts, OthersKept};
 ghost use Rattle.lucid_io.specs.Puts.{PutsAll, PutsPart};
 ghost use Rattle.lucid_top.specs.Answer.{Answers, CanStop, IsTold};
 ghost use Rattle.lucid_top.specs.Call.{Done, Ended, IsNamed, Names, Unfailed, asked, bytes_of, name_of, named_files};
-ghost use Rattle.lucid_top.specs.Command.{command_of};
-ghost use Rattle.lucid_top.specs.Outcome.{Outcome, SameRefusal, outcome_status};
-ghost use Rattle.lucid_top.specs.Refusal.{line_of, status_of};
-ghost use Rattle.lucid_top.specs.Status.{IsDetermined};
-ghost use Rattle.lucid_top.specs.Views.{files_view, sink_view};
-ghost use Rattle.lucid_top.specs.Writing.{PutsSome, Said};
+ghost use Rattle.lucid_net.specs.Sights.{ShowsAll};
+ghost use Rattle.lucid_top.specs.Headline.{Accepted, AuditAccepts, FirstFitPlaces, Hold, Holds, Three, Wrote, drive, network_log};
+ghost use Rattle.lucid_top.specs.Headline.{ready_of, run_pipe, run_placed, run_whole, steps_log};
+ghost use Rattle.lucid_top.specs.Pipes.{sights_of};
+ghost use Rattle.lucid_top.specs.Watching.{ToldBefore};
+ghost use Rattle.lucid_top.specs.Passes.{SamePasses};
+ghost use Rattle.lucid_top_fit.specs.Passes.{passes_view};
+ghost use Rattle.lucid_top_words.specs.Command.{command_of};
+ghost use Rattle.lucid_top_words.specs.Outcome.{Outcome, SameRefusal, outcome_status};
+ghost use Rattle.lucid_top_words.specs.Refusal.{line_of, status_of};
+ghost use Rattle.lucid_top_words.specs.Status.{IsDetermined};
+ghost use Rattle.lucid_top_words.specs.Views.{files_view, sink_view};
+ghost use Rattle.lucid_top_words.specs.Writing.{PutsSome, Said};
 
-use crate::command::{Command, NamedFile};
 use crate::commands::perform;
-use crate::files::read_files;
-use crate::refusal::{Refusal, refuse};
-use crate::status::Status;
 use lucid_io::{Files, Sink};
+use lucid_pass::Pass;
+use lucid_pipe::Watch;
+use lucid_top_words::{Command, NamedFile, Refusal, Status, read_files, refuse};
 use std::alloc::Global;
 
 /// Does what the words ask for, on these files: writes the answer to `out`, or the reason why there is none to `err`.
-pub fn lucid<F: Files, W: Sink, E: Sink>(
+pub fn lucid<F: Files, W: Sink, E: Sink, V: Watch>(
     alloc: Global,
     words: &[String],
     files: &mut F,
     out: &mut W,
     err: &mut E,
+    passes: &mut Vec<Box<dyn Pass>>,
+    watch: &mut V,
 ) -> Status
     // all of it, by how the call ended
     ensures ended { let files' = files_view F.held F.given F.faults in let out' = sink_view W.written W.faults in
-        let err' = sink_view E.written E.faults in
+        let passes' = passes_view called gives count in let err' = sink_view E.written E.faults in
         Ended (record {
           words = bytes_of words.now;
           files = files' files.old;
           files' = files' files.new;
           out = out' out.old;
           out' = out' out.new;
+          passes = passes' passes.old.items;
+          passes' = passes' passes.new.items;
+          seen = V.seen watch.old;
+          seen' = V.seen watch.new;
         }) (err' err.old) (err' err.new) result }
 
-    // What words and files determine is answered: the status, the bytes of `out`, the line of `err`.
-    ensures status { let q = asked words.now (F.held files.old) in
+    // The headline: what the rules accept and first fit places is run on pipelines with the log of handlers that run whole, one event after another.
+    ensures whole { (names texts : Three) → Hold (F.held files.old) names texts → (a : Accepted texts) →
+        Unfailed F.faults files.old files.new words.now → ¬ Rose (W.faults out.old) (W.faults out.new) →
+        bytes_of words.now ≡ run_whole names → Wrote W.written W.faults out.old out.new result (network_log a) }
+    ensures pipe { (names texts : Three) → Hold (F.held files.old) names texts → (a : Accepted texts) →
+        FirstFitPlaces (passes_view called gives count passes.old.items) a →
+        Unfailed F.faults files.old files.new words.now → ¬ Rose (W.faults out.old) (W.faults out.new) →
+        bytes_of words.now ≡ run_pipe names → Wrote W.written W.faults out.old out.new result (network_log a) }
+    // the same for any places that a file gives and the audit accepts; and the steps of a scenario on one pipeline
+    ensures placed { (names texts : Three) → Hold (F.held files.old) names texts →
+        (placement text : List ℕ) → Holds (F.held files.old) placement text 8388608 → (a : Accepted texts) →
+        AuditAccepts (passes_view called gives count passes.old.items) a text →
+        Unfailed F.faults files.old files.new words.now → ¬ Rose (W.faults out.old) (W.faults out.new) →
+        bytes_of words.now ≡ run_placed names placement → Wrote W.written W.faults out.old out.new result (network_log a) }
+    ensures drive { (names texts : Three) → Hold (F.held files.old) names texts → (a : Accepted texts) →
+        (f : FirstFitPlaces (passes_view called gives count passes.old.items) a) →
+        Unfailed F.faults files.old files.new words.now → ¬ Rose (W.faults out.old) (W.faults out.new) →
+        bytes_of words.now ≡ drive names → Wrote W.written W.faults out.old out.new result (steps_log f) }
+    // and what happens in the pipes is shown: after each tick the pipe of each switch
+    ensures shown { (names texts : Three) → Hold (F.held files.old) names texts → (a : Accepted texts) →
+        (f : FirstFitPlaces (passes_view called gives count passes.old.items) a) → bytes_of words.now ≡ run_pipe names →
+        result ≡ Status.Ok → ShowsAll (V.seen watch.old) (V.seen watch.new) (sights_of (ready_of f)) }
+
+    // What words, files and passes determine is answered: the status, the bytes of `out`, the line of `err`.
+    ensures status { let q = asked words.now (F.held files.old) (passes_view called gives count passes.old.items) in
         IsDetermined result → (o : Outcome) → Answers q o → result ≡ outcome_status o }
-    ensures out { let q = asked words.now (F.held files.old) in
+    ensures out { let q = asked words.now (F.held files.old) (passes_view called gives count passes.old.items) in
         result ≡ Status.Ok → (text : List ℕ) → Answers q (Ok text) → PutsAll W.written W.faults out.old out.new text }
-    ensures err { let q = asked words.now (F.held files.old) in
+    ensures err { let q = asked words.now (F.held files.old) (passes_view called gives count passes.old.items) in
         IsDetermined result → (r : Refusal) → Answers q (Err r) → (s : Refusal) × Answers q (Err s) × SameRefusal r s ×
         Said E.written E.faults err.old err.new (line_of (bytes_of words.now) s) }
-    ensures answered { let q = asked words.now (F.held files.old) in
+    ensures answered { let q = asked words.now (F.held files.old) (passes_view called gives count passes.old.items) in
         IsDetermined result → IsTold q → (o : Outcome) × Answers q o }
 
     // Where there is a text to write and no count rose, it is written, unless memory ran out.
-    ensures complete { let q = asked words.now (F.held files.old) in
+    ensures complete { let q = asked words.now (F.held files.old) (passes_view called gives count passes.old.items) in
         (text : List ℕ) → Answers q (Ok text) → Unfailed F.faults files.old files.new words.now →
         ¬ Rose (W.faults out.old) (W.faults out.new) → (result ≡ Status.Ok) ⊎ (result ≡ Status.Memory) }
 
@@ -67,11 +102,11 @@ pub fn lucid<F: Files, W: Sink, E: Sink>(
     ensures write_fault { result ≡ Status.WriteFault → Rose (W.faults out.old) (W.faults out.new) }
 
     // what was written: at a write fault a proper prefix, at want of memory a prefix, at every other refusal nothing
-    ensures cut { let q = asked words.now (F.held files.old) in
+    ensures cut { let q = asked words.now (F.held files.old) (passes_view called gives count passes.old.items) in
         result ≡ Status.WriteFault → (text : List ℕ) → Answers q (Ok text) → PutsPart W.written W.faults out.old out.new text }
-    ensures memory { let q = asked words.now (F.held files.old) in
+    ensures memory { let q = asked words.now (F.held files.old) (passes_view called gives count passes.old.items) in
         result ≡ Status.Memory → (text : List ℕ) → Answers q (Ok text) → PutsSome W.written W.faults out.old out.new text }
-    ensures silent { let q = asked words.now (F.held files.old) in
+    ensures silent { let q = asked words.now (F.held files.old) (passes_view called gives count passes.old.items) in
         result ≢ Status.Ok → result ≢ Status.WriteFault → (result ≡ Status.Memory → ¬ CanStop q) →
         Keeps (W.written out.old) (W.written out.new) }
     ensures grows { (text : List ℕ) × Appends (W.written out.old) (W.written out.new) text }
@@ -79,52 +114,69 @@ pub fn lucid<F: Files, W: Sink, E: Sink>(
         Said E.written E.faults err.old err.new (line_of (bytes_of words.now) r) }
     ensures unsaid { result ≡ Status.Ok → Keeps (E.written err.old) (E.written err.new) }
 
+    // the passes are the same as before, each with its name and its meaning; a watch tells after the call only where it told before
+    ensures passes { let seen = passes_view called gives count in SamePasses (seen passes.old.items) (seen passes.new.items) }
+    ensures told { ToldBefore (V.seen watch.old) (V.seen watch.new) }
+
     // what stays as it was: where the words are none of the forms, the files do
     ensures unread { command_of (bytes_of words.now) ≡ None → files.new ≡ files.old }
     ensures held { SameHeld (F.held files.old) (F.held files.new) }
     ensures quiet { result ≢ Status.ReadFault → SameCounts (F.faults files.old) (F.faults files.new) }
     ensures others { OthersKept (IsNamed words.now) (F.held files.old) (F.faults files.old) (F.faults files.new) }
 {
-    call(alloc, words, files, out, err)
+    call(alloc, words, files, out, err, passes, watch)
 }
 
-fn call<F: Files, W: Sink, E: Sink>(
+fn call<F: Files, W: Sink, E: Sink, V: Watch>(
     alloc: Global,
     words: &[String],
     files: &mut F,
     out: &mut W,
     err: &mut E,
+    passes: &mut Vec<Box<dyn Pass>>,
+    watch: &mut V,
 ) -> Status
     ensures ended { let files' = files_view F.held F.given F.faults in let out' = sink_view W.written W.faults in
-        let err' = sink_view E.written E.faults in
+        let passes' = passes_view called gives count in let err' = sink_view E.written E.faults in
         Ended (record {
           words = bytes_of words.now;
           files = files' files.old;
           files' = files' files.new;
           out = out' out.old;
           out' = out' out.new;
+          passes = passes' passes.old.items;
+          passes' = passes' passes.new.items;
+          seen = V.seen watch.old;
+          seen' = V.seen watch.new;
         }) (err' err.old) (err' err.new) result }
     ensures unread { command_of (bytes_of words.now) ≡ None → files.new ≡ files.old }
 {
-    match work(alloc, words, files, out) {
+    match work(alloc, words, files, out, passes, watch) {
         Ok(()) => Status::Ok,
         Err(refusal) => refuse(err, words, refusal),
     }
 }
 
-fn work<F: Files, W: Sink>(
+fn work<F: Files, W: Sink, V: Watch>(
     alloc: Global,
     words: &[String],
     files: &mut F,
     out: &mut W,
+    passes: &mut Vec<Box<dyn Pass>>,
+    watch: &mut V,
 ) -> Result<(), Refusal>
     ensures done { let files' = files_view F.held F.given F.faults in let out' = sink_view W.written W.faults in
+        let passes' = passes_view called gives count in
         Done (record {
           words = bytes_of words.now;
           files = files' files.old;
           files' = files' files.new;
           out = out' out.old;
           out' = out' out.new;
+          passes = passes' passes.old.items;
+          passes' = passes' passes.new.items;
+          seen = V.seen watch.old;
+          seen' = V.seen watch.new;
         }) result }
     ensures unread { command_of (bytes_of words.now) ≡ None → files.new ≡ files.old }
 {
@@ -132,5 +184,5 @@ fn work<F: Files, W: Sink>(
         return Err(Refusal::Usage);
     };
     let texts = read_files(alloc, files, words, command.files())?;
-    perform(alloc, command, words, texts.as_slice(), out)
+    perform(alloc, command, words, texts.as_slice(), out, passes, watch)
 }

@@ -2,16 +2,17 @@
 ghost use Rattle.std.specs.Prelude.{◌≡◌, OnOk, OnErr, Ok, length};
 ghost use Rattle.lucid_io.specs.Puts.{PutsAll, PutsPart};
 ghost use Rattle.lucid_top.specs.Check.{CheckAnswers, counts_line};
-ghost use Rattle.lucid_top.specs.Files.{texts_in};
-ghost use Rattle.lucid_top.specs.Outcome.{Prepares};
-ghost use Rattle.lucid_top.specs.Words.{word_at};
-ghost use Rattle.lucid_top.specs.Writing.{Performs};
+ghost use Rattle.lucid_top_words.specs.Files.{texts_in};
+ghost use Rattle.lucid_top_words.specs.Outcome.{Prepares};
+ghost use Rattle.lucid_top_words.specs.Words.{word_at};
+ghost use Rattle.lucid_top_words.specs.Writing.{Performs};
 
-use crate::program::accepted;
-use crate::refusal::Refusal;
+use crate::commands::text_at;
 use lucid_core::Core;
 use lucid_io::{Sink, WriteFault};
 use lucid_log::{Piece, put_pieces};
+use lucid_top_program::accepted;
+use lucid_top_words::Refusal;
 use std::alloc::Global;
 
 /// Writes how many declarations of each kind the program of this text has.
@@ -20,7 +21,7 @@ pub fn check<W: Sink>(alloc: Global, texts: &[Vec<u8>], out: &mut W) -> Result<(
     ensures { let answers = CheckAnswers (word_at (texts_in texts.now) 0) in
         Performs ⊥ answers W.written W.faults out.old out.new result }
 {
-    let core = prepare(alloc, texts[0].as_slice())?;
+    let core = prepare(alloc, text_at(texts, 0))?;
     put(out, &core)?;
     Ok(())
 }

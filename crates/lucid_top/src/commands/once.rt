@@ -2,18 +2,19 @@
 ghost use Rattle.std.specs.Prelude.{◌≡◌, All, IfSome, IsTrue, OnOk, OnErr, length, map, string_bytes};
 ghost use Rattle.lucid_core.specs.Fits.{event_fits, out_fits};
 ghost use Rattle.lucid_io.specs.Puts.{PutsAll, PutsPart};
-ghost use Rattle.lucid_top.specs.Files.{texts_in};
+ghost use Rattle.lucid_top_words.specs.Files.{texts_in};
 ghost use Rattle.lucid_top.specs.Once.{OnceAnswers, last_of, event_at as event_in, event_of, shown, ran};
-ghost use Rattle.lucid_top.specs.Outcome.{Prepares};
-ghost use Rattle.lucid_top.specs.Words.{word_at};
-ghost use Rattle.lucid_top.specs.Writing.{Performs};
+ghost use Rattle.lucid_top_words.specs.Outcome.{Prepares};
+ghost use Rattle.lucid_top_words.specs.Words.{word_at};
+ghost use Rattle.lucid_top_words.specs.Writing.{Performs};
 
-use crate::program::accepted;
-use crate::refusal::{Refusal, word_bytes};
+use crate::commands::text_at;
 use lucid_base::{Args, Event, Outs};
 use lucid_core::{Cells, Core, EventDef, run_whole};
 use lucid_io::{Sink, WriteFault};
 use lucid_log::{put_block, put_cells};
+use lucid_top_program::accepted;
+use lucid_top_words::{Refusal, word_bytes};
 use std::alloc::Global;
 
 /// Writes what the event of the third word does in the program of this text, with these arguments.
@@ -28,7 +29,7 @@ pub fn once<W: Sink>(
     ensures { let answers = OnceAnswers (word_at (texts_in texts.now) 0) (word_at (map string_bytes words.now) 2) arguments in
         Performs ⊥ answers W.written W.faults out.old out.new result }
 {
-    let ran = prepare(alloc, texts[0].as_slice(), word_bytes(words, 2), arguments)?;
+    let ran = prepare(alloc, text_at(texts, 0), word_bytes(words, 2), arguments)?;
     put(out, &ran)?;
     Ok(())
 }

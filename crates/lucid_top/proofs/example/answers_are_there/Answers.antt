@@ -7,8 +7,9 @@ use Rattle.lucid_types_rules.specs.Declaration.{parts_of, start}
 use Rattle.lucid_types_rules.specs.Makes.{IsTyped}
 use Rattle.lucid_types_rules.specs.Makes.Makes.{done}
 use Rattle.lucid_parse_tree.specs.declared.tree.Tree.{Tree}
+use Rattle.lucid_size.specs.Expansion.{ExpandsTo}
 use Rattle.lucid_top.specs.Check.{counts_line}
-use Rattle.lucid_top.specs.Program.{IsProgramOf, IsSource, source}
+use Rattle.lucid_top_program.specs.Program.{IsProgramOf, IsSource}
 use Rattle.lucid_top.proofs.example.answers_are_there.Goals as goal
 
 abbrev tree : Tree
@@ -17,8 +18,8 @@ tree = record { decls = [] }
 reads : Reads [] []
 reads = record { pieces = []; whole = refl; each_stands = tt; tokens = refl }
 
-is_source : IsSource [] (Ok (source [] []))
-is_source = (Ok [], reads, refl)
+is_source : ExpandsTo [] [] [] → IsSource [] (Ok [])
+is_source expands = (Ok [], reads, (expands, omega arith))
 
 is_tree : IsTreeOf [] [] tree
 is_tree = record { written = refl; spelled = refl; lines = tt }
@@ -37,4 +38,5 @@ unfolding digits
 line = refl
 
 pub returns : goal.returns
-returns c = (Ok (parts_of start), (Ok (source [] []), is_source, (Ok tree, (refl, is_tree), is_program)), ap (λ (t : List ℕ). Ok t) (sym line))
+returns c =
+    (Ok (parts_of start), (Ok [], is_source c.plain_text_stays.ensures, (Ok [], reads, (Ok tree, (refl, is_tree), is_program))), ap (λ (t : List ℕ). Ok t) (sym line))

@@ -1,6 +1,26 @@
 use Rattle.lucid_top.proofs.Laws as laws
-use Rattle.lucid_top.proofs.Seen as seen
+use Rattle.lucid_top.proofs.Runs.{wrote-of}
+use Rattle.lucid_top_words.proofs.Seen as seen
 use Rattle.lucid_top.proofs.top.lucid.Goals as goal
+
+pub returns-clause-whole : goal.returns-clause-whole
+returns-clause-whole g c = λ names texts hold a quiet unmet is.
+    wrote-of g.W.Sink.written g.W.Sink.faults c.args.out.now c.call.new.out c.call.result _ (laws.whole-clause c.call.ensures.ended names texts hold a quiet unmet is)
+
+pub returns-clause-pipe : goal.returns-clause-pipe
+returns-clause-pipe g c = λ names texts hold a f quiet unmet is.
+    wrote-of g.W.Sink.written g.W.Sink.faults c.args.out.now c.call.new.out c.call.result _ (laws.pipe-clause c.call.ensures.ended names texts hold a f quiet unmet is)
+
+pub returns-clause-drive : goal.returns-clause-drive
+returns-clause-drive g c = λ names texts hold a f quiet unmet is.
+    wrote-of g.W.Sink.written g.W.Sink.faults c.args.out.now c.call.new.out c.call.result _ (laws.drive-clause c.call.ensures.ended names texts hold a f quiet unmet is)
+
+pub returns-clause-placed : goal.returns-clause-placed
+returns-clause-placed g c = λ names texts hold placement text holds a audit quiet unmet is.
+    wrote-of g.W.Sink.written g.W.Sink.faults c.args.out.now c.call.new.out c.call.result _ (laws.placed-clause c.call.ensures.ended names texts hold placement text holds a audit quiet unmet is)
+
+pub returns-clause-shown : goal.returns-clause-shown
+returns-clause-shown g c = laws.shown-clause c.call.ensures.ended
 
 pub returns-clause-status : goal.returns-clause-status
 returns-clause-status g c = laws.status-clause c.call.ensures.ended
@@ -63,3 +83,9 @@ returns-clause-quiet g c = laws.quiet-clause c.call.ensures.ended
 
 pub returns-clause-others : goal.returns-clause-others
 returns-clause-others g c = laws.others-clause c.call.ensures.ended
+
+pub returns-clause-passes : goal.returns-clause-passes
+returns-clause-passes g c = laws.passes-clause c.call.ensures.ended
+
+pub returns-clause-told : goal.returns-clause-told
+returns-clause-told g c = laws.told-clause c.call.ensures.ended

@@ -1,31 +1,32 @@
 use Rattle.std.proofs.Common.{◌≡◌, ◌∙◌, length, ap, refl, Some, None, Err, rules, sym}
 use Rattle.std.proofs.lemmas.List.{length-map}
 use Rattle.lucid_top.specs.Call.{bytes_of}
-use Rattle.lucid_top.specs.Command.{command_of}
-use Rattle.lucid_top.specs.Files.{texts_in}
-use Rattle.lucid_top.specs.Outcome.{End}
-use Rattle.lucid_top.specs.Views.{files_view}
-use Rattle.lucid_top.proofs.Readings.{read-length}
-use Rattle.lucid_top.proofs.Seen.{performs-in, nothing-kept}
+use Rattle.lucid_top_words.specs.Command.{command_of}
+use Rattle.lucid_top_words.specs.Files.{texts_in}
+use Rattle.lucid_top_words.specs.Outcome.{End}
+use Rattle.lucid_top_words.specs.Views.{files_view}
+use Rattle.lucid_top_words.proofs.Readings.{read-length}
+use Rattle.lucid_top_words.proofs.Seen.{performs-in, nothing-kept}
 use Rattle.lucid_top.proofs.Works.{does-usage, does-refused, does-performed}
 use Rattle.lucid_top.proofs.top.work.Goals as goal
 
 pub returns-in_default-clause-done : goal.returns-in_default-clause-done
 returns-in_default-clause-done g c =
     let is : command_of (bytes_of c.args.words.now) ≡ None = search rules in
-    does-usage _ is refl nothing-kept
+    does-usage _ is refl nothing-kept refl refl
 
 pub returns-in_err-texts-clause-done : goal.returns-in_err-texts-clause-done
 returns-in_err-texts-clause-done g c =
     let is : command_of (bytes_of c.args.words.now) ≡ Some c.in-Some.command = search rules in
     let end : ◌≡◌ {A = End} c.from_residual.result (Err c.in_err-texts.field-0.0) = search rules in
-    does-refused c.in-Some.command _ is c.files.ensures.files c.in_err-texts.ensures end nothing-kept
+    does-refused c.in-Some.command _ is c.files.ensures.files c.in_err-texts.ensures end nothing-kept refl refl
 
 pub returns-clause-done : goal.returns-clause-done
 returns-clause-done g c =
     let is : command_of (bytes_of c.args.words.now) ≡ Some c.in-Some.command = search rules in
     does-performed c.in-Some.command _ is c.files.ensures.files c.in_ok-texts.ensures c.as_slice.ensures.value
-    (performs-in g.W.Sink.written g.W.Sink.faults c.args.out.now c.perform.new.out _ _ c.perform.result c.perform.ensures)
+    (performs-in g.W.Sink.written g.W.Sink.faults c.args.out.now c.perform.new.out _ _ c.perform.result c.perform.ensures.performs)
+    c.perform.ensures.ran c.perform.ensures.shown
 
 pub returns-in_err-texts-clause-unread : goal.returns-in_err-texts-clause-unread
 returns-in_err-texts-clause-unread g c = λ none.
@@ -43,4 +44,4 @@ perform-requires g c =
     let seen = files_view g.F.Files.held g.F.Files.given g.F.Files.faults in
     let read = read-length words (seen c.args.files.now) (seen c.read_files.new.files) c.files.result.now (texts_in c.in_ok-texts.texts.items) c.in_ok-texts.ensures in
     let many : length c.in_ok-texts.texts.items ≡ length (texts_in c.in_ok-texts.texts.items) = sym (length-map c.in_ok-texts.texts.items _) in
-    ap length c.as_slice.ensures.value ∙ many ∙ read ∙ ap length c.files.ensures.files
+    record { texts = ap length c.as_slice.ensures.value ∙ many ∙ read ∙ ap length c.files.ensures.files; counted = search rules }

@@ -1,0 +1,94 @@
+-- What is written on pipelines is what the handlers write that run whole, one event after another, in the order in which the events entered.
+use Rattle.std.specs.Prelude.{◌≡◌, ℕ, ◌≤◌, ◌⊎◌, List, [], ◌∷◌, Option, Some, Ok, codes, length}
+use Rattle.lucid_audit.specs.declared.plan.Plan.{Plan}
+use Rattle.lucid_code.specs.Nodes.{nodes}
+use Rattle.lucid_conf.specs.declared.limits.Limits.{Limits}
+use Rattle.lucid_conf.specs.declared.scene.Scene.{Scene}
+use Rattle.lucid_core.specs.Parts.{Parts}
+use Rattle.lucid_drive.specs.Drive.{drive_log}
+use Rattle.lucid_io.specs.Puts.{PutsAll}
+use Rattle.lucid_net_log.specs.Log.{log, whole}
+use Rattle.lucid_tables.specs.Placed.{PlacedParts}
+use Rattle.lucid_top.specs.Drive.{driven}
+use Rattle.lucid_top.specs.Pipes.{Ready, piped, ready, target}
+use Rattle.lucid_top_fit.specs.Fit.{Fit, IsComposed, IsFitted, Made}
+use Rattle.lucid_top_fit.specs.Passes.{PassView}
+use Rattle.lucid_top_fit.specs.Placing.{IsAudited, IsCounted, IsPlan}
+use Rattle.lucid_top_program.specs.Program.{IsProgram}
+use Rattle.lucid_top_program.specs.Settings.{IsLimits, IsScenario}
+use Rattle.lucid_top_words.specs.declared.status.Status.{Status}
+use Rattle.lucid_top_words.specs.declared.status.Status.TheVariants as status
+use Rattle.lucid_top_words.specs.Views.{Held}
+use Rattle.lucid_top_words.specs.Words.{Bytes}
+use Rattle.lucid_top_words.specs.Writing.{PutsSome}
+
+-- a program, the limits of a target, and a scenario: the names of their files, or their texts
+pub record Three : Type 0 where
+  pub program : Bytes
+  pub limits : Bytes
+  pub scenario : Bytes
+
+-- the words of each command over them
+abbrev pub run_whole : Three → List Bytes
+run_whole names = codes "run" ∷ codes "whole" ∷ names.program ∷ names.limits ∷ names.scenario ∷ []
+
+abbrev pub run_pipe : Three → List Bytes
+run_pipe names = codes "run" ∷ codes "pipe" ∷ names.program ∷ names.limits ∷ names.scenario ∷ []
+
+abbrev pub drive : Three → List Bytes
+drive names = codes "drive" ∷ names.program ∷ names.limits ∷ names.scenario ∷ []
+
+-- with the name of a placement file
+abbrev pub run_placed : Three → Bytes → List Bytes
+run_placed names placement = codes "run" ∷ codes "placed" ∷ names.program ∷ names.limits ∷ names.scenario ∷ placement ∷ []
+
+-- the name holds the text, which has at most so many bytes
+abbrev pub Holds : Held → Bytes → Bytes → ℕ → Type 0
+Holds held name text limit = (held name ≡ Some text) × (length text ≤ limit)
+
+-- the three names hold the three texts
+pub record Hold (held : Held) (names texts : Three) : Type 0 where
+  pub program : Holds held names.program texts.program 1048576
+  pub limits : Holds held names.limits texts.limits 1048576
+  pub scenario : Holds held names.scenario texts.scenario 8388608
+
+-- the rules accept the three texts: they are a program, limits, and a scenario for this program
+pub record Accepted (texts : Three) : Type 0 where
+  pub core : Parts
+  pub program_is : IsProgram texts.program (Ok core)
+  pub limits : Limits
+  pub limits_are : IsLimits texts.limits (Ok limits)
+  pub scene : Scene
+  pub scenario_is : IsScenario core texts.scenario (Ok scene)
+
+-- first fit places what the passes make of the program
+pub record FirstFitPlaces (passes : List PassView) {texts : Three} (a : Accepted texts) : Type 0 where
+  pub fitted : Fit
+  pub places : IsFitted a.core a.limits passes (Ok fitted)
+
+-- the audit accepts the places that a file gives to what the passes make of the program
+pub record AuditAccepts (passes : List PassView) {texts : Three} (a : Accepted texts) (placement : Bytes) : Type 0 where
+  pub made : Made
+  pub made_is : IsComposed a.core passes (Ok made)
+  pub counts : IsCounted a.core a.limits made.code (Ok made.code)
+  pub plan : Plan
+  pub plan_is : IsPlan placement (length (nodes made.code.ops)) (Ok plan)
+  pub placed : PlacedParts
+  pub accepts : IsAudited a.limits made.code plan (Ok placed)
+
+-- the pipelines that are ready to run then
+abbrev pub ready_of : {passes : List PassView} {texts : Three} {a : Accepted texts} → FirstFitPlaces passes a → Ready
+ready_of {passes} {texts} {a} f = ready (piped (target a.core a.limits) f.fitted) a.scene
+
+-- the log of the network whose handlers run whole, one event after another, in the order in which the events enter
+abbrev pub network_log : {texts : Three} → Accepted texts → Bytes
+network_log a = log (whole a.core a.scene a.limits)
+
+-- the log of the steps on one pipeline, told by handlers that run whole
+abbrev pub steps_log : {passes : List PassView} {texts : Three} {a : Accepted texts} → FirstFitPlaces passes a → Bytes
+steps_log f = drive_log (driven (ready_of f))
+
+-- the call wrote the text and ended with 0; or memory ran out, and then a prefix was written
+abbrev pub Wrote : {T : Type 0} → (T → Option Bytes) → (T → ℕ) → T → T → Status → Bytes → Type 0
+Wrote written faults old new result text =
+    ((result ≡ status.Ok) × PutsAll written faults old new text) ⊎ ((result ≡ status.Memory) × PutsSome written faults old new text)

@@ -1,0 +1,82 @@
+// What commands over pipelines set up from the texts of their files: a program that is placed in the stages of a target, and a scenario.
+ghost use Rattle.std.specs.Prelude.{◌<◌, IfOk, length};
+ghost use Rattle.lucid_top_fit.specs.Fit.{RunsOn};
+ghost use Rattle.lucid_top_fit.specs.Passes.{PassesRun, passes_view};
+ghost use Rattle.lucid_top_words.specs.Files.{texts_in};
+ghost use Rattle.lucid_top_words.specs.Outcome.{Prepares};
+ghost use Rattle.lucid_top_words.specs.Words.{word_at};
+ghost use Rattle.lucid_top.specs.Held.{PipesKeep, ReadyKeeps, TargetKeeps, pipes_view, ready_view, target_view};
+ghost use Rattle.lucid_top.specs.Pipes.{IsPiped, IsPlacedIn, IsReady, IsSet, RunsCode};
+
+use crate::commands::setup::{Pipes, Ready, Target};
+use crate::commands::text_at;
+use lucid_pass::Pass;
+use lucid_top_fit::fitted;
+use lucid_top_program::scenario;
+use lucid_top_words::Refusal;
+use std::alloc::Global;
+
+impl Pipes {
+    /// The pipeline of the program of the first text under the limits of the second, after these passes.
+    pub fn read(
+        alloc: Global,
+        texts: &[Vec<u8>],
+        passes: &mut Vec<Box<dyn Pass>>,
+    ) -> Result<Pipes, Refusal>
+        requires { 1 < length texts.now }
+        ensures pipes { let text = word_at (texts_in texts.now) in
+            Prepares (IsPiped (text 0) (text 1) (passes_view called gives count passes.old.items)) pipes_view result }
+        ensures keeps { IfOk result PipesKeep }
+        ensures ran { let text = word_at (texts_in texts.now) in let seen = passes_view called gives count in
+            PassesRun (RunsCode (text 0) (text 1)) (seen passes.old.items) (seen passes.new.items) result }
+    {
+        let target = Target::read(alloc, texts)?;
+        placed_in(alloc, target, passes)
+    }
+}
+
+// First fit places what the passes make of the program.
+fn placed_in(
+    alloc: Global,
+    target: Target,
+    passes: &mut Vec<Box<dyn Pass>>,
+) -> Result<Pipes, Refusal>
+    requires { TargetKeeps target }
+    ensures pipes { let passes' = passes_view called gives count passes.old.items in
+        Prepares (IsPlacedIn passes' (target_view target)) pipes_view result }
+    ensures keeps { IfOk result PipesKeep }
+    ensures ran { let seen = passes_view called gives count in
+        PassesRun (RunsOn target.core) (seen passes.old.items) (seen passes.new.items) result }
+{
+    let fitted = fitted(alloc, &target.core, &target.limits, passes)?;
+    Ok(Pipes { target, fitted })
+}
+
+impl Ready {
+    /// The pipelines of the three texts, ready to run.
+    pub fn read(
+        alloc: Global,
+        texts: &[Vec<u8>],
+        passes: &mut Vec<Box<dyn Pass>>,
+    ) -> Result<Ready, Refusal>
+        requires { 2 < length texts.now }
+        ensures ready { let text = word_at (texts_in texts.now) in
+            Prepares (IsReady (text 0) (text 1) (text 2) (passes_view called gives count passes.old.items)) ready_view result }
+        ensures keeps { IfOk result ReadyKeeps }
+        ensures ran { let text = word_at (texts_in texts.now) in let seen = passes_view called gives count in
+            PassesRun (RunsCode (text 0) (text 1)) (seen passes.old.items) (seen passes.new.items) result }
+    {
+        let pipes = Pipes::read(alloc, texts, passes)?;
+        set(alloc, pipes, text_at(texts, 2))
+    }
+}
+
+// The scenario that the text writes for them.
+fn set(alloc: Global, pipes: Pipes, text: &[u8]) -> Result<Ready, Refusal>
+    requires { PipesKeep pipes }
+    ensures ready { Prepares (IsSet text.now (pipes_view pipes)) ready_view result }
+    ensures keeps { IfOk result ReadyKeeps }
+{
+    let scene = scenario(alloc, text, &pipes.target.core)?;
+    Ok(Ready { pipes, scene })
+}

@@ -1,0 +1,38 @@
+// A program under the limits of a target, from the texts of their files.
+ghost use Rattle.std.specs.Prelude.{◌<◌, IfOk, length};
+ghost use Rattle.lucid_effects_order.specs.Order.{IsAccepted};
+ghost use Rattle.lucid_top_words.specs.Files.{texts_in};
+ghost use Rattle.lucid_top_words.specs.Outcome.{Prepares};
+ghost use Rattle.lucid_top_words.specs.Words.{word_at};
+ghost use Rattle.lucid_top.specs.Held.{TargetKeeps, target_view};
+ghost use Rattle.lucid_top.specs.Pipes.{IsTarget, IsUnder};
+
+use crate::commands::setup::Target;
+use crate::commands::text_at;
+use lucid_core::Core;
+use lucid_top_program::{accepted, limits};
+use lucid_top_words::Refusal;
+use std::alloc::Global;
+
+impl Target {
+    /// The program of the first text under the limits of the second.
+    pub fn read(alloc: Global, texts: &[Vec<u8>]) -> Result<Target, Refusal>
+        requires { 1 < length texts.now }
+        ensures target { let text = word_at (texts_in texts.now) in
+            Prepares (IsTarget (text 0) (text 1)) target_view result }
+        ensures keeps { IfOk result TargetKeeps }
+    {
+        let core = accepted(alloc, text_at(texts, 0))?;
+        under(alloc, core, text_at(texts, 1))
+    }
+}
+
+// The program under the limits that the text writes.
+fn under(alloc: Global, core: Core, text: &[u8]) -> Result<Target, Refusal>
+    requires { IsAccepted core }
+    ensures target { Prepares (IsUnder core text.now) target_view result }
+    ensures keeps { IfOk result TargetKeeps }
+{
+    let limits = limits(alloc, text)?;
+    Ok(Target { core, limits })
+}

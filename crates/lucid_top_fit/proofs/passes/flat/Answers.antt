@@ -1,0 +1,9 @@
+use Rattle.std.proofs.Common.{sym, subst}
+use Rattle.lucid_top_words.specs.Outcome.{Declines}
+use Rattle.lucid_top_fit.specs.Fit.{IsComposed}
+use Rattle.lucid_top_fit.proofs.Composing.{not-composed}
+use Rattle.lucid_top_fit.proofs.passes.flat.Goals as goal
+
+pub returns-in-Err-clause-refused : goal.returns-in-Err-clause-refused
+returns-in-Err-clause-refused c =
+    λ passes. subst (Declines (IsComposed c.args.core.now passes)) (sym c.of_inline.ensures) (not-composed c.args.core.now passes c.in-Err.error c.in-Err.ensures.refused)

@@ -1,0 +1,4 @@
+pub mod Causes
+pub mod Fit
+pub mod Passes
+pub mod Placing

@@ -1,0 +1,45 @@
+-- What contracts see of passes in boxes, and what a call makes of those that it runs.
+use Rattle.std.specs.Prelude.{◌≡◌, ◌⊎◌, ℕ, List, Result, Err, length, map, take}
+use Rattle.std.specs.List.{AllByRecursion}
+use Rattle.lucid_code.specs.Parts as code
+use Rattle.lucid_pass.specs.Through.{gone, raised}
+use Rattle.lucid_pass_form.specs.Laws.{KeepsNodes}
+use Rattle.lucid_pass_form.specs.Replace.{Rewrite}
+use Rattle.lucid_top_words.specs.declared.refusal.Refusal.{Refusal}
+use Rattle.lucid_top_words.specs.declared.refusal.Refusal.TheVariants as refusal
+use Rattle.lucid_top_words.specs.Words.{Bytes}
+
+-- a pass: its name, what it makes of code, and how many operations went in all its runs
+pub record PassView : Type 0 where
+  pub name : Bytes
+  pub gives : Rewrite
+  pub removed : ℕ
+
+abbrev pub pass_view : {B : Type 0} → (B → Bytes) → (B → Rewrite) → (B → ℕ) → B → PassView
+pass_view name gives removed pass = record { name = name pass; gives = gives pass; removed = removed pass }
+
+abbrev pub passes_view : {B : Type 0} → (B → Bytes) → (B → Rewrite) → (B → ℕ) → List B → List PassView
+passes_view name gives removed passes = map (pass_view name gives removed) passes
+
+-- The first n of the old passes ran, one after another, from this code on: the new are the same in the same order, and of those that ran
+-- the counts rose by what went in each.
+pub record Ran (n : ℕ) (from : code.Parts) (old new : List PassView) : Type 0 where
+  pub names : map PassView.name new ≡ map PassView.name old
+  pub same : map PassView.gives new ≡ map PassView.gives old
+  pub counts : map PassView.removed new ≡ raised (map PassView.removed old) (take n (gone (map PassView.gives old) from))
+
+-- memory ran out
+abbrev pub RanOut : {X : Type 0} → Result X Refusal → Type 0
+RanOut (Err refusal.Memory) = Unit {0}
+RanOut other = ⊥
+
+-- What a call makes of its passes that runs them on code with `runs`: where there is none, or memory ran out, they may be as they were;
+-- else they ran on it, all of them unless memory ran out.
+abbrev pub PassesRun : {X : Type 0} → (code.Parts → Type 0) → List PassView → List PassView → Result X Refusal → Type 0
+PassesRun runs old new end =
+    ((new ≡ old) × ((from : code.Parts) → runs from → RanOut end))
+    ⊎ ((from : code.Parts) × runs from × (n : ℕ) × Ran n from old new × (RanOut end ⊎ (n ≡ length old)))
+
+-- where nodes stand behind what they read, they do so in what each of these makes
+abbrev pub KeepNodes : List Rewrite → Type 0
+KeepNodes gives = AllByRecursion (λ (p : Rewrite). KeepsNodes p.makes) gives

@@ -1,0 +1,5 @@
+pub mod JsonFiles
+pub mod Ordering
+pub mod Sizes
+pub mod Tokens
+pub mod Trees

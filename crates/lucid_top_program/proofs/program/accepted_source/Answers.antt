@@ -1,0 +1,18 @@
+use Rattle.std.proofs.Common.{List, Ok, sym, subst}
+use Rattle.lucid_core.specs.Parts.{Parts}
+use Rattle.lucid_lex.specs.declared.token.Token.{Token}
+use Rattle.lucid_top_words.specs.Outcome.{IsTheAnswer, Prepares}
+use Rattle.lucid_top_words.proofs.Parts.{Prepares-ok}
+use Rattle.lucid_top_program.specs.declared.source.Source.{Source}
+use Rattle.lucid_top_program.specs.Program.{AreTokens, IsProgramFrom, IsRead}
+use Rattle.lucid_top_program.specs.Source.{IsSourceOf, text_of}
+use Rattle.lucid_top_program.proofs.program.accepted_source.Goals as goal
+
+pub returns-in-AsWritten-clause-program : goal.returns-in-AsWritten-clause-program
+returns-in-AsWritten-clause-program c =
+    let text = c.args.text.now in
+    let tokens = c.in-AsWritten.tokens.items in
+    let is : IsTheAnswer (AreTokens text) (Ok tokens) = subst (IsSourceOf text) c.in-AsWritten.is c.requires in
+    let from = subst (λ (ts : List Token). Prepares (IsProgramFrom text ts) (λ (core : Parts). core) c.accepted_tokens.result) c.as_slice.ensures.value c.accepted_tokens.ensures.program in
+    subst (λ (s : Source). Prepares (IsRead (text_of text s)) (λ (core : Parts). core) c.accepted_tokens.result) (sym c.in-AsWritten.is)
+    (Prepares-ok (AreTokens text) (IsProgramFrom text) (λ (core : Parts). core) tokens c.accepted_tokens.result is from)

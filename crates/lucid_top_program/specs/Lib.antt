@@ -1,0 +1,4 @@
+pub mod Causes
+pub mod Program
+pub mod Settings
+pub mod Source

@@ -1,0 +1,6 @@
+pub mod Cycles
+pub mod Numbers
+pub mod Parts
+pub mod Reading
+pub mod Readings
+pub mod Seen

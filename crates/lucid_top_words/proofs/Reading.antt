@@ -1,0 +1,53 @@
+-- How the named files are read, one after another.
+use Rattle.std.proofs.Common.{◌≡◌, ℕ, inl, inr, List, [], ◌∷◌, ◌++◌, Ok, Err, refl, sym, ◌∙◌, ap, subst, append_assoc, append-nil, ◌+◌, ◌<◌, ◌≤◌, drop, drop-cons, get_or, add-one, length}
+use Rattle.std.proofs.lemmas.List.{drop_all}
+use Rattle.lucid_top_words.specs.declared.command.NamedFile.{NamedFile}
+use Rattle.lucid_top_words.specs.declared.refusal.Refusal.{Refusal}
+use Rattle.lucid_top_words.specs.Views.{FilesView}
+use Rattle.lucid_top_words.specs.Files.{Texts, FilesRead, ReadsOne, ReadsNone, before}
+
+-- these texts before those of the rest
+abbrev pub after : List (List ℕ) → Texts → Texts
+after texts (Ok more) = Ok (texts ++ more)
+after texts (Err r) = Err r
+
+after-more : (texts : List (List ℕ)) (text : List ℕ) (end : Texts) → after (texts ++ text ∷ []) end ≡ after texts (before text end)
+after-more texts text (Ok more) = ap (λ (l : List (List ℕ)). Ok l) (append_assoc texts (text ∷ []) more)
+after-more texts text (Err r) = refl
+
+-- Of all the files those up to `rest` were read, with these texts: however the rest is read, all are.
+pub record SoFar (words : List (List ℕ)) (old now : FilesView) (all rest : List NamedFile) (texts : List (List ℕ)) : Type 0 where
+  pub goes : (new : FilesView) (end : Texts) → FilesRead words now new rest end → FilesRead words old new all (after texts end)
+
+-- one more file, read whole
+pub SoFar-more : {words : List (List ℕ)} {old now new : FilesView} {all left : List NamedFile} {texts texts' : List (List ℕ)} (file : NamedFile) (rest : List NamedFile) →
+    SoFar words old now all left texts → left ≡ file ∷ rest → ReadsOne words now new file texts texts' → SoFar words old new all rest texts'
+SoFar-more {words} {old} {now} {new} {all} {left} {texts} {texts'} file rest so_far first one = record {
+  goes = λ last end reads.
+      subst (FilesRead words old last all)
+      (sym (ap (λ (l : List (List ℕ)). after l end) one.2 ∙ after-more texts one.0 end))
+      (so_far.goes last (before one.0 end) (subst (λ (l : List NamedFile). FilesRead words now last l (before one.0 end)) (sym first) (inr (new, one.0, end, one.1, reads, refl))));
+}
+
+-- a file that was refused ends the reading
+pub SoFar-not : {words : List (List ℕ)} {old now new : FilesView} {all left : List NamedFile} {texts : List (List ℕ)} (file : NamedFile) (rest : List NamedFile) (r : Refusal) (end : Texts) →
+    SoFar words old now all left texts → left ≡ file ∷ rest → ReadsNone words now new file r → end ≡ Err r → FilesRead words old new all end
+SoFar-not {words} {old} {now} {new} {all} {left} {texts} file rest r end so_far first none is =
+    subst (FilesRead words old new all) (sym is)
+    (so_far.goes new (Err r) (subst (λ (l : List NamedFile). FilesRead words now new l (Err r)) (sym first) (inl (r, none, refl))))
+
+-- no file is left
+pub SoFar-end : {words : List (List ℕ)} {old now : FilesView} {all left : List NamedFile} {texts : List (List ℕ)} →
+    SoFar words old now all left texts → left ≡ [] → FilesRead words old now all (Ok texts)
+SoFar-end {words} {old} {now} {all} {left} {texts} so_far none =
+    subst (λ (l : List (List ℕ)). FilesRead words old now all (Ok l)) (append-nil texts)
+    (so_far.goes now (Ok []) (subst (λ (l : List NamedFile). FilesRead words now now l (Ok [])) (sym none) (refl, refl)))
+
+-- the files that are left
+pub files-next : (named : List NamedFile) (i : ℕ) (file : NamedFile) → i < length named → file ≡ get_or named i file → drop i named ≡ file ∷ drop (i + 1) named
+files-next named i file lt is =
+    let step : drop i named ≡ get_or named i file ∷ drop (i + 1) named = rw add-one (drop-cons named i file lt) in
+    step ∙ ap (λ (f : NamedFile). f ∷ drop (i + 1) named) (sym is)
+
+pub files-none : (named : List NamedFile) (i : ℕ) → length named ≤ i → drop i named ≡ []
+files-none named i le = drop_all i named le

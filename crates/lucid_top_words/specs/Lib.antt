@@ -1,0 +1,11 @@
+pub mod Command
+pub mod Files
+pub mod NoFit
+pub mod Outcome
+pub mod Placement
+pub mod Refusal
+pub mod Sizes
+pub mod Status
+pub mod Views
+pub mod Words
+pub mod Writing

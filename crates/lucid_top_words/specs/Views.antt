@@ -1,0 +1,28 @@
+-- What contracts see of the things that a call is handed.
+use Rattle.std.specs.Prelude.{ℕ, Option}
+use Rattle.lucid_top_words.specs.Words.{Bytes}
+
+-- what a name holds, where that is told
+abbrev pub Held : Type 0
+Held = Bytes → Option Bytes
+
+-- the count of faults of each name
+abbrev pub Faults : Type 0
+Faults = Bytes → ℕ
+
+-- files: what each name holds, where that is told; how many bytes the begun file gave; the count of faults of each name
+pub record FilesView : Type 0 where
+  pub held : Held
+  pub given : ℕ
+  pub faults : Faults
+
+-- a sink: what was written, where that is told, and the count of its faults
+pub record SinkView : Type 0 where
+  pub written : Option Bytes
+  pub faults : ℕ
+
+abbrev pub files_view : {F : Type 0} → (F → Held) → (F → ℕ) → (F → Faults) → F → FilesView
+files_view held given faults files = record { held = held files; given = given files; faults = faults files }
+
+abbrev pub sink_view : {W : Type 0} → (W → Option Bytes) → (W → ℕ) → W → SinkView
+sink_view written faults sink = record { written = written sink; faults = faults sink }
