@@ -57,8 +57,11 @@ END {
     left = 20 + (wide + 2) * letter
     pitch = 44
     out = left + stages * pitch + 10
-    top = 58
+    top = 84
     y = top
+    text = "a number is a packet, in the order of entry, from 0; it stands before the stage that it does next"
+    write(3, 20, 20, text, "small grey")
+    right = 20 + length(text) * small
     for (i = 1; i <= steps; i++) {
         height = greater(26, 12 + 14 * notes[i])
         middle = y + 13
@@ -73,11 +76,12 @@ END {
         line(1, 20, y, out, y, "stroke=\"#eee\"")
     }
     for (k = 0; k < stages; k++) {
-        box(1, left + k * pitch + 2, top - 30, pitch - 4, y - top + 34, "rx=\"5\" fill=\"#eef3f8\" stroke=\"#b8c8d8\"")
+        box(1, left + k * pitch + 2, top - 44, pitch - 4, y - top + 48, "rx=\"5\" fill=\"#eef3f8\" stroke=\"#b8c8d8\"")
+        write(3, left + (k + 0.5) * pitch, top - 28, "stage", "small grey", 1)
         write(3, left + (k + 0.5) * pitch, top - 12, k, "bold", 1)
     }
-    write(3, 20, top - 12, "stage", "small grey")
-    write(3, out + 4, top - 12, "leaves", "small grey")
+    write(3, 20, top - 12, "step", "small grey")
+    write(3, out + 4, top - 12, "has left, and sent", "small grey")
     for (i = 1; i <= lines; i++) write(3, 20, y + 12 + 15 * i, last[i], "small")
-    finish(greater(right, out + 70), y + 24 + 15 * lines)
+    finish(greater(right, out + 140) + 10, y + 24 + 15 * lines)
 }

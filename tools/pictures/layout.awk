@@ -24,7 +24,7 @@ function width_of(k, width, n, i) {
     width = 110
     for (n = 1; n <= tables[k]; n++) {
         width = greater(width, length(size[k, n]) * letter + 24)
-        for (i = 1; i <= arrays[k, n]; i++) width = greater(width, length(array[k, n, i]) * letter + 70)
+        for (i = 1; i <= arrays[k, n]; i++) width = greater(width, (length(array[k, n, i]) + 6) * letter + 52)
     }
     return width
 }
@@ -38,7 +38,8 @@ function draw_tables(k, x, y, width, n, i, height) {
         write(3, x + 16, y + 36, size[k, n], "small")
         for (i = 1; i <= arrays[k, n]; i++) {
             box(3, x + 16, y + 22 + 24 * i, width - 32, 18, "rx=\"9\" fill=\"#ffe2c6\" stroke=\"#ee7733\"")
-            write(4, x + 26, y + 35 + 24 * i, array[k, n, i])
+            write(4, x + 26, y + 35 + 24 * i, "array", "small grey")
+            write(4, x + 26 + 5 * small + 7, y + 35 + 24 * i, array[k, n, i])
         }
         y += height + 10
     }

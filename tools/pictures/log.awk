@@ -1,6 +1,12 @@
-# A log: a column for each switch, and time downwards, not to scale. An event has a bar for as long as it is in the pipeline; bars side by
-# side are packets that overlap. An arrow goes from the end of a bar to the event that was sent: the first one at that switch with that name
-# and these arguments that comes late enough. What comes from nowhere is from the scenario.
+# A log: a column for each switch, and time downwards, not to scale. An event has a bar for as long as it is in the pipeline, and a thin tail
+# for as long as what it sends is on its way back to the first stage; bars side by side are packets that overlap. An arrow goes from there to
+# the event that was sent: the first one at that switch with that name and these arguments that comes late enough. What comes from nowhere
+# is from the scenario.
+
+BEGIN {
+    leaving = stages + recirc
+    pitch = 12
+}
 
 /^\[[0-9]+\] s[0-9]+ [^ ]+$/ {
     e = ++events
@@ -13,10 +19,10 @@
 }
 events && /^  say / { note(e, "\"" substr($0, 7) "\"", "small grey"); next }
 events && /^  generate [^ ]+ delay [0-9]+ (here|to [0-9]+)( lost)?$/ {
+    sends[e] = 1
     if ($NF == "lost") {
-        note(e, "lost: " $2 " to " $6, "small red")
-        loser[++losses] = e
-        missed[losses] = $6 + 0
+        note(e, sprintf("lost at %.0f: %s to %s", at[e] + leaving + $4, $2, $6), "small red")
+        loses[e] = 1
     } else {
         o = ++outs
         sender[o] = e
@@ -51,9 +57,9 @@ function out_of(e, i, o, best) {
     best = 0
     for (i = done[where[e], call[e]] + 1; i <= waiting[where[e], call[e]]; i++) {
         o = waits[where[e], call[e], i]
-        if (at[sender[o]] + stages > at[e]) break
+        if (at[sender[o]] + leaving > at[e]) break
         if (taken[o] && i == done[where[e], call[e]] + 1) done[where[e], call[e]]++
-        if (taken[o] || at[sender[o]] + stages + delay[o] > at[e]) continue
+        if (taken[o] || at[sender[o]] + leaving + delay[o] > at[e]) continue
         if (!best || at[sender[o]] + delay[o] < at[sender[best]] + delay[best]) best = o
     }
     if (best) taken[best] = 1
@@ -71,6 +77,7 @@ function set_axis(i, tick, e, last_row, room) {
     for (e = 1; e <= events; e++) {
         rows[at[e]] = greater(rows[at[e]], 1 + notes[e])
         ticks[at[e]] = ticks[at[e] + stages] = 1
+        if (sends[e]) ticks[at[e] + leaving] = 1
     }
     tick = -1
     points = 0
@@ -110,12 +117,12 @@ function sort(from, to, i, j, middle, kept) {
     sort(i, to)
 }
 
-# Bars of one switch that overlap stand side by side.
+# Bars of one switch that overlap stand side by side, and so do those that touch, so that each way begins at one bar alone.
 function set_slots(e, s, k) {
     for (e = 1; e <= events; e++) {
         s = where[e]
-        for (k = 0; free[s, k] > at[e]; k++);
-        free[s, k] = at[e] + stages
+        for (k = 0; ((s, k) in free) && free[s, k] >= at[e]; k++);
+        free[s, k] = at[e] + (sends[e] ? leaving : stages)
         slot[e] = k
         slots[s] = greater(slots[s], k + 1)
     }
@@ -133,15 +140,18 @@ function set_columns(s, e, i, x) {
         for (i = 1; i <= cells[s] && i <= 10; i++) wide[s] = greater(wide[s], length(cell[s, i]) * small)
         x += loops[s] ? 34 : 14
         column[s] = x
-        x += slots[s] * 10 + greater(wide[s], 60) + 24
+        x += slots[s] * pitch + greater(wide[s], 60) + 24
     }
     right = x
 }
 
-# Where the ways of what an event sent begin: at the end of its bar, or below the text of an event that enters there at that tick.
-function leave_of(e) { return spot[at[e] + stages] + (enters[where[e], at[e] + stages] ? 8 : 0) }
+# Where the ways of what an event sent begin: where another enters at that tick, below the text of that, so that no way is hidden by it.
+function leave_of(e, tick) {
+    tick = at[e] + leaving
+    return spot[tick] + (enters[where[e], tick] ? 8 : 0)
+}
 
-function x_of(e) { return column[where[e]] + 10 * slot[e] }
+function x_of(e) { return column[where[e]] + pitch * slot[e] }
 
 # The square root, which not every awk has.
 function root(x, r, i) {
@@ -159,18 +169,27 @@ function arrow_head(x, y, dx, dy, shade_, size) {
         " L" spot_of(x - 8 * dx - 3.5 * dy, y - 8 * dy + 3.5 * dx) " z\" fill=\"" shade_ "\"/>")
 }
 
+# A line from the end of a bar down to where a way begins.
+function draw_tail(e, y, start) {
+    start = (e in tail) ? tail[e] : spot[at[e] + stages]
+    if (y <= start) return
+    line(2, x_of(e) + 3, start, x_of(e) + 3, y, "stroke=\"" colour(call[e]) "\" stroke-width=\"1.3\"")
+    tail[e] = y
+}
+
 function draw_arrow(o, e, x, y, x2, y2, bend, look) {
     x = x_of(sender[o]) + 3
     x2 = x_of(e) + 3
     y2 = spot[at[e]]
     y = where[e] == where[sender[o]] ? lesser(leave_of(sender[o]), y2) : leave_of(sender[o])
+    draw_tail(sender[o], y)
     look = "stroke=\"" colour(call[e]) "\" stroke-width=\"1.3\" opacity=\"0.75\""
     if (where[e] == where[sender[o]] && y2 - y > 12) {
         path(1, "M" spot_of(x, y) " C" spot_of(x - 26, y + 6) " " spot_of(x2 - 26, y2 - 6) " " spot_of(x2 - 5, y2), look)
         arrow_head(x2 - 4, y2, 1, 0.4, colour(call[e]))
         return
     }
-    if (where[e] != where[sender[o]] && x2 < x) x2 = column[where[e]] + 10 * slots[where[e]] + 6 + length(call[e]) * letter
+    if (where[e] != where[sender[o]] && x2 < x) x2 = column[where[e]] + pitch * slots[where[e]] + 6 + length(call[e]) * letter
     else if (x2 < x) x2 += 5
     else if (x2 > x) x2 -= 5
     else y2 -= 5
@@ -180,24 +199,23 @@ function draw_arrow(o, e, x, y, x2, y2, bend, look) {
     }
 }
 
-# A short way towards the switch that it did not reach, and a cross.
-function draw_loss(i, x, y, side) {
-    x = x_of(loser[i]) + 3
-    y = leave_of(loser[i])
-    side = missed[i] < where[loser[i]] ? -1 : 1
-    line(1, x, y, x + side * 22, y + 5, "stroke=\"#c00\" stroke-dasharray=\"3 2\"")
-    path(3, "M" spot_of(x + side * 25 - 4, y + 2) " l8 8 m0 -8 l-8 8", "stroke=\"#c00\" stroke-width=\"2\"")
+function cross(layer, x, y) {
+    path(layer, "M" spot_of(x - 4, y - 4) " l8 8 m0 -8 l-8 8", "stroke=\"#c00\" stroke-width=\"2\"")
 }
 
 function draw_event(e, x, y, i) {
     x = x_of(e)
     y = spot[at[e]]
     box(2, x, y, 6, greater(spot[at[e] + stages] - y, 2), "fill=\"" colour(call[e]) "\" opacity=\"0.45\"")
+    if (loses[e]) {
+        draw_tail(e, leave_of(e))
+        cross(3, x + 3, leave_of(e))
+    }
     if (from[e]) dot(3, x + 3, y, 4, "fill=\"" colour(call[e]) "\"")
     else box(3, x - 1, y - 4, 8, 8, "fill=\"#fff\" stroke=\"" colour(call[e]) "\" stroke-width=\"2\"")
-    x = column[where[e]] + 10 * slots[where[e]] + 4
-    write_over(4, x, y + 4, call[e], "")
-    for (i = 1; i <= notes[e]; i++) write_over(4, x + 8, y + 4 + 14 * i, remark[e, i], looks[e, i])
+    x = column[where[e]] + pitch * slots[where[e]] + 4
+    write_over(3, x, y + 4, call[e], letter, "")
+    for (i = 1; i <= notes[e]; i++) write_over(3, x + 8, y + 4 + 14 * i, remark[e, i], small, looks[e, i])
 }
 
 END {
@@ -218,7 +236,7 @@ END {
         if (delay[o] > 0) text = text ", delay " delay[o]
         note(sender[o], text, "small grey")
     }
-    top = 76
+    top = 94
     set_slots()
     set_columns()
     set_axis()
@@ -232,7 +250,6 @@ END {
         if (from[e]) draw_arrow(from[e], e)
         draw_event(e)
     }
-    for (i = 1; i <= losses; i++) draw_loss(i)
     tall = foot
     for (s = 0; s <= highest; s++) {
         if (!(s in seen)) continue
@@ -247,8 +264,16 @@ END {
     write(4, 34, 20, "from the scenario", "small")
     dot(4, 170, 16, 4, "fill=\"#555\"")
     write(4, 180, 20, "sent", "small")
-    box(4, 230, 11, 6, 11, "fill=\"#555\" opacity=\"0.45\"")
-    write(4, 242, 20, "in the pipeline, " stages " stage" (stages == 1 ? "" : "s"), "small")
+    cross(4, 226, 16)
+    write(4, 236, 20, "lost", "small")
+    box(4, 280, 11, 6, 11, "fill=\"#555\" opacity=\"0.45\"")
+    text = "in the pipeline, " stages " stage" (stages == 1 ? "" : "s")
+    if (recirc) text = text ", and " recirc " tick" (recirc == 1 ? "" : "s") " back"
+    write(4, 292, 20, text, "small")
+    legend = 292 + length(text) * small
+    text = "time goes down, not to scale; bars side by side overlap; colours go by name"
+    write(4, 20, 38, text, "small grey")
+    legend = greater(legend, 20 + length(text) * small)
     if (ending != "") write(4, 20, tall + 26, ending, "")
-    finish(greater(right, 420), tall + 40)
+    finish(greater(right, legend + 10), tall + 40)
 }

@@ -42,10 +42,10 @@ function write(layer, x, y, text, class, in_middle) {
         (in_middle ? " text-anchor=\"middle\"" : "") ">" escaped(text) "</text>")
 }
 
-# A text with a white seam, which stays readable over lines.
-function write_over(layer, x, y, text, class) {
-    write(layer, x, y, text, class (class == "" ? "" : " ") "seam")
-    write(layer, x, y, text, class)
+# A text of letters of this width that stays readable over lines: what is below it shines through a white box.
+function write_over(layer, x, y, text, width, class) {
+    box(layer, x - 2, y - 11, length(text) * width + 4, 14, "fill=\"#fff\" opacity=\"0.85\"")
+    write(layer + 1, x, y, text, class)
 }
 
 # The whole picture of this size.
@@ -55,7 +55,6 @@ function finish(width, height, layer, i) {
     print "<svg xmlns=\"http://www.w3.org/2000/svg\" width=\"" width "\" height=\"" height "\" viewBox=\"0 0 " width " " height "\">"
     print "<style>"
     print "text { font: 12px \"DejaVu Sans Mono\", Menlo, Consolas, monospace; fill: #222; white-space: pre }"
-    print ".seam { stroke: #fff; stroke-width: 4; stroke-linejoin: round }"
     print ".small { font-size: 11px }"
     print ".big { font-size: 13px }"
     print ".big, .bold { font-weight: bold }"
