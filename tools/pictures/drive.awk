@@ -1,6 +1,6 @@
 # Steps of one pipeline that is driven by hand: a row for each line that a step printed, and in it the packets, by the number of their
-# entry, before the stage that they execute next. Behind the last step those in flight leave, the oldest first. The lines at the end are told
-# as they are, those of `snap` too.
+# entry, before the stage that they execute next. Behind the last step those in flight leave, the oldest first. The lines at the end are
+# told as they are, those of `snap` too.
 
 BEGIN { steps = 0; oldest = 0; entries = 0 }
 

@@ -60,7 +60,8 @@ function draw_row(first, y, k, x, low, width, from, wide) {
     }
     if (k <= last) arrow(x - 30, x - 4, y + 56)
     right = greater(right, x)
-    for (k = first; k <= last && k < first + 6; k++) box(1, from[k], y, wide[k], low - y + 4, "rx=\"6\" fill=\"#eef3f8\" stroke=\"#b8c8d8\"")
+    for (k = first; k <= last && k < first + 6; k++)
+        box(1, from[k], y, wide[k], low - y + 4, "rx=\"6\" fill=\"#eef3f8\" stroke=\"#b8c8d8\"")
     return low + 24
 }
 

@@ -1,7 +1,7 @@
-# A log: a column for each switch, and time downwards, not to scale. An event has a bar for as long as it is in the pipeline, and a thin tail
-# for as long as what it sends is on its way back to the first stage; bars side by side are packets that overlap. An arrow goes from there to
-# the event that was sent: the first one at that switch with that name and these arguments that comes late enough. What comes from nowhere
-# is from the scenario.
+# A log: a column for each switch, and time downwards, not to scale. An event has a bar for as long as it is in the pipeline, and a thin
+# tail for as long as what it sends is on its way back to the first stage; bars side by side are packets that overlap. An arrow goes from
+# there to the event that was sent: the first one at that switch with that name and these arguments that comes late enough. What comes from
+# nowhere is from the scenario.
 
 BEGIN {
     leaving = stages + recirc
