@@ -1,7 +1,7 @@
-# Mutates files of calls, for tests/mutated. Reads calls, one a line: a folder, and the words, of which those that name files name them there.
-# For each of `count` numbers from `first` on it takes a call, makes of one of its files a mutated one, `m` and the number, in the
-# current folder, and prints the number and the words that call the program with it. What it makes follows from the number and the
-# calls alone. LC_ALL must be C, so that a character is a byte. The byte 0, which not every awk can hold, is never put in.
+# Mutates files of calls, for tests/mutated, with the numbers of draw.awk. Reads calls, one a line: a folder, and the words, of which those
+# that name files name them there. For each of `count` numbers from `first` on it takes a call, makes of one of its files a mutated one, `m`
+# and the number, in the current folder, and prints the number and the words that call the program with it. What it makes follows from the
+# number and the calls alone. LC_ALL must be C, so that a character is a byte. The byte 0, which not every awk can hold, is never put in.
 BEGIN {
     ORS = ""
     # Which words name files, by the form that they have.
@@ -21,19 +21,6 @@ BEGIN {
         "18446744073709551616 \"version\" \"switches\" \"stop\" \"links\" \"down\" \"events\" \"steps\" \"at\" \"switch\" \"name\" \"args\" " \
         "\"enter\" \"go\" \"look\" \"stages\" \"tables\" \"rows\" \"arrays\" \"arms\" \"bits\" \"recirc\" \"nodes\" \\u0000 \\ud800 \\", list, " ")
     for (i = 1; i <= own[2]; i++) word[2, i] = list[i]
-}
-
-# The next number of the generator, from 0 to below `bound`: two generators of the form a * s modulo m, the one less the other.
-function draw(bound) {
-    low = (low * 40014) % 2147483563
-    high = (high * 40692) % 2147483399
-    return (low - high + 2147483563) % 2147483563 % bound
-}
-
-function start(number, i) {
-    low = 1 + (number * 7919) % 2147483562
-    high = 1 + (number * 104729) % 2147483398
-    for (i = 0; i < 8; i++) draw(2)
 }
 
 # Whether there is a text of at most 4,096 bytes; it is read once, and kept line by line.
