@@ -1,5 +1,5 @@
 // The program: hands the words, the machine's files, its two output streams and the passes to the top call, and ends with its status.
-// Nothing else belongs here.
+// Nothing else belongs here but the room in which output waits, so that a log costs few calls of the system.
 #![tactic(auto)]
 
 use lucid_base::Memory;
@@ -9,33 +9,58 @@ use lucid_pipe::NoWatch;
 use lucid_top::{Status, lucid};
 use std::alloc::Global;
 use std::env;
-use std::io::ErrorKind;
+use std::io::{BufWriter, ErrorKind, Write};
 use std::process::ExitCode;
+
+/// How many bytes of output may wait until they are handed to the machine together.
+const WAITING: usize = 65536;
 
 fn main(rt: HostRuntime) -> ExitCode {
     let alloc = rt.alloc();
-    let mut out = RealOut::new(rt.stdout());
     let mut err = RealOut::new(rt.stderr());
-    let status = match words(&rt) {
-        Ok(words) => match called(
-            alloc,
-            words.as_slice(),
-            &mut RealFiles::new(rt),
-            &mut out,
-            &mut err,
-        ) {
-            Ok(status) => status,
-            Err(_) => told(&mut err, Status::Memory),
-        },
-        Err(status) => told(&mut err, status),
+    let status = match BufWriter::with_capacity(alloc, WAITING, rt.stdout()) {
+        Ok(mut output) => {
+            let status = answered(rt, &mut output, &mut err);
+            handed_on(status, &mut output, &mut err)
+        }
+        Err(_) => told(&mut err, Status::Memory),
     };
     ExitCode::from(status.code())
 }
 
-/// Ends before the call, with the line of this status.
+/// Does what the program's words ask for.
+fn answered<O: Write, E: Sink>(rt: HostRuntime, output: &mut O, err: &mut E) -> Status {
+    match words(&rt) {
+        Ok(words) => {
+            let mut out = RealOut::new(output);
+            match called(
+                rt.alloc(),
+                words.as_slice(),
+                &mut RealFiles::new(rt),
+                &mut out,
+                err,
+            ) {
+                Ok(status) => status,
+                Err(_) => told(err, Status::Memory),
+            }
+        }
+        Err(status) => told(err, status),
+    }
+}
+
+/// Hands on what waits. Where that fails and the call has told no line of its own, it ends as where a write of it failed.
+fn handed_on<O: Write, E: Sink>(status: Status, output: &mut O, err: &mut E) -> Status {
+    match (output.flush(), status) {
+        (Err(_), Status::Ok) => told(err, Status::WriteFault),
+        (_, status) => status,
+    }
+}
+
+/// Ends beside the call, with the line of this status.
 fn told<E: Sink>(err: &mut E, status: Status) -> Status {
     let line: &[u8] = match status {
         Status::Usage => b"usage\n",
+        Status::WriteFault => b"write fault\n",
         _ => b"memory\n",
     };
     let _ = put_all(err, line);
