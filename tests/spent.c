@@ -1,5 +1,5 @@
-/* Runs a program and tells what it spent, for tests/deep: `spent FILE PROGRAM WORD..` writes into FILE the exit code, which is 128 and the
-   number of a signal where that ended it, then the seconds of a processor, and the most memory in MB. */
+/* Runs a program and tells what it spent, for tests/deep and tests/wide: `spent FILE PROGRAM WORD..` writes into FILE the exit code, which is
+   128 and the number of a signal where that ended it, then the seconds of a processor, and the most memory in MB. */
 #include <stdio.h>
 #include <sys/resource.h>
 #include <sys/wait.h>
@@ -24,6 +24,6 @@ int main(int count, char **words)
     if (!file)
         return 1;
     double seconds = used.ru_utime.tv_sec + used.ru_stime.tv_sec + (used.ru_utime.tv_usec + used.ru_stime.tv_usec) / 1e6;
-    fprintf(file, "%d %.2f %.0f\n", WIFSIGNALED(status) ? 128 + WTERMSIG(status) : WEXITSTATUS(status), seconds, used.ru_maxrss / 1000.0);
+    fprintf(file, "%d %.3f %.0f\n", WIFSIGNALED(status) ? 128 + WTERMSIG(status) : WEXITSTATUS(status), seconds, used.ru_maxrss / 1000.0);
     return fclose(file) != 0;
 }
