@@ -1,7 +1,7 @@
 /* Refuses what a program asks of the C library, for tests/refused. Preloaded to a program of the GNU C library, it counts requests for
    memory, files opened, reads, writes on the standard output, and writes on the standard error; of each the one whose number, from 1,
-   stands in the variable below is refused. Where SHORT is set, a read or write moves one byte at most. Where COUNT names a file, the
-   five counts are written there as the program ends. */
+   stands in the variable below is refused, and where REFUSE_BEHIND is set all behind it. Where SHORT is set, a read or write moves one
+   byte at most. Where COUNT names a file, the five counts are written there as the program ends. */
 #define _GNU_SOURCE
 #include <errno.h>
 #include <fcntl.h>
@@ -20,7 +20,7 @@ enum kind { MEMORY, OPEN, READ, WRITE, TELL, KINDS };
 
 static const char *const variables[KINDS] = {"REFUSE_MEMORY", "REFUSE_OPEN", "REFUSE_READ", "REFUSE_WRITE", "REFUSE_TELL"};
 static unsigned long requests[KINDS], refused[KINDS];
-static int known, moves_one;
+static int known, moves_one, all_behind;
 
 /* The first request may come before any constructor has run. */
 static void know(void)
@@ -29,6 +29,7 @@ static void know(void)
         return;
     known = 1;
     moves_one = getenv("SHORT") != NULL;
+    all_behind = getenv("REFUSE_BEHIND") != NULL;
     for (int kind = 0; kind < KINDS; kind++) {
         const char *number = getenv(variables[kind]);
         while (number && *number)
@@ -39,7 +40,8 @@ static void know(void)
 static int refuses(enum kind kind, int error)
 {
     know();
-    if (++requests[kind] != refused[kind])
+    unsigned long number = ++requests[kind];
+    if (number != refused[kind] && !(all_behind && refused[kind] && number > refused[kind]))
         return 0;
     errno = error;
     return 1;
