@@ -1,6 +1,6 @@
 -- Rows that ask a field for another value than a row does are passed over: the pairs stay the same.
 use Rattle.std.proofs.Common.{◌≡◌, ◌≢◌, ℕ, ◌+◌, ◌%◌, ◌<◌, List, [], ◌∷◌, ◌++◌, Bool, true, false, not, ◌&&◌, ◌||◌, cond, if◌then◌else◌, length, nat_eq, drop, slice_get, slice_index, slice_index_or, refl, sym, ap, subst, ◌∙◌, ⊎_elim, arith, append_assoc, add-one, drop-cons}
-use Rattle.std.specs.List.{list_any, filter, cons_option}
+use Rattle.std.specs.List.{All, list_any, filter, cons_option}
 use Rattle.std.proofs.lemmas.Bool.{and_parts, and_from, or_cases, or_left, or_right, eqb-true, eq-eqb, ne_eqb, true≢false, not_from_false}
 use Rattle.std.proofs.lemmas.List.Elements.{filter_map-append}
 use Rattle.std.proofs.lemmas.Option.{slice_get_read}
@@ -76,8 +76,12 @@ module _ (field rest : ℕ) where
       by true e more = more ∙ sym (ap (λ t. if t then pairs_with a rows else pair a b ∷ pairs_with a rows) (clashes a b h e))
       by false e more = ap (λ l. if clash a.pattern b.pattern then l else pair a b ∷ l) more
 
-pub beside : (kept : List Row) (a : Row) (rows : List Row) (n : Near) → IsNear rows n → list_any (asks n.field n.rest) a.pattern ≡ true → kept_of kept (pairs_with a (rows_at rows n.places)) ≡ kept_of kept (pairs_with a rows)
-beside kept a rows n near h = ap (λ l. kept_of kept (pairs_with a l)) near.0 ∙ ap (kept_of kept) (near_pairs n.field n.rest a rows h)
+pub item_near : (rows : List Row) (near : List Near) (i : ℕ) (n : Near) → All (IsNear rows) near → i < length near → n ≡ slice_index_or near i n → IsNear rows n
+item_near rows near i n all there is = subst (IsNear rows) (sym is) (all i n there)
+
+pub beside : (kept : List Row) (a : Row) (rows : List Row) (n : Near) (suits : Bool) → IsNear rows n → suits ≡ list_any (asks n.field n.rest) a.pattern → suits ≡ true →
+    kept_of kept (pairs_with a (rows_at rows n.places)) ≡ kept_of kept (pairs_with a rows)
+beside kept a rows n suits near e h = ap (λ l. kept_of kept (pairs_with a l)) near.0 ∙ ap (kept_of kept) (near_pairs n.field n.rest a rows (sym e ∙ h))
 
 -- ---- the places of rows that pass a test
 

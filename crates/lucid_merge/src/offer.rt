@@ -1,37 +1,22 @@
 // Pairs of rows, made and kept as long as there are not too many.
 ghost use Rattle.std.specs.Prelude.{◌≡◌, ◌+◌, ◌*◌, ◌≤◌, ◌++◌, [], ◌∷◌, length, IfOk};
-ghost use Rattle.std.specs.List.{list_any, All};
-ghost use Rattle.lucid_tables.specs.declared.table.Row.{Row as TableRow};
-ghost use Rattle.lucid_merge.specs.Product.{includes, union, default, pairs_with, kept_of};
+ghost use Rattle.std.specs.List.{All};
+ghost use Rattle.lucid_merge.specs.Product.{default, pairs_with, kept_of};
 ghost use Rattle.lucid_merge.specs.Offers.{Offered};
 ghost use Rattle.lucid_merge.specs.Standing.{rows_at, IsNear};
 
+use crate::kept::Kept;
 use crate::near::{Near, suits};
-use crate::patterns::{clash, include_together, pair};
-use lucid_base::{Items, Memory, Steps};
-use lucid_code::Literal;
+use crate::patterns::{clash, pair};
+use lucid_base::{Memory, Steps};
 use lucid_tables::Row;
 use std::alloc::Global;
 use std::sync::ledger::Ledger;
 
-/// Whether two patterns together include that of a row that was kept. It takes a step for each row that it compares.
-fn is_covered<L: Ledger>(p: &[Literal], q: &[Literal], kept: &[Row], steps: &mut Steps<L>) -> bool
-    ensures value { result ≡ list_any (λ (k : TableRow). includes (union p.now q.now) k.pattern) kept.now }
-    ensures steps { steps.new ≤ steps.old + length kept.now }
-{
-    for row in kept {
-        steps.tick();
-        if include_together(p, q, row.pattern.as_slice()) {
-            return true;
-        }
-    }
-    false
-}
-
 /// Makes a pair of two rows where it has to be kept, and tells whether there are still at most so many.
 fn offer<L: Ledger>(
     alloc: Global,
-    kept: &mut Items<Row>,
+    kept: &mut Kept,
     a: &Row,
     b: &Row,
     most: usize,
@@ -44,7 +29,7 @@ fn offer<L: Ledger>(
     let q = b.pattern.as_slice();
     steps.tick();
     if !clash(p, q) {
-        if !is_covered(p, q, kept.as_slice(), steps) {
+        if !kept.cover(p, q, steps) {
             kept.push(pair(alloc, a, b)?)?;
         }
     }
@@ -54,7 +39,7 @@ fn offer<L: Ledger>(
 /// Pairs a row with each of these, and stops as soon as there are too many.
 pub(crate) fn offer_each<L: Ledger>(
     alloc: Global,
-    kept: &mut Items<Row>,
+    kept: &mut Kept,
     a: &Row,
     rows: &[Row],
     most: usize,
@@ -75,7 +60,7 @@ pub(crate) fn offer_each<L: Ledger>(
 /// Pairs a row with each of these that may stand beside it: those at the places, in their order.
 fn offer_near<L: Ledger>(
     alloc: Global,
-    kept: &mut Items<Row>,
+    kept: &mut Kept,
     a: &Row,
     rows: &[Row],
     places: &[usize],
@@ -97,7 +82,7 @@ fn offer_near<L: Ledger>(
 /// Pairs a row with the one at a place.
 fn offer_at<L: Ledger>(
     alloc: Global,
-    kept: &mut Items<Row>,
+    kept: &mut Kept,
     a: &Row,
     rows: &[Row],
     place: usize,
@@ -118,7 +103,7 @@ fn offer_at<L: Ledger>(
 /// known which they are.
 fn offer_beside<L: Ledger>(
     alloc: Global,
-    kept: &mut Items<Row>,
+    kept: &mut Kept,
     a: &Row,
     rows: &[Row],
     near: &[Near],
@@ -141,7 +126,7 @@ fn offer_beside<L: Ledger>(
 /// Pairs a row with each of these and with their default, and stops as soon as there are too many.
 pub(crate) fn offer_all<L: Ledger>(
     alloc: Global,
-    kept: &mut Items<Row>,
+    kept: &mut Kept,
     a: &Row,
     rows: &[Row],
     near: &[Near],
