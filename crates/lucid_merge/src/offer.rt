@@ -1,35 +1,22 @@
 // Pairs of rows, made and kept as long as there are not too many.
 ghost use Rattle.std.specs.Prelude.{◌≡◌, ◌+◌, ◌*◌, ◌≤◌, ◌++◌, [], ◌∷◌, length, IfOk};
-ghost use Rattle.std.specs.List.{list_any};
-ghost use Rattle.lucid_tables.specs.declared.table.Row.{Row as TableRow};
-ghost use Rattle.lucid_merge.specs.Product.{includes, union, default, pairs_with, kept_of};
+ghost use Rattle.std.specs.List.{All};
+ghost use Rattle.lucid_merge.specs.Product.{default, pairs_with, kept_of};
 ghost use Rattle.lucid_merge.specs.Offers.{Offered};
+ghost use Rattle.lucid_merge.specs.Standing.{rows_at, IsNear};
 
-use crate::patterns::{clash, include_together, pair};
-use lucid_base::{Items, Memory, Steps};
-use lucid_code::Literal;
+use crate::kept::Kept;
+use crate::near::{Near, suits};
+use crate::patterns::{clash, pair};
+use lucid_base::{Memory, Steps};
 use lucid_tables::Row;
 use std::alloc::Global;
 use std::sync::ledger::Ledger;
 
-/// Whether two patterns together include that of a row that was kept. It takes a step for each row that it compares.
-fn is_covered<L: Ledger>(p: &[Literal], q: &[Literal], kept: &[Row], steps: &mut Steps<L>) -> bool
-    ensures value { result ≡ list_any (λ (k : TableRow). includes (union p.now q.now) k.pattern) kept.now }
-    ensures steps { steps.new ≤ steps.old + length kept.now }
-{
-    for row in kept {
-        steps.tick();
-        if include_together(p, q, row.pattern.as_slice()) {
-            return true;
-        }
-    }
-    false
-}
-
 /// Makes a pair of two rows where it has to be kept, and tells whether there are still at most so many.
 fn offer<L: Ledger>(
     alloc: Global,
-    kept: &mut Items<Row>,
+    kept: &mut Kept,
     a: &Row,
     b: &Row,
     most: usize,
@@ -42,7 +29,7 @@ fn offer<L: Ledger>(
     let q = b.pattern.as_slice();
     steps.tick();
     if !clash(p, q) {
-        if !is_covered(p, q, kept.as_slice(), steps) {
+        if !kept.cover(p, q, steps) {
             kept.push(pair(alloc, a, b)?)?;
         }
     }
@@ -52,7 +39,7 @@ fn offer<L: Ledger>(
 /// Pairs a row with each of these, and stops as soon as there are too many.
 pub(crate) fn offer_each<L: Ledger>(
     alloc: Global,
-    kept: &mut Items<Row>,
+    kept: &mut Kept,
     a: &Row,
     rows: &[Row],
     most: usize,
@@ -70,22 +57,90 @@ pub(crate) fn offer_each<L: Ledger>(
     Ok(true)
 }
 
+/// Pairs a row with each of these that may stand beside it: those at the places, in their order.
+fn offer_near<L: Ledger>(
+    alloc: Global,
+    kept: &mut Kept,
+    a: &Row,
+    rows: &[Row],
+    places: &[usize],
+    most: usize,
+    steps: &mut Steps<L>,
+) -> Result<bool, Memory>
+    requires { length kept.old ≤ most }
+    ensures offered { IfOk result (λ r. Offered most kept.new (kept_of kept.old (pairs_with a.now (rows_at rows.now places.now))) r) }
+    ensures steps { steps.new ≤ steps.old + length places.now * (most + 1) }
+{
+    for place in places {
+        if !offer_at(alloc, kept, a, rows, *place, most, steps)? {
+            return Ok(false);
+        }
+    }
+    Ok(true)
+}
+
+/// Pairs a row with the one at a place.
+fn offer_at<L: Ledger>(
+    alloc: Global,
+    kept: &mut Kept,
+    a: &Row,
+    rows: &[Row],
+    place: usize,
+    most: usize,
+    steps: &mut Steps<L>,
+) -> Result<bool, Memory>
+    requires { length kept.old ≤ most }
+    ensures offered { IfOk result (λ r. Offered most kept.new (kept_of kept.old (pairs_with a.now (rows_at rows.now (place ∷ [])))) r) }
+    ensures steps { steps.new ≤ steps.old + (length kept.old + 1) }
+{
+    match rows.get(place) {
+        None => Ok(true),
+        Some(b) => offer(alloc, kept, a, b, most, steps),
+    }
+}
+
+/// Pairs a row with each of these, and stops as soon as there are too many. Those that can't stand beside it are passed over where it is
+/// known which they are.
+fn offer_beside<L: Ledger>(
+    alloc: Global,
+    kept: &mut Kept,
+    a: &Row,
+    rows: &[Row],
+    near: &[Near],
+    most: usize,
+    steps: &mut Steps<L>,
+) -> Result<bool, Memory>
+    requires few { length kept.old ≤ most }
+    requires near { All (IsNear rows.now) near.now }
+    ensures offered { IfOk result (λ r. Offered most kept.new (kept_of kept.old (pairs_with a.now rows.now)) r) }
+    ensures steps { steps.new ≤ steps.old + length rows.now * (most + 1) }
+{
+    for n in near {
+        if suits(n, a) {
+            return offer_near(alloc, kept, a, rows, n.places.as_slice(), most, steps);
+        }
+    }
+    offer_each(alloc, kept, a, rows, most, steps)
+}
+
 /// Pairs a row with each of these and with their default, and stops as soon as there are too many.
 pub(crate) fn offer_all<L: Ledger>(
     alloc: Global,
-    kept: &mut Items<Row>,
+    kept: &mut Kept,
     a: &Row,
     rows: &[Row],
+    near: &[Near],
     last: &Row,
     most: usize,
     steps: &mut Steps<L>,
 ) -> Result<bool, Memory>
     requires few { length kept.old ≤ most }
+    requires near { All (IsNear rows.now) near.now }
     requires last { last.now ≡ default }
     ensures offered { IfOk result (λ r. Offered most kept.new (kept_of kept.old (pairs_with a.now (rows.now ++ default ∷ []))) r) }
     ensures steps { steps.new ≤ steps.old + (length rows.now + 1) * (most + 1) }
 {
-    if !offer_each(alloc, kept, a, rows, most, steps)? {
+    if !offer_beside(alloc, kept, a, rows, near, most, steps)? {
         return Ok(false);
     }
     offer(alloc, kept, a, last, most, steps)

@@ -23,11 +23,12 @@ pub fn contradict(p: &[Literal], q: &[Literal]) -> bool
     p.iter().any(|l| is_opposed(*l, q))
 }
 
-/// Whether two patterns together ask for two values of one field.
+/// Whether two patterns together ask for two values of one field. That the one asks for another value than the other is the likeliest.
+#[tactic(auto, using(crate::proofs::Beside::clash_turned))]
 pub(crate) fn clash(p: &[Literal], q: &[Literal]) -> bool
     ensures { result ≡ clash p.now q.now }
 {
-    contradict(p, p) || contradict(p, q) || contradict(q, q)
+    contradict(p, q) || contradict(p, p) || contradict(q, q)
 }
 
 fn is_opposed(literal: Literal, pattern: &[Literal]) -> bool

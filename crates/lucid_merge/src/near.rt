@@ -1,0 +1,93 @@
+// Which rows of a table may stand beside a row that asks a field for a value: found once a table, by the rest that the value leaves, so
+// that most rows which ask the field for another value are never tried.
+ghost use Rattle.std.specs.Prelude.{◌≡◌, IfOk};
+ghost use Rattle.std.specs.List.{list_any, All};
+ghost use Rattle.lucid_merge.specs.Standing.{asks, asks_other, IsNear};
+
+use lucid_base::{Items, Memory};
+use lucid_code::Literal;
+use lucid_tables::Row;
+use std::alloc::Global;
+
+/// The places of the rows that may stand beside one that asks the field for a value which leaves this rest by 32.
+#[derive(Drop)]
+pub(crate) struct Near {
+    pub(crate) field: u32,
+    pub(crate) rest: u64,
+    pub(crate) places: Items<usize>,
+}
+
+fn asks(field: u32, rest: u64, literal: Literal) -> bool
+    ensures { result ≡ asks field rest literal }
+{
+    literal.equal && literal.field == field && literal.value % 32 == rest
+}
+
+fn asks_other(field: u32, rest: u64, literal: Literal) -> bool
+    ensures { result ≡ asks_other field rest literal }
+{
+    literal.equal && literal.field == field && literal.value % 32 != rest
+}
+
+/// Whether a row asks the field for a value with the rest.
+pub(crate) fn suits(near: &Near, row: &Row) -> bool
+    ensures { result ≡ list_any (asks near.now.field near.now.rest) row.now.pattern }
+{
+    let field = near.field;
+    let rest = near.rest;
+    row.pattern.as_slice().iter().any(|l| asks(field, rest, *l))
+}
+
+/// Whether a row asks the field for a value with another rest.
+fn avoids(field: u32, rest: u64, row: &Row) -> bool
+    ensures { result ≡ list_any (asks_other field rest) row.now.pattern }
+{
+    let pattern = row.pattern.as_slice();
+    pattern.iter().any(|l| asks_other(field, rest, *l))
+}
+
+/// The rows that may stand beside one that asks the field for a value with the rest.
+fn rows_near(alloc: Global, rows: &[Row], field: u32, rest: u64) -> Result<Near, Memory>
+    ensures { IfOk result (λ n. IsNear rows.now n) }
+{
+    let mut places = Items::new(alloc);
+    for (place, row) in rows.iter().enumerate() {
+        if !avoids(field, rest, row) {
+            places.push(place)?;
+        }
+    }
+    Ok(Near {
+        field,
+        rest,
+        places,
+    })
+}
+
+/// The field that the last literal of the first row names.
+fn asked(rows: &[Row]) -> Option<u32> {
+    match rows.first() {
+        None => None,
+        Some(row) => match row.pattern.as_slice().last() {
+            None => None,
+            Some(literal) => Some(literal.field),
+        },
+    }
+}
+
+/// For each rest the rows near it, by the field of the last literal of the first row; none where they are asked for so seldom that each
+/// row is tried at less cost.
+pub(crate) fn all_near(alloc: Global, rows: &[Row], turns: usize) -> Result<Vec<Near>, Memory>
+    ensures { IfOk result (λ list. All (IsNear rows.now) list.items) }
+{
+    let mut list = Vec::new(alloc);
+    if turns <= 32 {
+        return Ok(list);
+    }
+    let Some(field) = asked(rows) else {
+        return Ok(list);
+    };
+    for rest in 0..32 {
+        list.push(rows_near(alloc, rows, field, rest)?)?;
+    }
+    Ok(list)
+}
