@@ -1,7 +1,6 @@
 // The rows of a product that are kept, and marks that tell where a row may stand whose pattern a pair includes.
 ghost use Rattle.std.specs.Prelude.{◌≡◌, ◌+◌, ◌<◌, ◌≤◌, ◌++◌, [], ◌∷◌, ℕ, true, length, IfOk, OnOk};
 ghost use Rattle.std.specs.List.{list_any};
-ghost use Rattle.lucid_code.specs.declared.op.Literal.{Literal as Tested};
 ghost use Rattle.lucid_tables.specs.declared.table.Row.{Row as TableRow};
 ghost use Rattle.lucid_merge.specs.Marks.{slot, mark, is_marked, first_mark, is_told};
 ghost use Rattle.lucid_merge.specs.Product.{includes, union};
@@ -14,7 +13,8 @@ use std::alloc::Global;
 use std::marker::Model;
 use std::sync::ledger::Ledger;
 
-/// Rows, which contracts see as their list. The mark of a literal is the number from 1 of the last row that ends with one like it.
+/// Rows, which contracts see as their list. The mark of a literal is 0, or the number from 1 of the last row that ends with it or with
+/// one that shares its mark.
 #[derive(Drop)]
 pub(crate) struct Kept {
     rows: Items<Row>,

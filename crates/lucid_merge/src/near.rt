@@ -74,13 +74,13 @@ fn asked(rows: &[Row]) -> Option<u32> {
     }
 }
 
-/// For each rest the rows near it, by the field of the last literal of the first row; none where they are asked for so seldom that each
-/// row is tried at less cost.
+/// For each rest the rows near it, by the field of the last literal of the first row; none where so few rows are tried so seldom that
+/// this would cost more.
 pub(crate) fn all_near(alloc: Global, rows: &[Row], turns: usize) -> Result<Vec<Near>, Memory>
     ensures { IfOk result (λ list. All (IsNear rows.now) list.items) }
 {
     let mut list = Vec::new(alloc);
-    if turns <= 32 {
+    if turns <= 32 || rows.len() <= 32 {
         return Ok(list);
     }
     let Some(field) = asked(rows) else {
