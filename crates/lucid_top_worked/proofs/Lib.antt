@@ -1,0 +1,5 @@
+mod Declares
+mod Empty
+mod Entering
+mod Programs
+mod Settings

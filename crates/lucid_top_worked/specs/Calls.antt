@@ -1,0 +1,16 @@
+-- Calls over files that hold these texts, without passes.
+use Rattle.std.specs.Prelude.{[], ◌∷◌, Some, codes, bytes_eq, if◌then◌else◌}
+use Rattle.lucid_top.specs.Answer.{Question}
+use Rattle.lucid_top_words.specs.Words.{Bytes}
+
+-- `once p NAME`
+abbrev pub once : Bytes → Bytes → Question
+once program name = record { words = codes "once" ∷ codes "p" ∷ name ∷ []; held = λ file. Some program; passes = [] }
+
+-- `run whole p l t`: the program, the limits and the scenario
+abbrev pub run_whole : Bytes → Bytes → Bytes → Question
+run_whole program limits scenario = record {
+  words = codes "run" ∷ codes "whole" ∷ codes "p" ∷ codes "l" ∷ codes "t" ∷ [];
+  held = λ file. Some (if bytes_eq file (codes "p") then program else if bytes_eq file (codes "l") then limits else scenario);
+  passes = [];
+}
