@@ -1,5 +1,5 @@
-/* Runs a program and tells what it spent, for tests/deep and tests/wide: `spent FILE PROGRAM WORD..` writes into FILE the exit code, which is
-   128 and the number of a signal where that ended it, then the seconds of a processor, and the most memory in MB. */
+/* Runs a program and tells what it spent, for tests/deep, tests/speed and tests/wide: `spent FILE PROGRAM WORD..` writes into FILE the exit
+   code, which is 128 and the number of a signal where that ended it, then the seconds of a processor, and the most memory in MB. */
 #include <stdio.h>
 #include <sys/resource.h>
 #include <sys/wait.h>
