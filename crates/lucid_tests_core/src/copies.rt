@@ -1,8 +1,13 @@
-// Copies of a program's parts, of each form of a statement and of an expression, with its calls and with them put in. That a copy is the
-// same, its contract says; here each form is copied once.
-use crate::cores::core_of;
-use lucid_core_copy::{copy_body, copy_event, copy_memop};
+// Copies of bodies of each form of a statement and of an expression, with their calls and with these put in. That a copy is the same, its
+// contract says; no form of words makes one, so each form is copied here.
+use lucid_core::{Core, Stmt};
+use lucid_core_copy::copy_body;
 use lucid_inline::inline;
+use lucid_lex::lex;
+use lucid_parse::parse;
+use lucid_parse_tree::Tree;
+use lucid_types::elaborate;
+use std::alloc::Global;
 use std::test::Fail;
 
 const FORMS: &[u8] = b"
@@ -24,38 +29,36 @@ handle e(int i) {
 }
 ";
 
+fn tree_of(alloc: Global, text: &[u8]) -> Result<Tree, Fail> {
+    let tokens = lex(alloc, text)?;
+    Ok(parse(alloc, text, tokens.as_slice())?)
+}
+
+/// The core of the program that the text spells.
+fn core_of(alloc: Global, text: &[u8]) -> Result<Core, Fail> {
+    let tree = tree_of(alloc, text)?;
+    Ok(elaborate(alloc, &tree)?)
+}
+
+/// Whether the copy of a body has as many statements.
+fn is_copied(alloc: Global, body: &[Stmt]) -> Result<bool, Fail> {
+    let copy = copy_body(alloc, body)?;
+    Ok(copy.len() == body.len())
+}
+
 #[test]
 fn bodies_of_each_form_are_copied(rt: HostRuntime) -> Result<(), Fail> {
     let alloc = rt.alloc();
     let core = core_of(alloc, FORMS)?;
     for function in core.funs() {
-        let copy = copy_body(alloc, function.body.as_slice())?;
-        assert_eq!(rt; copy.len(), function.body.len());
+        assert!(rt; is_copied(alloc, function.body.as_slice())?);
     }
     for handler in core.handlers() {
-        let copy = copy_body(alloc, handler.body.as_slice())?;
-        assert_eq!(rt; copy.len(), handler.body.len());
+        assert!(rt; is_copied(alloc, handler.body.as_slice())?);
     }
     let flat = inline(alloc, &core, 100)?;
     for handler in flat.handlers() {
-        let copy = copy_body(alloc, handler.body.as_slice())?;
-        assert_eq!(rt; copy.len(), handler.body.len());
-    }
-    Ok(())
-}
-
-#[test]
-fn declarations_are_copied(rt: HostRuntime) -> Result<(), Fail> {
-    let alloc = rt.alloc();
-    let core = core_of(alloc, FORMS)?;
-    for event in core.events() {
-        let copy = copy_event(alloc, event)?;
-        assert!(rt; copy.name == event.name);
-        assert_eq!(rt; copy.handler, event.handler);
-    }
-    for memop in core.memops() {
-        let copy = copy_memop(alloc, memop)?;
-        assert!(rt; copy.alu == memop.alu);
+        assert!(rt; is_copied(alloc, handler.body.as_slice())?);
     }
     Ok(())
 }
