@@ -1,5 +1,5 @@
 -- What marks tell of rows: where none tells of a pattern's literals, it includes none of them.
-use Rattle.std.proofs.Common.{◌≡◌, ℕ, zero, suc, List, [], ◌∷◌, ◌++◌, Bool, true, false, not, ◌||◌, ◌⊎◌, inl, inr, Some, if◌then◌else◌, Result, Ok, Err, OnOk, OnErr, nat_eq, slice_get, refl, sym, ap, subst, ◌∙◌, ⊎_elim}
+use Rattle.std.proofs.Common.{◌≡◌, ℕ, zero, suc, List, [], ◌∷◌, ◌++◌, Bool, true, false, not, ◌&&◌, ◌||◌, ◌⊎◌, inl, Some, if◌then◌else◌, Result, Ok, Err, OnOk, OnErr, slice_get, refl, sym, ap, subst, ◌∙◌, ⊎_elim}
 use Rattle.std.specs.List.{list_all, list_any}
 use Rattle.std.proofs.lemmas.Bool.{and_parts, and_from, or_cases, or_left, or_right, true≢false, false_from_ne_true}
 use Rattle.std.proofs.Math.Bool.{or_comm}
@@ -7,70 +7,80 @@ use Rattle.std.proofs.lemmas.List.Folds.{list_any-append}
 use Rattle.std.proofs.lemmas.Option.{same_Some, none-some}
 use Rattle.lucid_code.specs.declared.op.Literal.{Literal}
 use Rattle.lucid_tables.specs.declared.table.Row.{Row}
-use Rattle.lucid_merge.specs.Marks.{slot, mark, is_marked, first_mark, is_told, AreTold}
+use Rattle.lucid_merge.specs.Marks.{slot, long_slot, own_slot, is_marked, has_other, tells, may_cover, is_told, AreTold}
 use Rattle.lucid_merge.specs.Product.{is_same, has, union, includes}
 use Rattle.lucid_merge.proofs.Literals.{literal_is, same_refl, has_union, included}
 
--- ---- patterns of which no mark tells
+-- ---- literals that pass a test
 
-module _ (marks : List ℕ) where
-  unmarked : (i : ℕ) → is_marked marks i ≡ false → nat_eq (mark marks i) 0 ≡ true
-  unmarked i h = by (nat_eq (mark marks i) 0) h
-    where
-      by : (b : Bool) → not b ≡ false → b ≡ true
-      by true e = refl
-      by false e = absurd (true≢false e)
+holds_at : (f : Literal → Bool) (p : List Literal) (l : Literal) → has p l ≡ true → f l ≡ true → list_any f p ≡ true
+holds_at f [] l n h = absurd (true≢false (sym n))
+holds_at f (m ∷ p) l n h = ⊎_elim
+    (λ e. or_left (f m) (list_any f p) (ap f (sym (literal_is l m e)) ∙ h))
+    (λ e. or_right (f m) (list_any f p) (holds_at f p l e h))
+    (or_cases (is_same l m) (has p l) n)
 
-  silent_bare : (p : List Literal) → is_told marks p ≡ false → is_marked marks 0 ≡ false
-  silent_bare [] h = h
-  silent_bare (l ∷ p) h = by (is_marked marks (slot l)) refl h (silent_bare p)
-    where
-      by : (b : Bool) → is_marked marks (slot l) ≡ b → not (nat_eq (if b then mark marks (slot l) else first_mark marks p) 0) ≡ false → (is_told marks p ≡ false → is_marked marks 0 ≡ false) → is_marked marks 0 ≡ false
-      by true e g again = absurd (true≢false (sym e ∙ g))
-      by false e g again = again g
+-- one that passes in a pattern, each literal of which two others have, passes in one of them
+module _ (f g : Literal → Bool) (p q : List Literal) where
+  moves : (r : List Literal) → ((l : Literal) → has r l ≡ true → (has p l ≡ true) ⊎ (has q l ≡ true)) → ((l : Literal) → has r l ≡ true → f l ≡ true → g l ≡ true) → list_any f r ≡ true → (list_any g p || list_any g q) ≡ true
+  moves [] inside keeps h = absurd (true≢false (sym h))
+  moves (l ∷ r) inside keeps h =
+      let here : has (l ∷ r) l ≡ true = or_left (is_same l l) (has r l) (same_refl l) in
+      ⊎_elim
+      (λ e. let passes : g l ≡ true = keeps l here e in
+      ⊎_elim (λ n. or_left (list_any g p) (list_any g q) (holds_at g p l n passes)) (λ n. or_right (list_any g p) (list_any g q) (holds_at g q l n passes)) (inside l here))
+      (λ e. moves r (λ k n. inside k (or_right (is_same k l) (has r k) n)) (λ k n. keeps k (or_right (is_same k l) (has r k) n)) e)
+      (or_cases (f l) (list_any f r) h)
 
-  silent : (p : List Literal) (l : Literal) → is_told marks p ≡ false → has p l ≡ true → is_marked marks (slot l) ≡ false
-  silent [] l h n = absurd (true≢false (sym n))
-  silent (m ∷ p) l h n = by (is_marked marks (slot m)) refl h (or_cases (is_same l m) (has p l) n) (silent p l)
-    where
-      by : (b : Bool) → is_marked marks (slot m) ≡ b → not (nat_eq (if b then mark marks (slot m) else first_mark marks p) 0) ≡ false → (is_same l m ≡ true) ⊎ (has p l ≡ true) →
-          (is_told marks p ≡ false → has p l ≡ true → is_marked marks (slot l) ≡ false) → is_marked marks (slot l) ≡ false
-      by true e g s again = absurd (true≢false (sym e ∙ g))
-      by false e g (inl s) again = ap (λ (k : Literal). is_marked marks (slot k)) (literal_is l m s) ∙ e
-      by false e g (inr s) again = again g s
+-- ---- what the marks tell of one pattern, they tell of two that include it
 
-  all_silent : (p : List Literal) → is_marked marks 0 ≡ false → ((l : Literal) → has p l ≡ true → is_marked marks (slot l) ≡ false) → is_told marks p ≡ false
-  all_silent [] b h = b
-  all_silent (m ∷ p) b h =
-      ap (λ t. not (nat_eq (if t then mark marks (slot m) else first_mark marks p) 0)) (h m (or_left (is_same m m) (has p m) (same_refl m)))
-      ∙ all_silent p b (λ l n. h l (or_right (is_same l m) (has p l) n))
+module _ (marks : List ℕ) (p q r : List Literal) (inside : (l : Literal) → has r l ≡ true → (has p l ≡ true) ⊎ (has q l ≡ true)) where
+  other_in : (l : Literal) → (has_other r l || has_other [] l) ≡ true → (has_other p l || has_other q l) ≡ true
+  other_in l h = ⊎_elim (λ e. moves (λ m. not (is_same l m)) (λ m. not (is_same l m)) p q r inside (λ m n t. t) e) (λ e. absurd (true≢false (sym e))) (or_cases (has_other r l) (has_other [] l) h)
 
-  -- a pattern that the two include would be told of by none
-  uncovered : (p q : List Literal) (rows : List Row) → AreTold marks rows → is_told marks p ≡ false → is_told marks q ≡ false → list_any (λ (k : Row). includes (union p q) k.pattern) rows ≡ false
-  uncovered p q [] told f g = refl
-  uncovered p q (r ∷ rows) told f g =
-      let parts = and_parts (is_told marks r.pattern) (list_all (λ (r : Row). is_told marks r.pattern) rows) told in
-      let apart : includes (union p q) r.pattern ≡ false = false_from_ne_true (includes (union p q) r.pattern) (λ i.
-      true≢false (sym parts.0 ∙ all_silent r.pattern (silent_bare p f) (λ l n.
-      ⊎_elim (λ e. silent p l f e) (λ e. silent q l g e) (or_cases (has p l) (has q l) (sym (has_union p q l) ∙ included (union p q) r.pattern i l n))))) in
-      ap (λ b. b || list_any (λ (k : Row). includes (union p q) k.pattern) rows) apart ∙ uncovered p q rows parts.1 f g
+  tells_too : (l : Literal) → tells marks r [] l ≡ true → tells marks p q l ≡ true
+  tells_too l h = ⊎_elim
+      (λ e. or_left (is_marked marks (slot l)) ((has_other p l || has_other q l) && is_marked marks (long_slot l)) e)
+      (λ e. let parts = and_parts (has_other r l || has_other [] l) (is_marked marks (long_slot l)) e in
+      or_right (is_marked marks (slot l)) ((has_other p l || has_other q l) && is_marked marks (long_slot l)) (and_from (has_other p l || has_other q l) (is_marked marks (long_slot l)) (other_in l parts.0) parts.1))
+      (or_cases (is_marked marks (slot l)) ((has_other r l || has_other [] l) && is_marked marks (long_slot l)) h)
 
--- a first mark of 0 tells of nothing
-pub none_covers : (marks : List ℕ) (p q : List Literal) (rows : List Row) → AreTold marks rows → first_mark marks p ≡ 0 → first_mark marks q ≡ 0 → list_any (λ (k : Row). includes (union p q) k.pattern) rows ≡ false
-none_covers marks p q rows told f g = uncovered marks p q rows told (ap (λ n. not (nat_eq n 0)) f) (ap (λ n. not (nat_eq n 0)) g)
+  covers : is_told marks r ≡ true → may_cover marks p q ≡ true
+  covers h = ⊎_elim
+      (λ e. or_left (is_marked marks 0) (list_any (tells marks p q) p || list_any (tells marks p q) q) e)
+      (λ e. or_right (is_marked marks 0) (list_any (tells marks p q) p || list_any (tells marks p q) q) (⊎_elim
+      (λ k. moves (tells marks r []) (tells marks p q) p q r inside (λ l n. tells_too l) k)
+      (λ k. absurd (true≢false (sym k)))
+      (or_cases (list_any (tells marks r []) r) (list_any (tells marks r []) []) e)))
+      (or_cases (is_marked marks 0) (list_any (tells marks r []) r || list_any (tells marks r []) []) h)
+
+-- two patterns of which no mark tells include none of the rows
+pub none_covers : (marks : List ℕ) (p q : List Literal) (rows : List Row) → AreTold marks rows → may_cover marks p q ≡ false → list_any (λ (k : Row). includes (union p q) k.pattern) rows ≡ false
+none_covers marks p q [] told f = refl
+none_covers marks p q (r ∷ rows) told f =
+    let parts = and_parts (is_told marks r.pattern) (list_all (λ (r : Row). is_told marks r.pattern) rows) told in
+    let apart : includes (union p q) r.pattern ≡ false = false_from_ne_true (includes (union p q) r.pattern) (λ i.
+    true≢false (sym (covers marks p q r.pattern (λ l n. or_cases (has p l) (has q l) (sym (has_union p q l) ∙ included (union p q) r.pattern i l n)) parts.0) ∙ f)) in
+    ap (λ b. b || list_any (λ (k : Row). includes (union p q) k.pattern) rows) apart ∙ none_covers marks p q rows parts.1 f
 
 -- ---- more marks
 
 module _ (marks new : List ℕ) (more : (i : ℕ) → is_marked marks i ≡ true → is_marked new i ≡ true) where
+  still_tells : (p : List Literal) (l : Literal) → tells marks p [] l ≡ true → tells new p [] l ≡ true
+  still_tells p l h =
+      let others = has_other p l || has_other [] l in
+      ⊎_elim
+      (λ e. or_left (is_marked new (slot l)) (others && is_marked new (long_slot l)) (more (slot l) e))
+      (λ e. let parts = and_parts others (is_marked marks (long_slot l)) e in
+      or_right (is_marked new (slot l)) (others && is_marked new (long_slot l)) (and_from others (is_marked new (long_slot l)) parts.0 (more (long_slot l) parts.1)))
+      (or_cases (is_marked marks (slot l)) (others && is_marked marks (long_slot l)) h)
+
   still_told : (p : List Literal) → is_told marks p ≡ true → is_told new p ≡ true
-  still_told [] h = more 0 h
-  still_told (l ∷ p) h = by (is_marked marks (slot l)) refl h (is_marked new (slot l)) refl (still_told p)
-    where
-      by : (b : Bool) → is_marked marks (slot l) ≡ b → not (nat_eq (if b then mark marks (slot l) else first_mark marks p) 0) ≡ true → (c : Bool) → is_marked new (slot l) ≡ c → (is_told marks p ≡ true → is_told new p ≡ true) →
-          not (nat_eq (if c then mark new (slot l) else first_mark new p) 0) ≡ true
-      by b e g true f again = f
-      by true e g false f again = absurd (true≢false (sym (more (slot l) e) ∙ f))
-      by false e g false f again = again g
+  still_told p h = ⊎_elim
+      (λ e. or_left (is_marked new 0) (list_any (tells new p []) p || false) (more 0 e))
+      (λ e. or_right (is_marked new 0) (list_any (tells new p []) p || false) (moves (tells marks p []) (tells new p []) p [] p (λ l n. inl n) (λ l n. still_tells p l)
+      (⊎_elim (λ k. k) (λ k. absurd (true≢false (sym k))) (or_cases (list_any (tells marks p []) p) false e))))
+      (or_cases (is_marked marks 0) (list_any (tells marks p []) p || false) h)
 
   still_all : (rows : List Row) → AreTold marks rows → AreTold new rows
   still_all [] h = refl
@@ -84,15 +94,28 @@ more_told marks (x ∷ rows) r h t =
     let parts = and_parts (is_told marks x.pattern) (list_all (λ (r : Row). is_told marks r.pattern) rows) h in
     and_from (is_told marks x.pattern) (list_all (λ (r : Row). is_told marks r.pattern) (rows ++ r ∷ [])) parts.0 (more_told marks rows r parts.1 t)
 
--- a marked literal tells of its pattern
-pub tells : (marks : List ℕ) (p : List Literal) (i : ℕ) (l : Literal) → slice_get p i ≡ Some l → is_marked marks (slot l) ≡ true → is_told marks p ≡ true
-tells marks [] i l e m = absurd (none-some l e)
-tells marks (k ∷ p) i l e m = by i (is_marked marks (slot k)) refl e (λ j f. tells marks p j l f m)
-  where
-    by : (i : ℕ) (b : Bool) → is_marked marks (slot k) ≡ b → slice_get (k ∷ p) i ≡ Some l → ((j : ℕ) → slice_get p j ≡ Some l → is_told marks p ≡ true) → not (nat_eq (if b then mark marks (slot k) else first_mark marks p) 0) ≡ true
-    by i true f g again = f
-    by zero false f g again = absurd (true≢false (sym m ∙ ap (λ (j : Literal). is_marked marks (slot j)) (sym (same_Some k l g)) ∙ f))
-    by (suc i) false f g again = again i g
+-- what stands in a pattern it has
+has_at : (p : List Literal) (i : ℕ) (l : Literal) → slice_get p i ≡ Some l → has p l ≡ true
+has_at [] i l e = absurd (none-some l e)
+has_at (k ∷ p) zero l e = or_left (is_same l k) (has p l) (ap (is_same l) (same_Some k l e) ∙ same_refl l)
+has_at (k ∷ p) (suc i) l e = or_right (is_same l k) (has p l) (has_at p i l e)
+
+-- ---- a pattern whose last literal is marked
+
+module _ (marks : List ℕ) (p : List Literal) where
+  pub told_bare : is_marked marks 0 ≡ true → is_told marks p ≡ true
+  told_bare h = or_left (is_marked marks 0) (list_any (tells marks p []) p || false) h
+
+  told_at : (l : Literal) → has p l ≡ true → tells marks p [] l ≡ true → is_told marks p ≡ true
+  told_at l n h = or_right (is_marked marks 0) (list_any (tells marks p []) p || false) (or_left (list_any (tells marks p []) p) false (holds_at (tells marks p []) p l n h))
+
+  pub told_last : (i : ℕ) (l : Literal) → slice_get p i ≡ Some l → is_marked marks (own_slot p l) ≡ true → is_told marks p ≡ true
+  told_last i l e m = told_at l (has_at p i l e) (by (has_other p l) refl m)
+    where
+      by : (b : Bool) → has_other p l ≡ b → is_marked marks (if b then long_slot l else slot l) ≡ true → tells marks p [] l ≡ true
+      by true o n = or_right (is_marked marks (slot l)) ((has_other p l || has_other [] l) && is_marked marks (long_slot l))
+          (and_from (has_other p l || has_other [] l) (is_marked marks (long_slot l)) (or_left (has_other p l) (has_other [] l) o) n)
+      by false o n = or_left (is_marked marks (slot l)) ((has_other p l || has_other [] l) && is_marked marks (long_slot l)) n
 
 -- a row that is put behind the others, or isn't
 pub told_still : {A E : Type 0} (marks new : List ℕ) (rows after : List Row) (row : Row) (r : Result A E) → ((i : ℕ) → is_marked marks i ≡ true → is_marked new i ≡ true) → AreTold marks rows →

@@ -1,27 +1,40 @@
 -- Marks that tell of the patterns of rows by their literals, so that most rows which a pattern doesn't include need no look.
-use Rattle.std.specs.Prelude.{◌≡◌, ℕ, ◌+◌, ◌*◌, ◌%◌, List, [], ◌∷◌, Bool, true, not, if◌then◌else◌, nat_eq, slice_index_or, bit_xor}
-use Rattle.std.specs.List.{list_all}
+use Rattle.std.specs.Prelude.{◌≡◌, ℕ, ◌+◌, ◌*◌, ◌%◌, List, [], Bool, true, not, ◌&&◌, ◌||◌, if◌then◌else◌, nat_eq, slice_index_or, bit_xor}
+use Rattle.std.specs.List.{list_all, list_any}
 use Rattle.lucid_code.specs.declared.op.Literal.{Literal}
 use Rattle.lucid_tables.specs.declared.table.Row.{Row}
+use Rattle.lucid_merge.specs.Product.{is_same}
 
--- Place 0 is that of patterns without literals.
+-- Place 0 is that of patterns without literals, these are those of patterns of one literal alone,
 abbrev pub slot : Literal → ℕ
 slot l = bit_xor l.value (l.field * 521) % 4096 + 1
 
--- 0 where nothing is marked; all is marked past the end.
-abbrev pub mark : List ℕ → ℕ → ℕ
-mark marks i = slice_index_or marks i 1
+-- and these are those of patterns of several.
+abbrev pub long_slot : Literal → ℕ
+long_slot l = slot l + 4096
 
+-- All is marked past the end.
 abbrev pub is_marked : List ℕ → ℕ → Bool
-is_marked marks i = not (nat_eq (mark marks i) 0)
+is_marked marks i = not (nat_eq (slice_index_or marks i 1) 0)
 
--- The first mark of the pattern's literals, and else that of patterns without literals.
-abbrev pub first_mark : List ℕ → List Literal → ℕ
-first_mark marks [] = mark marks 0
-first_mark marks (l ∷ pattern) = if is_marked marks (slot l) then mark marks (slot l) else first_mark marks pattern
+-- The pattern has a literal other than this one.
+abbrev pub has_other : List Literal → Literal → Bool
+has_other p l = list_any (λ m. not (is_same l m)) p
+
+-- Where a pattern with this literal as its last is marked.
+abbrev pub own_slot : List Literal → Literal → ℕ
+own_slot p l = if has_other p l then long_slot l else slot l
+
+-- The marks of a literal of two patterns tell that they may include a row's.
+abbrev pub tells : List ℕ → List Literal → List Literal → Literal → Bool
+tells marks p q l = is_marked marks (slot l) || ((has_other p l || has_other q l) && is_marked marks (long_slot l))
+
+-- Two patterns together may include that of a row.
+abbrev pub may_cover : List ℕ → List Literal → List Literal → Bool
+may_cover marks p q = is_marked marks 0 || (list_any (tells marks p q) p || list_any (tells marks p q) q)
 
 abbrev pub is_told : List ℕ → List Literal → Bool
-is_told marks pattern = not (nat_eq (first_mark marks pattern) 0)
+is_told marks pattern = may_cover marks pattern []
 
 abbrev pub AreTold : List ℕ → List Row → Type 0
 AreTold marks rows = list_all (λ (r : Row). is_told marks r.pattern) rows ≡ true

@@ -1,11 +1,11 @@
 // The rows of a product that are kept, and marks that tell where a row may stand whose pattern a pair includes.
-ghost use Rattle.std.specs.Prelude.{◌≡◌, ◌+◌, ◌<◌, ◌≤◌, ◌++◌, [], ◌∷◌, ℕ, true, length, IfOk, OnOk};
+ghost use Rattle.std.specs.Prelude.{◌≡◌, ◌+◌, ◌<◌, ◌≤◌, ◌++◌, [], ◌∷◌, ℕ, true, length, slice_index_or, IfOk, OnOk};
 ghost use Rattle.std.specs.List.{list_any};
 ghost use Rattle.lucid_tables.specs.declared.table.Row.{Row as TableRow};
-ghost use Rattle.lucid_merge.specs.Marks.{slot, mark, is_marked, first_mark, is_told};
+ghost use Rattle.lucid_merge.specs.Marks.{slot, long_slot, own_slot, is_marked, has_other, tells, may_cover, is_told};
 ghost use Rattle.lucid_merge.specs.Product.{includes, union};
 
-use crate::patterns::include_together;
+use crate::patterns::{include_together, is_same};
 use lucid_base::{Items, Memory, Steps};
 use lucid_code::Literal;
 use lucid_tables::Row;
@@ -13,8 +13,8 @@ use std::alloc::Global;
 use std::marker::Model;
 use std::sync::ledger::Ledger;
 
-/// Rows, which contracts see as their list. The mark of a literal is 0, or the number from 1 of the last row that ends with it or with
-/// one that shares its mark.
+/// Rows, which contracts see as their list. A literal has two marks: 0, or the number from 1 of the last row that ends with it or with one
+/// that shares its mark, and has no other literal; and of the last that has others.
 #[derive(Drop)]
 pub(crate) struct Kept {
     rows: Items<Row>,
@@ -33,15 +33,22 @@ impl Model for Kept {
     ghost invariant = { λ k. AreTold k.marks.items k.rows };
 }
 
-/// Where the mark of a literal stands.
+/// Where a literal's mark stands of patterns that have no other.
 fn slot(literal: Literal) -> usize
     ensures { result ≡ slot literal }
 {
     ((literal.value ^ (u64::from(literal.field) * 521)) % 4096) as usize + 1
 }
 
+/// Where a literal's mark stands of patterns that have others.
+fn long_slot(literal: Literal) -> usize
+    ensures { result ≡ long_slot literal }
+{
+    slot(literal) + 4096
+}
+
 fn mark(marks: &[usize], place: usize) -> usize
-    ensures { result ≡ mark marks.now place }
+    ensures { result ≡ slice_index_or marks.now place 1 }
 {
     match marks.get(place) {
         None => 1,
@@ -49,16 +56,61 @@ fn mark(marks: &[usize], place: usize) -> usize
     }
 }
 
-fn first_mark(marks: &[usize], pattern: &[Literal]) -> usize
-    ensures { result ≡ first_mark marks.now pattern.now }
+fn is_marked(marks: &[usize], place: usize) -> bool
+    ensures { result ≡ is_marked marks.now place }
 {
-    for literal in pattern {
-        let found = mark(marks, slot(*literal));
-        if found != 0 {
-            return found;
-        }
+    mark(marks, place) != 0
+}
+
+/// Whether a pattern has a literal other than this one.
+fn has_other(pattern: &[Literal], literal: Literal) -> bool
+    ensures { result ≡ has_other pattern.now literal }
+{
+    pattern.iter().any(|other| !is_same(literal, *other))
+}
+
+/// Where a pattern with this literal as its last is marked.
+fn own_slot(pattern: &[Literal], literal: Literal) -> usize
+    ensures { result ≡ own_slot pattern.now literal }
+{
+    if has_other(pattern, literal) {
+        long_slot(literal)
+    } else {
+        slot(literal)
     }
-    mark(marks, 0)
+}
+
+/// Whether the marks of a literal of two patterns tell that these may include a row's.
+fn tells(marks: &[usize], p: &[Literal], q: &[Literal], literal: Literal) -> bool
+    ensures { result ≡ tells marks.now p.now q.now literal }
+{
+    is_marked(marks, slot(literal))
+        || ((has_other(p, literal) || has_other(q, literal))
+            && is_marked(marks, long_slot(literal)))
+}
+
+fn any_tells(marks: &[usize], p: &[Literal], q: &[Literal], literals: &[Literal]) -> bool
+    ensures { result ≡ list_any (tells marks.now p.now q.now) literals.now }
+{
+    literals.iter().any(|literal| tells(marks, p, q, *literal))
+}
+
+/// Whether two patterns together may include that of a row.
+fn may_cover(marks: &[usize], p: &[Literal], q: &[Literal]) -> bool
+    ensures { result ≡ may_cover marks.now p.now q.now }
+{
+    is_marked(marks, 0) || any_tells(marks, p, q, p) || any_tells(marks, p, q, q)
+}
+
+/// The greatest number that a mark of one of these literals has: where the row may stand that is included.
+fn likely(marks: &[usize], pattern: &[Literal]) -> usize {
+    let mut number = mark(marks, 0);
+    for literal in pattern {
+        number = number
+            .max(mark(marks, slot(*literal)))
+            .max(mark(marks, long_slot(*literal)));
+    }
+    number
 }
 
 /// Marks a place, if it is there.
@@ -80,7 +132,7 @@ fn tell(marks: &mut Vec<usize>, pattern: &[Literal], number: usize)
 {
     match pattern.last() {
         None => set_mark(marks, 0, number),
-        Some(literal) => set_mark(marks, slot(*literal), number),
+        Some(literal) => set_mark(marks, own_slot(pattern, *literal), number),
     }
 }
 
@@ -119,7 +171,7 @@ impl Kept {
         ensures { IfOk result (λ k. k ≡ []) }
     {
         let marks = if may_be > 64 {
-            vec![in alloc; 0; 4097]?
+            vec![in alloc; 0; 8193]?
         } else {
             Vec::new(alloc)
         };
@@ -146,11 +198,11 @@ impl Kept {
         ensures steps { steps.new ≤ steps.old + length self.now }
     {
         let marks = self.marks.as_slice();
-        let first = first_mark(marks, p).max(first_mark(marks, q));
-        if first == 0 {
+        if !may_cover(marks, p, q) {
             return false;
         }
-        is_covered_from(p, q, self.rows.as_slice(), first - 1, steps)
+        let first = likely(marks, p).max(likely(marks, q));
+        is_covered_from(p, q, self.rows.as_slice(), first.saturating_sub(1), steps)
     }
 
     pub(crate) fn push(&mut self, row: Row) -> Result<(), Memory>
