@@ -48,7 +48,8 @@ pub fn run_whole_is_answered()
 /// `run whole` of the program `event e();`, in a scenario in which its event comes once, is answered with the block of this event and the
 /// line that counts it.
 pub fn run_with_an_event_is_answered()
-    ensures { Answers (run_whole (codes "event e();") (codes "{}") (codes "{\"stop\":1,\"events\":[{\"at\":0,\"switch\":0,\"name\":\"e\",\"args\":[]}]}"))
+    ensures { Answers (run_whole (codes "event e();") (codes "{}")
+        (codes "{\"stop\":1,\"events\":[{\"at\":0,\"switch\":0,\"name\":\"e\",\"args\":[]}]}"))
         (Ok (codes "[0] s0 e()\nentered 1 lost 0 pending 0\n")) }
 {
     plain_text_stays(b"event e();", &TOKENS);
