@@ -1,24 +1,26 @@
--- A run in progress: the state so far, and the cells that it began with. Which statements send something out.
+-- A run in progress: the state so far, and the cells that it began with. Which expressions have parts, and which statements send something out.
 use Rattle.std.specs.Prelude.{◌≡◌, ℕ, List, [], ◌∷◌, Bool, true, false, Ok, Err}
 use Rattle.std.specs.Prelude.{Result}
 use Rattle.lucid_base.specs.declared.memory.Memory.{Memory}
 use Rattle.lucid_base.specs.declared.event.Out.{Out}
 use Rattle.lucid_base.specs.declared.event.Out.TheVariants as out
+use Rattle.lucid_core.specs.declared.body.Expr.{Expr}
 use Rattle.lucid_core.specs.declared.body.Stmt.{Stmt}
-use Rattle.lucid_core.specs.declared.body.Expr.TheOpen.{Stmt-F}
-use Rattle.lucid_core.specs.declared.body.Expr.TheFolds.{fold-Stmt}
+use Rattle.lucid_core.specs.declared.body.Expr.TheOpen.{Expr-F, Stmt-F}
+use Rattle.lucid_core.specs.declared.body.Expr.TheFolds.{fold-Expr, fold-Stmt}
 use Rattle.lucid_core.specs.declared.draft.Draft.{Draft}
 use Rattle.lucid_core.specs.declared.draft.Draft.TheVariants.{Gen, Say}
 use Rattle.lucid_core.specs.declared.place.Place.{Place}
 use Rattle.lucid_core.specs.declared.run.Write.{Write}
 use Rattle.lucid_core.specs.Acts.{Frame, Ran, State}
 use Rattle.lucid_base.specs.Cells.{with_cell}
-use Rattle.lucid_core.specs.Meaning.{funs_of}
+use Rattle.lucid_core.specs.Meaning.{funs_of, generated}
+use Rattle.lucid_core.specs.Values.{numbers}
 
 -- The out that a draft stands for.
 abbrev pub out_of : Draft → Out
-out_of (Gen event args delay to) = out.Gen (record { id = event; args = args }) delay to
-out_of (Say form args) = out.Say form args
+out_of (Gen event args delay to) = generated event args delay to
+out_of (Say form args) = out.Say form (numbers args)
 
 pub record Running : Type 0 where
   pub state : State
@@ -40,6 +42,24 @@ Does act old new (Err e) = new.start ≡ old.start
 -- Where a body runs, as the definition has it.
 abbrev pub frame : Place → Frame
 frame place = record { now = place.moment.now; me = place.moment.me; arrays = place.arrays.now; funs = funs_of place.moment.now place.moment.me place.funs.now }
+
+abbrev parted : Expr-F Bool Bool Bool → Bool
+parted (Expr-F.Fixed n) = false
+parted (Expr-F.Local i) = false
+parted Expr-F.Now = false
+parted Expr-F.Me = false
+parted (Expr-F.Un op x) = true
+parted (Expr-F.Bin op x y) = true
+parted (Expr-F.Cmp op x y) = true
+parted (Expr-F.Cast w x) = true
+parted (Expr-F.Hash w xs) = true
+parted (Expr-F.Array t) = true
+parted (Expr-F.Fun k names xs) = true
+parted (Expr-F.Inlined given ss) = true
+
+-- An expression with parts, which are expressions or statements.
+abbrev pub has_parts : Expr → Bool
+has_parts = fold-Expr Bool Bool Bool parted (λ s. false) (λ t. false)
 
 abbrev sends : Stmt-F Bool Bool Bool → Bool
 sends (Stmt-F.Gen event xs delay to delay_first) = true

@@ -2,21 +2,22 @@
 ghost use Rattle.std.specs.Prelude.{◌≡◌, ◌≤◌, length};
 ghost use Rattle.lucid_core.specs.Fits.{carried};
 ghost use Rattle.lucid_core.specs.Running.{out_of};
+ghost use Rattle.lucid_core.specs.Values.{numbers as numbers_of};
 
-use lucid_base::{Args, Event, Items, Out, Target};
+use lucid_base::{Args, Bits, Event, Items, Out, Target};
 
 /// An out as a body writes it, with any number of arguments. In a valid core they are at most 8.
 #[derive(Drop)]
 pub enum Draft {
     Gen {
         event: u32,
-        args: Items<u64>,
+        args: Items<Bits>,
         delay: u64,
         to: Target,
     },
     Say {
         form: u32,
-        args: Items<u64>,
+        args: Items<Bits>,
     },
 }
 
@@ -35,7 +36,7 @@ impl Draft {
             } => {
                 let event = Event {
                     id: *event,
-                    args: Args::from_slice(args.as_slice()),
+                    args: numbers(args.as_slice()),
                 };
                 Out::Gen {
                     event,
@@ -45,8 +46,20 @@ impl Draft {
             }
             Draft::Say { form, args } => Out::Say {
                 form: *form,
-                args: Args::from_slice(args.as_slice()),
+                args: numbers(args.as_slice()),
             },
         }
     }
+}
+
+/// The numbers alone.
+fn numbers(values: &[Bits]) -> Args
+    requires { length values.now ≤ 8 }
+    ensures { result ≡ numbers_of values.now }
+{
+    let mut args = Args::new();
+    for value in values {
+        args.push(value.value);
+    }
+    args
 }

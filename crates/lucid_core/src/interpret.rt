@@ -1,31 +1,45 @@
 // The interpreter: it does to a run what the definition says of each part of a body, or runs out of memory.
 // A function is run behind the functions before it, so that each call leaves fewer of them.
+// What recurses most, `parts`, has few locals: a form that needs more stands in a function of its own, which isn't put into it.
 ghost use Rattle.std.specs.Prelude.{◌≡◌, ◌++◌, IfOk, IfSome, IsTrue, OnOk, OnErr, map, slice_get, take};
 ghost use Rattle.std.specs.Option.{option_map};
 ghost use Rattle.lucid_core.specs.Acts.{all, array_of, begun_with, block, both};
-ghost use Rattle.lucid_core.specs.Meaning.{call as call_of, delay_of, effect_of, expr_step, generated, holding, target_of, touch_of, value_of};
-ghost use Rattle.lucid_core.specs.Running.{Does, frame, out_of, sends_out, with_state};
+ghost use Rattle.lucid_core.specs.Meaning.{delay_of, effect_of, expr_step, generated, holding, target_of, touch_of, value_of};
+ghost use Rattle.lucid_core.specs.Running.{Does, frame, has_parts, sends_out, with_state};
 ghost use Rattle.lucid_base.specs.declared.event.Target.TheVariants.{At};
 ghost use Rattle.lucid_core.specs.declared.body.Expr.TheOpen.{Expr-F};
 
 use crate::draft::Draft;
-use crate::operate::{binary, comparison, hashed, nothing, numbers, unary};
+use crate::operate::{binary, comparison, hashed, nothing, unary};
 use crate::place::Place;
 use crate::run::Run;
 use crate::{Expr, FunDef, Stmt, Touch};
 use lucid_base::{ArrayName, Bits, Items, Memory, Target, Width};
 use std::alloc::Global;
 
-/// What an expression gives.
+/// What an expression gives. One without parts costs no call.
+#[inline(always)]
 #[cycle(run)]
-pub fn value(place: Place, run: &mut Run, e: &Expr) -> Result<Bits, Memory>
-    ensures { Does (value_of e.now (frame place.entry)) run.old run.new result }
+fn value(place: &Place, run: &mut Run, e: &Expr) -> Result<Bits, Memory>
+    ensures { Does (value_of e.now (frame place.now)) run.old run.new result }
 {
     match e {
         Expr::Fixed(n) => Ok(*n),
         Expr::Local(i) => Ok(run.local(*i)),
         Expr::Now => Ok(Bits::low(Width::int(), place.moment.now)),
         Expr::Me => Ok(Bits::low(Width::int(), place.moment.me as u64)),
+        _ => parts(place, run, e),
+    }
+}
+
+/// What an expression gives that has parts.
+#[inline(never)]
+#[cycle(run)]
+fn parts(place: &Place, run: &mut Run, e: &Expr) -> Result<Bits, Memory>
+    requires { IsTrue (has_parts e.now) }
+    ensures { Does (value_of e.now (frame place.now)) run.old run.new result }
+{
+    match e {
         Expr::Un(op, a) => Ok(unary(*op, value(place, run, a.get())?)),
         Expr::Bin(op, a, b) => {
             let a = value(place, run, a.get())?;
@@ -42,25 +56,24 @@ pub fn value(place: Place, run: &mut Run, e: &Expr) -> Result<Bits, Memory>
             Ok(Bits::low(*width, a.value))
         }
         Expr::Hash(width, operands) => {
-            let operands = values(place, run, operands.as_slice())?;
-            hashed(place.alloc, *width, operands.as_slice())
+            let operands = values(place, run, operands.as_slice(), 0)?;
+            Ok(hashed(*width, operands))
         }
         Expr::Array(t) => touch(place, run, t.get()),
-        Expr::Fun(k, names, args) => {
-            let args = values(place, run, args.as_slice())?;
-            let arrays = arrays_at(place, names.as_slice())?;
-            call(place, run, *k, arrays.as_slice(), args)
-        }
+        Expr::Fun(k, names, args) => call(place, run, *k, names.as_slice(), args.as_slice()),
         Expr::Inlined(given, stmts) => inlined(place, run, given.as_slice(), stmts.as_slice()),
+        // No other expression has parts.
+        _ => Ok(nothing()),
     }
 }
 
-/// What expressions give, from left to right.
+/// What expressions give, from left to right, with room for at least so many values.
+#[inline(never)]
 #[cycle(run)]
-fn values(place: Place, run: &mut Run, es: &[Expr]) -> Result<Items<Bits>, Memory>
-    ensures { Does (all (map value_of es.now) (frame place.entry)) run.old run.new result }
+fn values(place: &Place, run: &mut Run, es: &[Expr], least: usize) -> Result<Items<Bits>, Memory>
+    ensures { Does (all (map value_of es.now) (frame place.now)) run.old run.new result }
 {
-    let mut vs = Items::new(place.alloc);
+    let mut vs = Items::from_vec(Vec::with_capacity(place.alloc, least.max(es.len()))?);
     for e in es {
         vs.push(value(place, run, e)?)?;
     }
@@ -68,16 +81,17 @@ fn values(place: Place, run: &mut Run, es: &[Expr]) -> Result<Items<Bits>, Memor
 }
 
 /// What a call with its body put in answers: the body runs on a copy of the locals, in which the arguments are held.
+#[inline(never)]
 #[cycle(run)]
 fn inlined(
-    place: Place,
+    place: &Place,
     run: &mut Run,
     given: &[(u32, Expr)],
     stmts: &[Stmt],
 ) -> Result<Bits, Memory>
-    ensures { Does (expr_step (Expr-F.Inlined (map (λ g. (g.0, value_of g.1)) given.now) (map effect_of stmts.now)) (frame place.entry)) run.old run.new result }
+    ensures { Does (expr_step (Expr-F.Inlined (map (λ g. (g.0, value_of g.1)) given.now) (map effect_of stmts.now)) (frame place.now)) run.old run.new result }
 {
-    let mut held = Items::new(place.alloc);
+    let mut held = Items::from_vec(Vec::with_capacity(place.alloc, given.len())?);
     for (i, e) in given {
         let v = value(place, run, e)?;
         held.push((*i, v))?;
@@ -90,9 +104,10 @@ fn inlined(
 }
 
 /// What a call of an array answers.
+#[inline(never)]
 #[cycle(run)]
-fn touch(place: Place, run: &mut Run, t: &Touch) -> Result<Bits, Memory>
-    ensures { Does (touch_of t.now (frame place.entry)) run.old run.new result }
+fn touch(place: &Place, run: &mut Run, t: &Touch) -> Result<Bits, Memory>
+    ensures { Does (touch_of t.now (frame place.now)) run.old run.new result }
 {
     let index = value(place, run, &t.index)?;
     let get_arg = value(place, run, &t.get_arg)?;
@@ -102,28 +117,32 @@ fn touch(place: Place, run: &mut Run, t: &Touch) -> Result<Bits, Memory>
     Ok(answer)
 }
 
-/// What function `k` answers; nothing where it isn't there.
+/// What a call of function `k` answers; nothing where it isn't there.
+#[inline(never)]
 #[cycle(run)]
 fn call(
-    place: Place,
+    place: &Place,
     run: &mut Run,
     k: u32,
-    arrays: &[u32],
-    args: Items<Bits>,
+    names: &[ArrayName],
+    args: &[Expr],
 ) -> Result<Bits, Memory>
-    ensures { Does (call_of k arrays.now args (frame place.entry)) run.old run.new result }
+    ensures { Does (expr_step (Expr-F.Fun k names.now (map value_of args.now)) (frame place.now)) run.old run.new result }
 {
+    let args = values(place, run, args, locals_of(place.funs, k))?;
+    let arrays = arrays_at(place, names)?;
     match earlier(place.funs, k) {
         None => Ok(nothing()),
         Some((funs, f)) => {
             let locals = with_zeros(args, f.locals.as_slice())?;
             let caller = run.enter(locals);
-            let place = Place {
-                arrays,
+            let inside = Place {
+                alloc: place.alloc,
+                moment: place.moment,
+                arrays: arrays.as_slice(),
                 funs,
-                ..place
             };
-            effects(place, run, f.body.as_slice())?;
+            effects(&inside, run, f.body.as_slice())?;
             Ok(run.leave(caller))
         }
     }
@@ -131,8 +150,8 @@ fn call(
 
 /// What a block does.
 #[cycle(run)]
-pub fn effects(place: Place, run: &mut Run, stmts: &[Stmt]) -> Result<(), Memory>
-    ensures { Does (block (map effect_of stmts.now) (frame place.entry)) run.old run.new result }
+pub fn effects(place: &Place, run: &mut Run, stmts: &[Stmt]) -> Result<(), Memory>
+    ensures { Does (block (map effect_of stmts.now) (frame place.now)) run.old run.new result }
 {
     for stmt in stmts {
         effect(place, run, stmt)?;
@@ -142,8 +161,8 @@ pub fn effects(place: Place, run: &mut Run, stmts: &[Stmt]) -> Result<(), Memory
 
 /// What a statement does.
 #[cycle(run)]
-fn effect(place: Place, run: &mut Run, stmt: &Stmt) -> Result<(), Memory>
-    ensures { Does (effect_of stmt.now (frame place.entry)) run.old run.new result }
+fn effect(place: &Place, run: &mut Run, stmt: &Stmt) -> Result<(), Memory>
+    ensures { Does (effect_of stmt.now (frame place.now)) run.old run.new result }
 {
     match stmt {
         Stmt::Assign(i, e) => {
@@ -174,10 +193,11 @@ fn effect(place: Place, run: &mut Run, stmt: &Stmt) -> Result<(), Memory>
 }
 
 /// What a statement does that sends something out itself.
+#[inline(never)]
 #[cycle(run)]
-fn sends(place: Place, run: &mut Run, stmt: &Stmt) -> Result<(), Memory>
+fn sends(place: &Place, run: &mut Run, stmt: &Stmt) -> Result<(), Memory>
     requires { IsTrue (sends_out stmt.now) }
-    ensures { Does (effect_of stmt.now (frame place.entry)) run.old run.new result }
+    ensures { Does (effect_of stmt.now (frame place.now)) run.old run.new result }
 {
     match stmt {
         Stmt::Gen {
@@ -187,9 +207,14 @@ fn sends(place: Place, run: &mut Run, stmt: &Stmt) -> Result<(), Memory>
             to,
             delay_first,
         } => {
-            let args = values(place, run, args.as_slice())?;
+            let args = values(place, run, args.as_slice(), 0)?;
             let (delay, to) = delay_and_target(place, run, delay, to, *delay_first)?;
-            run.send(generate(place.alloc, *event, args.as_slice(), delay, to)?)
+            run.send(Draft::Gen {
+                event: *event,
+                args,
+                delay,
+                to,
+            })
         }
         Stmt::Multi {
             event,
@@ -197,14 +222,13 @@ fn sends(place: Place, run: &mut Run, stmt: &Stmt) -> Result<(), Memory>
             delay,
             members,
         } => {
-            let args = values(place, run, args.as_slice())?;
+            let args = values(place, run, args.as_slice(), 0)?;
             // Its members stand for a target.
             let (delay, _) = delay_and_target(place, run, delay, &None, true)?;
             send_each(place.alloc, run, *event, args, delay, members.as_slice())
         }
         Stmt::Say { form, args } => {
-            let args = values(place, run, args.as_slice())?;
-            let args = numbers(place.alloc, args.as_slice())?;
+            let args = values(place, run, args.as_slice(), 0)?;
             run.send(Draft::Say { form: *form, args })
         }
         // No other statement sends.
@@ -215,13 +239,13 @@ fn sends(place: Place, run: &mut Run, stmt: &Stmt) -> Result<(), Memory>
 /// The delay and the target of an event that is sent, in the order in which they are written: 0 and here where they aren't.
 #[cycle(run)]
 fn delay_and_target(
-    place: Place,
+    place: &Place,
     run: &mut Run,
     delay: &Option<Expr>,
     to: &Option<Expr>,
     delay_first: bool,
 ) -> Result<(u64, Target), Memory>
-    ensures { Does (both delay_first (delay_of (option_map value_of delay.now)) (target_of (option_map value_of to.now)) (frame place.entry)) run.old run.new result }
+    ensures { Does (both delay_first (delay_of (option_map value_of delay.now)) (target_of (option_map value_of to.now)) (frame place.now)) run.old run.new result }
 {
     match (delay, to) {
         (None, None) => Ok((0, Target::Here)),
@@ -238,6 +262,14 @@ fn delay_and_target(
                 Ok((delay, Target::At(to)))
             }
         }
+    }
+}
+
+/// How many locals function `k` has; none where it isn't there.
+fn locals_of(funs: &[FunDef], k: u32) -> usize {
+    match funs.get(k as usize) {
+        None => 0,
+        Some(f) => f.locals.len(),
     }
 }
 
@@ -266,10 +298,10 @@ fn array_at(arrays: &[u32], name: ArrayName) -> u32
     }
 }
 
-fn arrays_at(place: Place, names: &[ArrayName]) -> Result<Items<u32>, Memory>
-    ensures { IfOk result (λ numbers. numbers ≡ map (array_of place.entry.arrays.now) names.now) }
+fn arrays_at(place: &Place, names: &[ArrayName]) -> Result<Items<u32>, Memory>
+    ensures { IfOk result (λ numbers. numbers ≡ map (array_of place.now.arrays.now) names.now) }
 {
-    let mut numbers = Items::new(place.alloc);
+    let mut numbers = Items::from_vec(Vec::with_capacity(place.alloc, names.len())?);
     for name in names {
         numbers.push(array_at(place.arrays, *name))?;
     }
@@ -298,24 +330,6 @@ pub fn with_zeros(values: Items<Bits>, widths: &[Width]) -> Result<Items<Bits>, 
     Ok(locals)
 }
 
-fn generate(
-    alloc: Global,
-    event: u32,
-    values: &[Bits],
-    delay: u64,
-    to: Target,
-) -> Result<Draft, Memory>
-    ensures { IfOk result (λ draft. out_of draft ≡ generated event values.now delay to) }
-{
-    let args = numbers(alloc, values)?;
-    Ok(Draft::Gen {
-        event,
-        args,
-        delay,
-        to,
-    })
-}
-
 /// Sends an event to each of these switches.
 fn send_each(
     alloc: Global,
@@ -329,8 +343,14 @@ fn send_each(
     ensures start { OnErr result (run.new.start ≡ run.old.start) }
 {
     for member in members {
+        let args = Items::from_slice(alloc, values.as_slice())?;
         let to = Target::At(*member as u64);
-        run.send(generate(alloc, event, values.as_slice(), delay, to)?)?;
+        run.send(Draft::Gen {
+            event,
+            args,
+            delay,
+            to,
+        })?;
     }
     Ok(())
 }

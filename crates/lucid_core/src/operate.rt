@@ -1,11 +1,11 @@
 // Operations on values, each equal to its definition. Unlike those below them they take any operands.
-ghost use Rattle.std.specs.Prelude.{◌≡◌, IfOk};
-ghost use Rattle.lucid_core.specs.Values.{unary as unary_of, binary as binary_of, comparison as comparison_of, hashed as hash_of_values, numbers as numbers_of, nothing as no_value};
+ghost use Rattle.std.specs.Prelude.{◌≡◌};
+ghost use Rattle.lucid_core.specs.Values.{unary as unary_of, binary as binary_of, comparison as comparison_of, hashed as hash_of_values, nothing as no_value};
 
 use lucid_base::{
-    BinOp, Bits, CmpOp, Items, Memory, UnOp, Width, apply_bin, apply_un, cast, compare, hash_bits,
+    BinOp, Bits, CmpOp, Items, UnOp, Width, apply_bin, apply_un, cast, compare, hash_start,
+    hash_word,
 };
-use std::alloc::Global;
 
 /// What stands where no value is given.
 pub fn nothing() -> Bits
@@ -35,19 +35,14 @@ pub fn comparison(op: CmpOp, a: Bits, b: Bits) -> Bits
     Bits::from_bool(compare(op, a, cast(b, a.width)))
 }
 
-pub fn hashed(alloc: Global, width: Width, values: &[Bits]) -> Result<Bits, Memory>
-    ensures { IfOk result (λ v. v ≡ hash_of_values width values.now) }
+/// The hash of these values, which are given back.
+#[inline(never)]
+pub fn hashed(width: Width, values: Items<Bits>) -> Bits
+    ensures { result ≡ hash_of_values width values }
 {
-    let words = numbers(alloc, values)?;
-    Ok(hash_bits(width, words.as_slice()))
-}
-
-pub fn numbers(alloc: Global, values: &[Bits]) -> Result<Items<u64>, Memory>
-    ensures { IfOk result (λ ns. ns ≡ numbers_of values.now) }
-{
-    let mut all = Items::new(alloc);
-    for value in values {
-        all.push(value.value)?;
-    }
-    Ok(all)
+    let hash = values
+        .as_slice()
+        .iter()
+        .fold(hash_start(), |hash, value| hash_word(hash, value.value));
+    Bits::low(width, hash)
 }

@@ -81,7 +81,7 @@ fn handle(
         arrays: &none,
         funs: core.funs(),
     };
-    match run_body(place, &mut run, handler.body.as_slice()) {
+    match run_body(&place, &mut run, handler.body.as_slice()) {
         Ok(outs) => {
             *cells = run.finish();
             Ok(outs)
@@ -94,22 +94,22 @@ fn handle(
 }
 
 /// Runs a handler's body, and gives what was sent out.
-fn run_body(place: Place, run: &mut Run, body: &[Stmt]) -> Result<Outs, Memory>
-    requires few { length (block (map effect_of body.now) (frame place) run.old.state).after.outs ≤ 8 }
-    requires small { All (λ out. length (carried out) ≤ 8) (block (map effect_of body.now) (frame place) run.old.state).after.outs }
-    ensures outs { IfOk result (λ outs. outs ≡ (block (map effect_of body.now) (frame place.entry) run.old.state).after.outs) }
-    ensures state { OnOk result (run.new ≡ with_state run.old (block (map effect_of body.now) (frame place.entry) run.old.state).after) }
+fn run_body(place: &Place, run: &mut Run, body: &[Stmt]) -> Result<Outs, Memory>
+    requires few { length (block (map effect_of body.now) (frame place.now) run.old.state).after.outs ≤ 8 }
+    requires small { All (λ out. length (carried out) ≤ 8) (block (map effect_of body.now) (frame place.now) run.old.state).after.outs }
+    ensures outs { IfOk result (λ outs. outs ≡ (block (map effect_of body.now) (frame place.now) run.old.state).after.outs) }
+    ensures state { OnOk result (run.new ≡ with_state run.old (block (map effect_of body.now) (frame place.now) run.old.state).after) }
     ensures start { OnErr result (run.new.start ≡ run.old.start) }
 {
     effects(place, run, body)?;
     Ok(run.sent())
 }
 
-/// Arguments as values of these widths.
+/// Arguments as values of these widths, with room for a local of each.
 fn taken(alloc: Global, widths: &[Width], args: &[u64]) -> Result<Items<Bits>, Memory>
     ensures { IfOk result (λ values. values ≡ taken_at widths.now args.now) }
 {
-    let mut values = Items::new(alloc);
+    let mut values = Items::from_vec(Vec::with_capacity(alloc, widths.len())?);
     for (width, arg) in widths.iter().zip(args) {
         values.push(Bits::low(*width, *arg))?;
     }

@@ -9,31 +9,34 @@ use Rattle.lucid_core.specs.Weight.{weight}
 use Rattle.lucid_core.proofs.interpret.+run.Given as goal
 
 abbrev pub decreases-value : goal.decreases-value
-decreases-value l = 5 * (weight l.place.funs.now + goal.size-value l)
+decreases-value l = 5 * (weight l.place.now.funs.now + goal.size-value l) + 1
+
+abbrev pub decreases-parts : goal.decreases-parts
+decreases-parts l = 5 * (weight l.place.now.funs.now + goal.size-parts l)
 
 abbrev pub decreases-touch : goal.decreases-touch
-decreases-touch l = 5 * (weight l.place.funs.now + goal.size-touch l)
+decreases-touch l = 5 * (weight l.place.now.funs.now + goal.size-touch l)
 
 abbrev pub decreases-effect : goal.decreases-effect
-decreases-effect l = 5 * (weight l.place.funs.now + goal.size-effect l) + 1
+decreases-effect l = 5 * (weight l.place.now.funs.now + goal.size-effect l) + 1
 
 abbrev pub decreases-values : goal.decreases-values
-decreases-values l = 5 * (weight l.place.funs.now + goal.size-values l) + 1
+decreases-values l = 5 * (weight l.place.now.funs.now + goal.size-values l) + 2
 
 abbrev pub decreases-sends : goal.decreases-sends
-decreases-sends l = 5 * (weight l.place.funs.now + goal.size-sends l)
+decreases-sends l = 5 * (weight l.place.now.funs.now + goal.size-sends l)
 
 abbrev pub decreases-delay_and_target : goal.decreases-delay_and_target
-decreases-delay_and_target l = 5 * (weight l.place.funs.now + max (goal.size-delay_and_target l) (goal.size-delay_and_target (record { the-lifetimes = l.the-lifetimes; place = l.place; run = l.run; delay = l.to; to = l.delay; delay_first = l.delay_first }))) + 1
+decreases-delay_and_target l = 5 * (weight l.place.now.funs.now + max (goal.size-delay_and_target l) (goal.size-delay_and_target (record { the-lifetimes = l.the-lifetimes; place = l.place; run = l.run; delay = l.to; to = l.delay; delay_first = l.delay_first }))) + 2
 
 abbrev pub decreases-effects : goal.decreases-effects
-decreases-effects l = 5 * (weight l.place.funs.now + goal.size-effects l) + 2
+decreases-effects l = 5 * (weight l.place.now.funs.now + goal.size-effects l) + 2
 
 abbrev pub decreases-inlined : goal.decreases-inlined
-decreases-inlined l = 5 * (weight l.place.funs.now + max (goal.size-inlined l) (most (λ x. size-Stmt x) l.stmts.now)) + 3
+decreases-inlined l = 5 * (weight l.place.now.funs.now + max (goal.size-inlined l) (most (λ x. size-Stmt x) l.stmts.now)) + 3
 
 abbrev pub decreases-call : goal.decreases-call
-decreases-call l = 5 * weight l.place.funs.now
+decreases-call l = 5 * (weight l.place.now.funs.now + goal.size-call l) + 3
 
 abbrev pub invariant-effects-loop-stmt : goal.invariant-effects-loop-stmt
 invariant-effects-loop-stmt l = record {
