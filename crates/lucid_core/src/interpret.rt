@@ -1,6 +1,7 @@
 // The interpreter: it does to a run what the definition says of each part of a body, or runs out of memory.
 // A function is run behind the functions before it, so that each call leaves fewer of them.
 // What recurses most, `parts`, has few locals: a form that needs more stands in a function of its own, which isn't put into it.
+// `left` is what is left of the stack (depth.rt), which no clause speaks of.
 ghost use Rattle.std.specs.Prelude.{◌≡◌, ◌++◌, IfOk, IfSome, IsTrue, OnOk, OnErr, map, slice_get, take};
 ghost use Rattle.std.specs.Option.{option_map};
 ghost use Rattle.lucid_core.specs.Acts.{all, array_of, begun_with, block, both};
@@ -9,6 +10,7 @@ ghost use Rattle.lucid_core.specs.Running.{Does, frame, has_parts, sends_out, wi
 ghost use Rattle.lucid_base.specs.declared.event.Target.TheVariants.{At};
 ghost use Rattle.lucid_core.specs.declared.body.Expr.TheOpen.{Expr-F};
 
+use crate::depth::{BLOCK, CALL, PARTS, SENDS, TOUCH, VALUES, below};
 use crate::draft::Draft;
 use crate::operate::{binary, comparison, hashed, nothing, unary};
 use crate::place::Place;
@@ -20,7 +22,7 @@ use std::alloc::Global;
 /// What an expression gives. One without parts costs no call.
 #[inline(always)]
 #[cycle(run)]
-fn value(place: &Place, run: &mut Run, e: &Expr) -> Result<Bits, Memory>
+fn value(place: &Place, left: u32, run: &mut Run, e: &Expr) -> Result<Bits, Memory>
     ensures { Does (value_of e.now (frame place.now)) run.old run.new result }
 {
     match e {
@@ -28,40 +30,47 @@ fn value(place: &Place, run: &mut Run, e: &Expr) -> Result<Bits, Memory>
         Expr::Local(i) => Ok(run.local(*i)),
         Expr::Now => Ok(Bits::low(Width::int(), place.moment.now)),
         Expr::Me => Ok(Bits::low(Width::int(), place.moment.me as u64)),
-        _ => parts(place, run, e),
+        _ => parts(place, left, run, e),
     }
 }
 
 /// What an expression gives that has parts.
 #[inline(never)]
 #[cycle(run)]
-fn parts(place: &Place, run: &mut Run, e: &Expr) -> Result<Bits, Memory>
+fn parts(place: &Place, left: u32, run: &mut Run, e: &Expr) -> Result<Bits, Memory>
     requires { IsTrue (has_parts e.now) }
     ensures { Does (value_of e.now (frame place.now)) run.old run.new result }
 {
+    let left = below(left, PARTS)?;
     match e {
-        Expr::Un(op, a) => Ok(unary(*op, value(place, run, a.get())?)),
+        Expr::Un(op, a) => Ok(unary(*op, value(place, left, run, a.get())?)),
         Expr::Bin(op, a, b) => {
-            let a = value(place, run, a.get())?;
-            let b = value(place, run, b.get())?;
+            let a = value(place, left, run, a.get())?;
+            let b = value(place, left, run, b.get())?;
             Ok(binary(*op, a, b))
         }
         Expr::Cmp(op, a, b) => {
-            let a = value(place, run, a.get())?;
-            let b = value(place, run, b.get())?;
+            let a = value(place, left, run, a.get())?;
+            let b = value(place, left, run, b.get())?;
             Ok(comparison(*op, a, b))
         }
         Expr::Cast(width, a) => {
-            let a = value(place, run, a.get())?;
+            let a = value(place, left, run, a.get())?;
             Ok(Bits::low(*width, a.value))
         }
         Expr::Hash(width, operands) => {
-            let operands = values(place, run, operands.as_slice(), 0)?;
+            let operands = values(place, left, run, operands.as_slice(), 0)?;
             Ok(hashed(*width, operands))
         }
-        Expr::Array(t) => touch(place, run, t.get()),
-        Expr::Fun(k, names, args) => call(place, run, *k, names.as_slice(), args.as_slice()),
-        Expr::Inlined(given, stmts) => inlined(place, run, given.as_slice(), stmts.as_slice()),
+        Expr::Array(t) => touch(place, left, run, t.get()),
+        Expr::Fun(k, names, args) => call(place, left, run, *k, names.as_slice(), args.as_slice()),
+        Expr::Inlined(given, stmts) => inlined(
+            place,
+            left,
+            run,
+            given.as_slice(),
+            stmts.as_slice(),
+        ),
         // No other expression has parts.
         _ => Ok(nothing()),
     }
@@ -70,12 +79,19 @@ fn parts(place: &Place, run: &mut Run, e: &Expr) -> Result<Bits, Memory>
 /// What expressions give, from left to right, with room for at least so many values.
 #[inline(never)]
 #[cycle(run)]
-fn values(place: &Place, run: &mut Run, es: &[Expr], least: usize) -> Result<Items<Bits>, Memory>
+fn values(
+    place: &Place,
+    left: u32,
+    run: &mut Run,
+    es: &[Expr],
+    least: usize,
+) -> Result<Items<Bits>, Memory>
     ensures { Does (all (map value_of es.now) (frame place.now)) run.old run.new result }
 {
+    let left = below(left, VALUES)?;
     let mut vs = Items::from_vec(Vec::with_capacity(place.alloc, least.max(es.len()))?);
     for e in es {
-        vs.push(value(place, run, e)?)?;
+        vs.push(value(place, left, run, e)?)?;
     }
     Ok(vs)
 }
@@ -85,33 +101,36 @@ fn values(place: &Place, run: &mut Run, es: &[Expr], least: usize) -> Result<Ite
 #[cycle(run)]
 fn inlined(
     place: &Place,
+    left: u32,
     run: &mut Run,
     given: &[(u32, Expr)],
     stmts: &[Stmt],
 ) -> Result<Bits, Memory>
     ensures { Does (expr_step (Expr-F.Inlined (map (λ g. (g.0, value_of g.1)) given.now) (map effect_of stmts.now)) (frame place.now)) run.old run.new result }
 {
+    let left = below(left, CALL)?;
     let mut held = Items::from_vec(Vec::with_capacity(place.alloc, given.len())?);
     for (i, e) in given {
-        let v = value(place, run, e)?;
+        let v = value(place, left, run, e)?;
         held.push((*i, v))?;
     }
     let mut locals = run.copy_locals(place.alloc)?;
     hold(&mut locals, held.as_slice());
     let caller = run.enter(locals);
-    effects(place, run, stmts)?;
+    effects(place, left, run, stmts)?;
     Ok(run.leave(caller))
 }
 
 /// What a call of an array answers.
 #[inline(never)]
 #[cycle(run)]
-fn touch(place: &Place, run: &mut Run, t: &Touch) -> Result<Bits, Memory>
+fn touch(place: &Place, left: u32, run: &mut Run, t: &Touch) -> Result<Bits, Memory>
     ensures { Does (touch_of t.now (frame place.now)) run.old run.new result }
 {
-    let index = value(place, run, &t.index)?;
-    let get_arg = value(place, run, &t.get_arg)?;
-    let set_arg = value(place, run, &t.set_arg)?;
+    let left = below(left, TOUCH)?;
+    let index = value(place, left, run, &t.index)?;
+    let get_arg = value(place, left, run, &t.get_arg)?;
+    let set_arg = value(place, left, run, &t.set_arg)?;
     let array = array_at(place.arrays, t.array);
     let answer = run.touch(array, index.value, t.get, get_arg, t.set, set_arg)?;
     Ok(answer)
@@ -122,6 +141,7 @@ fn touch(place: &Place, run: &mut Run, t: &Touch) -> Result<Bits, Memory>
 #[cycle(run)]
 fn call(
     place: &Place,
+    left: u32,
     run: &mut Run,
     k: u32,
     names: &[ArrayName],
@@ -129,7 +149,8 @@ fn call(
 ) -> Result<Bits, Memory>
     ensures { Does (expr_step (Expr-F.Fun k names.now (map value_of args.now)) (frame place.now)) run.old run.new result }
 {
-    let args = values(place, run, args, locals_of(place.funs, k))?;
+    let left = below(left, CALL)?;
+    let args = values(place, left, run, args, locals_of(place.funs, k))?;
     let arrays = arrays_at(place, names)?;
     match earlier(place.funs, k) {
         None => Ok(nothing()),
@@ -142,50 +163,52 @@ fn call(
                 arrays: arrays.as_slice(),
                 funs,
             };
-            effects(&inside, run, f.body.as_slice())?;
+            effects(&inside, left, run, f.body.as_slice())?;
             Ok(run.leave(caller))
         }
     }
 }
 
 /// What a block does.
+#[inline(never)]
 #[cycle(run)]
-pub fn effects(place: &Place, run: &mut Run, stmts: &[Stmt]) -> Result<(), Memory>
+pub fn effects(place: &Place, left: u32, run: &mut Run, stmts: &[Stmt]) -> Result<(), Memory>
     ensures { Does (block (map effect_of stmts.now) (frame place.now)) run.old run.new result }
 {
+    let left = below(left, BLOCK)?;
     for stmt in stmts {
-        effect(place, run, stmt)?;
+        effect(place, left, run, stmt)?;
     }
     Ok(())
 }
 
 /// What a statement does.
 #[cycle(run)]
-fn effect(place: &Place, run: &mut Run, stmt: &Stmt) -> Result<(), Memory>
+fn effect(place: &Place, left: u32, run: &mut Run, stmt: &Stmt) -> Result<(), Memory>
     ensures { Does (effect_of stmt.now (frame place.now)) run.old run.new result }
 {
     match stmt {
         Stmt::Assign(i, e) => {
-            let v = value(place, run, e)?;
+            let v = value(place, left, run, e)?;
             run.assign(*i, v);
             Ok(())
         }
         Stmt::Drop(e) => {
-            value(place, run, e)?;
+            value(place, left, run, e)?;
             Ok(())
         }
         Stmt::If(e, yes, no) => {
-            let condition = value(place, run, e)?;
+            let condition = value(place, left, run, e)?;
             if condition.value == 0 {
-                effects(place, run, no.as_slice())
+                effects(place, left, run, no.as_slice())
             } else {
-                effects(place, run, yes.as_slice())
+                effects(place, left, run, yes.as_slice())
             }
         }
-        Stmt::Gen { .. } | Stmt::Multi { .. } | Stmt::Say { .. } => sends(place, run, stmt),
+        Stmt::Gen { .. } | Stmt::Multi { .. } | Stmt::Say { .. } => sends(place, left, run, stmt),
         Stmt::Return(None) => Ok(()),
         Stmt::Return(Some(e)) => {
-            let v = value(place, run, e)?;
+            let v = value(place, left, run, e)?;
             run.set_answer(v);
             Ok(())
         }
@@ -195,10 +218,11 @@ fn effect(place: &Place, run: &mut Run, stmt: &Stmt) -> Result<(), Memory>
 /// What a statement does that sends something out itself.
 #[inline(never)]
 #[cycle(run)]
-fn sends(place: &Place, run: &mut Run, stmt: &Stmt) -> Result<(), Memory>
+fn sends(place: &Place, left: u32, run: &mut Run, stmt: &Stmt) -> Result<(), Memory>
     requires { IsTrue (sends_out stmt.now) }
     ensures { Does (effect_of stmt.now (frame place.now)) run.old run.new result }
 {
+    let left = below(left, SENDS)?;
     match stmt {
         Stmt::Gen {
             event,
@@ -207,8 +231,8 @@ fn sends(place: &Place, run: &mut Run, stmt: &Stmt) -> Result<(), Memory>
             to,
             delay_first,
         } => {
-            let args = values(place, run, args.as_slice(), 0)?;
-            let (delay, to) = delay_and_target(place, run, delay, to, *delay_first)?;
+            let args = values(place, left, run, args.as_slice(), 0)?;
+            let (delay, to) = delay_and_target(place, left, run, delay, to, *delay_first)?;
             run.send(Draft::Gen {
                 event: *event,
                 args,
@@ -222,13 +246,13 @@ fn sends(place: &Place, run: &mut Run, stmt: &Stmt) -> Result<(), Memory>
             delay,
             members,
         } => {
-            let args = values(place, run, args.as_slice(), 0)?;
+            let args = values(place, left, run, args.as_slice(), 0)?;
             // Its members stand for a target.
-            let (delay, _) = delay_and_target(place, run, delay, &None, true)?;
+            let (delay, _) = delay_and_target(place, left, run, delay, &None, true)?;
             send_each(place.alloc, run, *event, args, delay, members.as_slice())
         }
         Stmt::Say { form, args } => {
-            let args = values(place, run, args.as_slice(), 0)?;
+            let args = values(place, left, run, args.as_slice(), 0)?;
             run.send(Draft::Say { form: *form, args })
         }
         // No other statement sends.
@@ -240,6 +264,7 @@ fn sends(place: &Place, run: &mut Run, stmt: &Stmt) -> Result<(), Memory>
 #[cycle(run)]
 fn delay_and_target(
     place: &Place,
+    left: u32,
     run: &mut Run,
     delay: &Option<Expr>,
     to: &Option<Expr>,
@@ -249,16 +274,16 @@ fn delay_and_target(
 {
     match (delay, to) {
         (None, None) => Ok((0, Target::Here)),
-        (Some(delay), None) => Ok((value(place, run, delay)?.value, Target::Here)),
-        (None, Some(to)) => Ok((0, Target::At(value(place, run, to)?.value))),
+        (Some(delay), None) => Ok((value(place, left, run, delay)?.value, Target::Here)),
+        (None, Some(to)) => Ok((0, Target::At(value(place, left, run, to)?.value))),
         (Some(delay), Some(to)) => {
             if delay_first {
-                let delay = value(place, run, delay)?.value;
-                let to = value(place, run, to)?.value;
+                let delay = value(place, left, run, delay)?.value;
+                let to = value(place, left, run, to)?.value;
                 Ok((delay, Target::At(to)))
             } else {
-                let to = value(place, run, to)?.value;
-                let delay = value(place, run, delay)?.value;
+                let to = value(place, left, run, to)?.value;
+                let delay = value(place, left, run, delay)?.value;
                 Ok((delay, Target::At(to)))
             }
         }

@@ -8,6 +8,7 @@
 mod body;
 mod cells;
 mod defs;
+mod depth;
 mod draft;
 mod ending;
 mod fits;

@@ -7,6 +7,7 @@ ghost use Rattle.lucid_core.specs.Meaning.{effect_of};
 ghost use Rattle.lucid_core.specs.Running.{frame, with_state};
 ghost use Rattle.lucid_core.specs.Step.{handled, handler_of as handler_in, step, taken_at};
 
+use crate::depth::STACK;
 use crate::interpret::{effects, with_zeros};
 use crate::laws::{cells_stay_fit, outs_fit};
 use crate::place::{Moment, Place};
@@ -101,7 +102,7 @@ fn run_body(place: &Place, run: &mut Run, body: &[Stmt]) -> Result<Outs, Memory>
     ensures state { OnOk result (run.new ≡ with_state run.old (block (map effect_of body.now) (frame place.now) run.old.state).after) }
     ensures start { OnErr result (run.new.start ≡ run.old.start) }
 {
-    effects(place, run, body)?;
+    effects(place, STACK, run, body)?;
     Ok(run.sent())
 }
 

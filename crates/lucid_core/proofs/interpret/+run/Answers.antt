@@ -28,7 +28,7 @@ call-returns-in_ok-effects-in-Some t c =
     let at : c.in-Some.funs.now ≡ take c.args.k c.args.place.now.funs.now = search rules in
     let ran = all (map value_of c.args.args.now) (frame c.args.place.now) c.args.run.now.state in
     let arrays = map (array_of c.args.place.now.arrays.now) c.args.names.now in
-    let begun = c.in_ok-locals-in-Some.ensures ∙ ap (λ vs. begun_with vs c.as_slice.result.now) c.in_ok-args.ensures.0 in
+    let begun = c.in_ok-locals-in-Some.ensures ∙ ap (λ vs. begun_with vs c.as_slice.result.now) {y = ran.gives} c.in_ok-args.ensures.0 in
     rw (call_some (frame c.args.place.now) c.args.place.now.funs.now c.in-Some.funs.now c.args.k arrays ran.gives c.in_ok-locals-in-Some.locals c.as_slice.result.now c.as_slice-in-Some-2.result.now c.in-Some.f.now ran.after
     refl is at c.as_slice.ensures c.as_slice-in-Some-2.ensures begun) (search rules)
 

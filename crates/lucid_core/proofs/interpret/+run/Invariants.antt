@@ -27,7 +27,7 @@ abbrev pub decreases-sends : goal.decreases-sends
 decreases-sends l = 5 * (weight l.place.now.funs.now + goal.size-sends l)
 
 abbrev pub decreases-delay_and_target : goal.decreases-delay_and_target
-decreases-delay_and_target l = 5 * (weight l.place.now.funs.now + max (goal.size-delay_and_target l) (goal.size-delay_and_target (record { the-lifetimes = l.the-lifetimes; place = l.place; run = l.run; delay = l.to; to = l.delay; delay_first = l.delay_first }))) + 2
+decreases-delay_and_target l = 5 * (weight l.place.now.funs.now + max (goal.size-delay_and_target l) (goal.size-delay_and_target (record { the-lifetimes = l.the-lifetimes; place = l.place; left = l.left; run = l.run; delay = l.to; to = l.delay; delay_first = l.delay_first }))) + 2
 
 abbrev pub decreases-effects : goal.decreases-effects
 decreases-effects l = 5 * (weight l.place.now.funs.now + goal.size-effects l) + 2
