@@ -323,6 +323,7 @@ fn array_at(arrays: &[u32], name: ArrayName) -> u32
     }
 }
 
+#[inline(never)]
 fn arrays_at(place: &Place, names: &[ArrayName]) -> Result<Items<u32>, Memory>
     ensures { IfOk result (λ numbers. numbers ≡ map (array_of place.now.arrays.now) names.now) }
 {
