@@ -19,7 +19,7 @@ use std::mem;
 
 /// Runs the handler of an event that enters switch `me` at tick `now`, and gives what it sends out.
 /// An event without a handler changes nothing. What it sends out fits the program, and so do the cells after it, where they did before.
-/// It takes memory for locals and arguments, and copies no arrays.
+/// It takes memory for locals and arguments, and copies no arrays. A run that nests too deep for the stack runs out of memory, too.
 pub fn run_whole(
     alloc: Global,
     core: &Core,
