@@ -1,6 +1,6 @@
 -- What runs on registers is what runs on fields.
-use Rattle.std.proofs.Common.{◌≡◌, ℕ, zero, suc, ◌<◌, ◌≤◌, List, [], ◌∷◌, Bool, true, not, ◌&&◌, if◌then◌else◌, Option, None, Some, is_some, IsSome, length, map, nat_eq, slice_get, slice_index, slice_index_or, slice_set, refl, sym, ap, ap₂, ◌∙◌, arith}
-use Rattle.std.specs.List.{fold, position}
+use Rattle.std.proofs.Common.{◌≡◌, ℕ, ◌<◌, List, [], ◌∷◌, Bool, true, not, ◌&&◌, if◌then◌else◌, Option, None, Some, is_some, IsSome, length, nat_eq, slice_get, slice_index, slice_index_or, slice_set, refl, sym, ap, ap₂, ◌∙◌, arith}
+use Rattle.std.specs.List.{fold}
 use Rattle.std.specs.Option.{option_map, option_map_or}
 use Rattle.std.proofs.lemmas.Bool.{eqb-true}
 use Rattle.std.proofs.lemmas.List.{get_or_past, get_or-map, length-map, length-set}
@@ -13,14 +13,14 @@ use Rattle.lucid_base.specs.Memop.{memop_of}
 use Rattle.lucid_base.specs.Ops.{un_of, bin_of, cmp_of, low_of}
 use Rattle.lucid_base.specs.declared.event.Out.{Out}
 use Rattle.lucid_base.specs.declared.event.Out.TheVariants as out
-use Rattle.lucid_base.specs.declared.event.Target.TheVariants.{Here, At}
+use Rattle.lucid_base.specs.declared.event.Target.TheVariants.{At}
 use Rattle.lucid_code.specs.declared.op.Act.{Act}
 use Rattle.lucid_code.specs.declared.op.Act.TheVariants as act
 use Rattle.lucid_code.specs.declared.op.Literal.{Literal}
 use Rattle.lucid_code.specs.declared.op.Op.{Op}
 use Rattle.lucid_code.specs.declared.op.Operand.{Operand}
 use Rattle.lucid_code.specs.declared.op.Operand.TheVariants.{Fixed, Field}
-use Rattle.lucid_code.specs.Guards.{Fields, holds, all_hold}
+use Rattle.lucid_code.specs.Guards.{holds, all_hold}
 use Rattle.lucid_code.specs.Parts.{Parts}
 use Rattle.lucid_code.specs.Run.{Machine, value, values, target_of, put, put_out, result, stored, sent, written, run_act}
 use Rattle.lucid_code.specs.Uses.{written_by}
@@ -36,7 +36,7 @@ use Rattle.lucid_tables.specs.Stages.{stage}
 use Rattle.lucid_tables.proofs.Carried.{carried_below}
 use Rattle.lucid_tables.proofs.Numbering.{register_tells}
 use Rattle.lucid_pipe.specs.Blocks.{fields_of, machine, on_registers}
-use Rattle.lucid_pipe.specs.InPlace.{run_numbered, run_table, run_tables, run_number, run_rows, run_all_rows}
+use Rattle.lucid_pipe.specs.InPlace.{run_numbered, run_tables, run_number, run_rows, run_all_rows}
 use Rattle.lucid_pipe.proofs.Carried.{written_carried, written_same}
 use Rattle.lucid_pipe.proofs.Fields.{field_held, field_put, put_within}
 use Rattle.lucid_pipe.proofs.Together.{stage_at}
@@ -144,7 +144,7 @@ module _ (code : Parts) (valid : IsValid code) (registers : List ℕ) (long : le
           let below : i < length registers = omega (arith, long, (register_tells code k (Some i) e).1) in
           let set = put_within registers i (low_of (slice_index (widths_by_register code) i) v) below in (
             ap (fields_of code) (set ∙ ap (λ w. slice_set registers i (low_of w v)) (width_at k i e))
-            ∙ sym (field_put code registers k i (low_of (slice_index code.fields k) v) long e (carried_below code k valid (ap is_some (sym e)))),
+                ∙ sym (field_put code registers k i (low_of (slice_index code.fields k) v) long e (carried_below code k valid (ap is_some (sym e)))),
             ap (λ (rs : List ℕ). length rs) set ∙ length-set registers i (low_of (slice_index (widths_by_register code) i) v) ∙ long,
           )
 
@@ -160,8 +160,8 @@ module _ (code : Parts) (valid : IsValid code) where
       let made : fields_of code (by_place (written_by b)) ≡ written code.fields (written_by a) (result a (seen code m)) (fields_of code m.fields)
       = ap (λ w. fields_of code (by_place w)) (written_same code a) ∙ put_so.0 ∙ ap (λ u. written code.fields (written_by a) u (fields_of code m.fields)) (result_same code valid m.fields long m.cells m.outs a) in (
         ap (λ f. on_registers f (stored b m) (sent b m)) made
-        ∙ ap₂ (λ (c : List (List ℕ)) (s : List (ℕ × Out)). on_registers (written code.fields (written_by a) (result a (seen code m)) (fields_of code m.fields)) c s)
-        (stored_same code valid m.fields long m.cells m.outs a) (sent_same code valid m.fields long m.cells m.outs a),
+            ∙ ap₂ (λ (c : List (List ℕ)) (s : List (ℕ × Out)). on_registers (written code.fields (written_by a) (result a (seen code m)) (fields_of code m.fields)) c s)
+            (stored_same code valid m.fields long m.cells m.outs a) (sent_same code valid m.fields long m.cells m.outs a),
         ap (λ w. length (by_place w)) (written_same code a) ∙ put_so.1,
       )
 

@@ -1,5 +1,5 @@
 -- What has a register is a field.
-use Rattle.std.proofs.Common.{◌≡◌, ℕ, ◌<◌, List, [], ◌∷◌, Bool, true, ◌&&◌, length, nat_eq, nat_lt, refl, sym, ap₂, ◌∙◌, IsTrue}
+use Rattle.std.proofs.Common.{◌≡◌, ℕ, List, [], ◌∷◌, Bool, true, ◌&&◌, length, nat_eq, nat_lt, refl, sym, ap₂, ◌∙◌, IsTrue}
 use Rattle.std.specs.List.{list_all}
 use Rattle.std.proofs.lemmas.Bool.{or_left, or_right, eq-eqb, lt-ltb}
 use Rattle.lucid_code.specs.Parts.{Parts}

@@ -131,18 +131,12 @@ fn act_by_register(alloc: Global, numbering: Numbering, act: &Act) -> Result<Act
             operand_by_register(numbering, *b),
             place(numbering, *k),
         )),
-        Act::Cast(a, k) => Ok(Act::Cast(
-            operand_by_register(numbering, *a),
-            place(numbering, *k),
-        )),
+        Act::Cast(a, k) => Ok(Act::Cast(operand_by_register(numbering, *a), place(numbering, *k))),
         Act::Hash(xs, k) => Ok(Act::Hash(
             operands_by_register(alloc, numbering, xs.as_slice())?,
             place(numbering, *k),
         )),
-        Act::Move(a, k) => Ok(Act::Move(
-            operand_by_register(numbering, *a),
-            place(numbering, *k),
-        )),
+        Act::Move(a, k) => Ok(Act::Move(operand_by_register(numbering, *a), place(numbering, *k))),
         Act::Touch {
             array,
             index,
