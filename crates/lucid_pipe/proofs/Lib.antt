@@ -2,6 +2,7 @@ mod Alike
 mod AsRows
 pub mod Beside
 pub mod ByArray
+mod ByRegister
 mod Carried
 mod Fields
 mod Handing

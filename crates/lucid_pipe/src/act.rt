@@ -1,60 +1,57 @@
 // An act of a stage, on registers and cells.
 ghost use Rattle.std.specs.Prelude.{◌≡◌, length};
 ghost use Rattle.lucid_code.specs.Run.{run_act};
-ghost use Rattle.lucid_tables.specs.Registers.{registers_of};
-ghost use Rattle.lucid_pipe.specs.Blocks.{machine, CanAct};
+ghost use Rattle.lucid_pipe.specs.Blocks.{on_registers, CanAct};
 
 use crate::read::{arguments, hash, put, target, value};
 use crate::sent::Sent;
-use lucid_base::{Bits, Cells, Event, Items, Out, apply_bin, apply_un, compare};
+use lucid_base::{Bits, Cells, Event, Items, Out, Width, apply_bin, apply_un, compare};
 use lucid_code::Act;
-use lucid_tables::Placed;
 
-/// Does what an act does.
+/// Does what an act by register does. Each register has its width.
 pub(crate) fn act(
-    placed: &Placed,
+    widths: &[Width],
     act: &Act,
     registers: &mut Items<u64>,
     cells: &mut Cells,
     sent: &mut Sent,
 )
-    requires long { length registers.old ≡ length (registers_of placed.now.code) }
-    requires can { CanAct placed.now.code act.now }
-    ensures machine { machine placed.now.code registers.new cells.new sent.new
-        ≡ run_act placed.now.code.fields act.now (machine placed.now.code registers.old cells.old sent.old) }
+    requires long { length widths.now ≡ length registers.old }
+    requires can { CanAct (length registers.old) act.now }
+    ensures machine { on_registers registers.new cells.new sent.new ≡ run_act widths.now act.now (on_registers registers.old cells.old sent.old) }
     ensures long { length registers.new ≡ length registers.old }
 {
     match act {
         Act::Un(op, width, a, k) => {
-            let a = Bits::low(*width, value(placed, registers.as_slice(), *a));
-            put(placed, registers, *k, apply_un(*op, a).value);
+            let a = Bits::low(*width, value(registers.as_slice(), *a));
+            put(widths, registers, *k, apply_un(*op, a).value);
         }
         Act::Bin(op, width, a, b, k) => {
-            let a = Bits::low(*width, value(placed, registers.as_slice(), *a));
-            let b = Bits::low(*width, value(placed, registers.as_slice(), *b));
-            put(placed, registers, *k, apply_bin(*op, a, b).value);
+            let a = Bits::low(*width, value(registers.as_slice(), *a));
+            let b = Bits::low(*width, value(registers.as_slice(), *b));
+            put(widths, registers, *k, apply_bin(*op, a, b).value);
         }
         Act::Cmp(op, width, a, b, k) => {
-            let a = Bits::low(*width, value(placed, registers.as_slice(), *a));
-            let b = Bits::low(*width, value(placed, registers.as_slice(), *b));
+            let a = Bits::low(*width, value(registers.as_slice(), *a));
+            let b = Bits::low(*width, value(registers.as_slice(), *b));
             put(
-                placed,
+                widths,
                 registers,
                 *k,
                 Bits::from_bool(compare(*op, a, b)).value,
             );
         }
         Act::Cast(a, k) => {
-            let v = value(placed, registers.as_slice(), *a);
-            put(placed, registers, *k, v);
+            let v = value(registers.as_slice(), *a);
+            put(widths, registers, *k, v);
         }
         Act::Hash(xs, k) => {
-            let v = hash(placed, registers.as_slice(), xs.as_slice());
-            put(placed, registers, *k, v);
+            let v = hash(registers.as_slice(), xs.as_slice());
+            put(widths, registers, *k, v);
         }
         Act::Move(a, k) => {
-            let v = value(placed, registers.as_slice(), *a);
-            put(placed, registers, *k, v);
+            let v = value(registers.as_slice(), *a);
+            put(widths, registers, *k, v);
         }
         Act::Touch {
             array,
@@ -65,13 +62,13 @@ pub(crate) fn act(
             set_arg,
             to,
         } => {
-            let index = value(placed, registers.as_slice(), *index);
-            let get_arg = value(placed, registers.as_slice(), *get_arg);
-            let set_arg = value(placed, registers.as_slice(), *set_arg);
+            let index = value(registers.as_slice(), *index);
+            let get_arg = value(registers.as_slice(), *get_arg);
+            let set_arg = value(registers.as_slice(), *set_arg);
             let stored = cells.get(*array, index);
             cells.set(*array, index, set.apply_low(stored, set_arg).value);
             if let Some(k) = to {
-                put(placed, registers, *k, get.apply_low(stored, get_arg).value);
+                put(widths, registers, *k, get.apply_low(stored, get_arg).value);
             }
         }
         Act::Gen {
@@ -83,14 +80,14 @@ pub(crate) fn act(
         } => {
             let event = Event {
                 id: *event,
-                args: arguments(placed, registers.as_slice(), args.as_slice()),
+                args: arguments(registers.as_slice(), args.as_slice()),
             };
-            let delay = value(placed, registers.as_slice(), *delay);
-            let to = target(placed, registers.as_slice(), *to);
+            let delay = value(registers.as_slice(), *delay);
+            let to = target(registers.as_slice(), *to);
             sent.put(*slot, Out::Gen { event, delay, to });
         }
         Act::Say { slot, form, args } => {
-            let args = arguments(placed, registers.as_slice(), args.as_slice());
+            let args = arguments(registers.as_slice(), args.as_slice());
             sent.put(*slot, Out::Say { form: *form, args });
         }
     }

@@ -5,18 +5,17 @@ ghost use Rattle.std.specs.Option.{option_map_or};
 ghost use Rattle.lucid_code.specs.Guards.{all_hold};
 ghost use Rattle.lucid_tables.specs.Registers.{registers_of};
 ghost use Rattle.lucid_tables.specs.Stages.{stage};
-ghost use Rattle.lucid_pipe.specs.Blocks.{machine, fields_of};
-ghost use Rattle.lucid_pipe.specs.InPlace.{run_numbered, run_table, run_tables};
+ghost use Rattle.lucid_pipe.specs.Blocks.{machine, on_registers};
+ghost use Rattle.lucid_pipe.specs.InPlace.{run_number, run_rows, run_all_rows};
 
 use crate::act::act;
-use crate::read::field;
+use crate::read::held;
 use crate::sent::Sent;
 use lucid_base::{Cells, Items};
 use lucid_code::Literal;
-use lucid_tables::{Placed, Table};
+use lucid_tables::{Placed, Row};
 
 /// Executes stage `k`.
-#[tactic(auto, using(crate::proofs::Together::stage_at))]
 pub(crate) fn execute(
     placed: &Placed,
     k: usize,
@@ -31,44 +30,46 @@ pub(crate) fn execute(
         ≡ option_map_or (stage placed.now.code before) (slice_get placed.now.stages k) before }
     ensures long { length registers.new ≡ length registers.old }
 {
-    let stages = placed.stages();
-    let found = &stages[k];
-    run_tables(placed, found.tables.as_slice(), registers, cells, sent);
+    let _placed = placed.stages();
+    let _valid = placed.code().ops();
+    let stages = placed.stages_by_register();
+    let tables = &stages[k];
+    run_all_rows(placed, tables.as_slice(), registers, cells, sent);
 }
 
-/// The tables, one after another.
-fn run_tables(
+/// The tables, one after another, each of which is its rows.
+fn run_all_rows(
     placed: &Placed,
-    tables: &[Table],
+    tables: &[Items<Row>],
     registers: &mut Items<u64>,
     cells: &mut Cells,
     sent: &mut Sent,
 )
     requires long { length registers.old ≡ length (registers_of placed.now.code) }
-    ensures machine { machine placed.now.code registers.new cells.new sent.new
-        ≡ run_tables placed.now.code (machine placed.now.code registers.old cells.old sent.old) tables.now }
+    ensures machine { on_registers registers.new cells.new sent.new
+        ≡ run_all_rows placed.now.code (on_registers registers.old cells.old sent.old) tables.now }
     ensures long { length registers.new ≡ length registers.old }
 {
-    for table in tables {
-        run_table(placed, table, registers, cells, sent);
+    for rows in tables {
+        run_rows(placed, rows.as_slice(), registers, cells, sent);
     }
 }
 
 /// The first row that matches acts.
-fn run_table(
+fn run_rows(
     placed: &Placed,
-    table: &Table,
+    rows: &[Row],
     registers: &mut Items<u64>,
     cells: &mut Cells,
     sent: &mut Sent,
 )
     requires long { length registers.old ≡ length (registers_of placed.now.code) }
-    ensures machine { machine placed.now.code registers.new cells.new sent.new
-        ≡ run_table placed.now.code (machine placed.now.code registers.old cells.old sent.old) table.now }
+    ensures machine { on_registers registers.new cells.new sent.new
+        ≡ run_rows placed.now.code (on_registers registers.old cells.old sent.old) rows.now }
     ensures long { length registers.new ≡ length registers.old }
 {
-    for row in table.rows.as_slice() {
-        if all_hold(placed, registers.as_slice(), row.pattern.as_slice()) {
+    for row in rows {
+        if all_hold(registers.as_slice(), row.pattern.as_slice()) {
             run_ops(placed, row.ops.as_slice(), registers, cells, sent);
             return;
         }
@@ -76,12 +77,11 @@ fn run_table(
 }
 
 /// Whether all literals hold.
-fn all_hold(placed: &Placed, registers: &[u64], pattern: &[Literal]) -> bool
-    requires { length registers.now ≡ length (registers_of placed.now.code) }
-    ensures { result ≡ all_hold (fields_of placed.now.code registers.now) pattern.now }
+fn all_hold(registers: &[u64], pattern: &[Literal]) -> bool
+    ensures { result ≡ all_hold registers.now pattern.now }
 {
     for literal in pattern {
-        if (field(placed, registers, literal.field) == literal.value) != literal.equal {
+        if (held(registers, literal.field) == literal.value) != literal.equal {
             return false;
         }
     }
@@ -97,8 +97,8 @@ fn run_ops(
     sent: &mut Sent,
 )
     requires long { length registers.old ≡ length (registers_of placed.now.code) }
-    ensures machine { machine placed.now.code registers.new cells.new sent.new
-        ≡ fold (run_numbered placed.now.code) (machine placed.now.code registers.old cells.old sent.old) ops.now }
+    ensures machine { on_registers registers.new cells.new sent.new
+        ≡ fold (run_number placed.now.code) (on_registers registers.old cells.old sent.old) ops.now }
     ensures long { length registers.new ≡ length registers.old }
 {
     for number in ops {
@@ -107,7 +107,7 @@ fn run_ops(
 }
 
 /// The operation of this number.
-#[tactic(auto, using(crate::proofs::Carried::can_act_at, crate::proofs::Carried::runs_at, crate::proofs::Carried::runs_past))]
+#[tactic(auto, using(crate::proofs::Carried::can_act_at, crate::proofs::Carried::runs_at, crate::proofs::Carried::runs_past, crate::proofs::Carried::width_each))]
 fn run_op(
     placed: &Placed,
     number: u32,
@@ -116,14 +116,15 @@ fn run_op(
     sent: &mut Sent,
 )
     requires long { length registers.old ≡ length (registers_of placed.now.code) }
-    ensures machine { machine placed.now.code registers.new cells.new sent.new
-        ≡ run_numbered placed.now.code (machine placed.now.code registers.old cells.old sent.old) number }
+    ensures machine { on_registers registers.new cells.new sent.new
+        ≡ run_number placed.now.code (on_registers registers.old cells.old sent.old) number }
     ensures long { length registers.new ≡ length registers.old }
 {
-    let ops = placed.code().ops();
+    let _valid = placed.code().ops();
+    let acts = placed.acts_by_register();
     let at = number as usize;
-    if at < ops.len() {
-        let op = &ops[at];
-        act(placed, &op.act, registers, cells, sent);
+    if at < acts.len() {
+        let widths = placed.widths_by_register();
+        act(widths, &acts[at], registers, cells, sent);
     }
 }
