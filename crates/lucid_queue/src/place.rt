@@ -116,6 +116,7 @@ impl Ord for Place {
 
     ghost matches_eq = { λ p q. refl };
 
+    #[inline(always)]
     fn cmp(&self, other: &Place) -> Ordering {
         if self.switch != other.switch {
             return self.switch.cmp(&other.switch);
