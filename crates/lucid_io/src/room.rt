@@ -6,47 +6,50 @@ use crate::sink::Sink;
 use crate::writing::{WriteFault, put_all};
 use std::marker::Model;
 
-/// For how many bytes there is room.
+/// How many bytes a room has for a text of any length.
 pub const ROOM: usize = 4096;
 
 /// A room for bytes that wait to be written, on the stack. It takes no memory. Contracts see the bytes that wait in it.
+///
+/// All of its bytes are zeroed where it is made, so a short text is put sooner through a room of few.
 #[derive(Drop)]
-pub struct Room {
-    bytes: [u8; ROOM],
+pub struct Room<const N: usize> {
+    bytes: [u8; N],
     len: usize,
 }
 
-impl Model for Room {
+impl<const N: usize> Model for Room<N> {
     ghost use Rattle.std.specs.Prelude.{List, ℕ, ◌≤◌, take};
 
     ghost Value = { List ℕ };
 
     ghost view = { λ room. take room.len room.bytes };
 
-    ghost invariant = { λ room. room.len ≤ 4096 };
+    ghost invariant = { λ room. room.len ≤ N };
 }
 
-impl Room {
+impl<const N: usize> Room<N> {
     /// An empty room.
-    pub fn new() -> Room
+    pub fn new() -> Room<N>
         ensures { result ≡ [] }
     {
         Room {
-            bytes: [0; ROOM],
+            bytes: [0; N],
             len: 0,
         }
     }
 
     // Lets the piece wait behind what waits already, and says whether there was room for it.
     fn admit(&mut self, piece: &[u8]) -> bool
-        ensures fits { result ≡ nat_le (length self.old + length piece.now) ROOM }
+        ensures fits { result ≡ nat_le (length self.old + length piece.now) N }
         ensures after { self.new ≡ (if result then self.old ++ piece.now else self.old) }
     {
-        if piece.len() > ROOM - self.len {
+        if piece.len() > N - self.len {
             return false;
         }
         let end = self.len + piece.len();
-        self.bytes[self.len..end].copy_from_slice(piece);
+        let bytes = &mut self.bytes[..];
+        bytes[self.len..end].copy_from_slice(piece);
         self.len = end;
         true
     }
@@ -57,10 +60,14 @@ impl Room {
 ///
 /// Of both together all was put but what waits then; or, where the sink's count of faults rose in this call, a proper prefix
 /// was put, and nothing waits. Nothing is written where both fit the room.
-pub fn hold<S: Sink>(sink: &mut S, room: &mut Room, piece: &[u8]) -> Result<(), WriteFault>
+pub fn hold<S: Sink, const N: usize>(
+    sink: &mut S,
+    room: &mut Room<N>,
+    piece: &[u8],
+) -> Result<(), WriteFault>
     ensures all { OnOk result (Leaves S.written S.faults sink.old sink.new (room.old ++ piece.now) room.new) }
     ensures part { OnErr result (PutsPart S.written S.faults sink.old sink.new (room.old ++ piece.now)) }
-    ensures fits { length room.old + length piece.now ≤ ROOM → IsOk result × (room.new ≡ room.old ++ piece.now) × (sink.new ≡ sink.old) }
+    ensures fits { length room.old + length piece.now ≤ N → IsOk result × (room.new ≡ room.old ++ piece.now) × (sink.new ≡ sink.old) }
     ensures lost { OnErr result (room.new ≡ []) }
 {
     if room.admit(piece) {
@@ -74,12 +81,13 @@ pub fn hold<S: Sink>(sink: &mut S, room: &mut Room, piece: &[u8]) -> Result<(), 
 }
 
 /// Writes all that waits in the room, or, where the sink's count of faults rose in this call, a proper prefix of it. Then nothing waits.
-pub fn release<S: Sink>(sink: &mut S, room: &mut Room) -> Result<(), WriteFault>
+pub fn release<S: Sink, const N: usize>(sink: &mut S, room: &mut Room<N>) -> Result<(), WriteFault>
     ensures all { OnOk result (PutsAll S.written S.faults sink.old sink.new room.old) }
     ensures part { OnErr result (PutsPart S.written S.faults sink.old sink.new room.old) }
     ensures emptied { room.new ≡ [] }
 {
-    let put = put_all(sink, &room.bytes[..room.len]);
+    let bytes = &room.bytes[..];
+    let put = put_all(sink, &bytes[..room.len]);
     room.len = 0;
     put
 }

@@ -1,5 +1,5 @@
 // Blocks: an event that ran, and what it sent out.
-ghost use Rattle.std.specs.Prelude.{◌≡◌, ◌<◌, ◌≤◌, ◌++◌, length, IsTrue, OnOk, OnErr};
+ghost use Rattle.std.specs.Prelude.{◌≡◌, ◌<◌, ◌≤◌, [], ◌++◌, length, IsTrue, OnOk, OnErr};
 ghost use Rattle.std.specs.List.{All};
 ghost use Rattle.lucid_core.specs.Fits.{event_fits, out_fits};
 ghost use Rattle.lucid_core.specs.Texts.{holes_of};
@@ -7,10 +7,10 @@ ghost use Rattle.lucid_io.specs.Puts.{PutsAll, PutsPart, Leaves};
 ghost use Rattle.lucid_log.specs.Block.{event_name, form_of, head_text, target_text, end_text, generate_text, say_text, out_text, is_marked, outs_text, block_text};
 
 use crate::filled::hold_filled;
-use crate::pieces::{Piece, hold_pieces};
+use crate::pieces::{Piece, SHORT, hold_pieces};
 use lucid_base::{Event, Out, Outs, Target};
 use lucid_core::Core;
-use lucid_io::{Room, Sink, WriteFault, hold, release};
+use lucid_io::{ROOM, Room, Sink, WriteFault, hold, release};
 
 /// Writes the block of an event that fits the core and ran at this tick on this switch, with what it sent out (`block_text`): all of it,
 /// or a proper prefix of it where the sink's count of faults rose in this call. Bit `i` of `lost` marks out `i` as lost. The events sent out
@@ -29,15 +29,109 @@ pub fn put_block<S: Sink>(
     ensures all { OnOk result (PutsAll S.written S.faults sink.old sink.new (block_text core.now tick switch event.now outs.now lost)) }
     ensures part { OnErr result (PutsPart S.written S.faults sink.old sink.new (block_text core.now tick switch event.now outs.now lost)) }
 {
-    let mut room = Room::new();
-    hold_head(sink, &mut room, core, tick, switch, event)?;
-    hold_outs(sink, &mut room, core, outs.as_slice(), lost)?;
-    release(sink, &mut room)
+    if most_of(core, event, outs.as_slice()) <= SHORT {
+        put_short(sink, core, tick, switch, event, outs, lost)
+    } else {
+        put_long(sink, core, tick, switch, event, outs, lost)
+    }
 }
 
-fn hold_head<'a, S: Sink>(
+fn put_short<S: Sink>(
     sink: &mut S,
-    room: &mut Room,
+    core: &Core,
+    tick: u64,
+    switch: u32,
+    event: &Event,
+    outs: &Outs,
+    lost: u8,
+) -> Result<(), WriteFault>
+    requires event { IsTrue (event_fits core.now event.now) }
+    requires outs { All (λ out. IsTrue (out_fits core.now out)) outs.now }
+    ensures all { OnOk result (PutsAll S.written S.faults sink.old sink.new (block_text core.now tick switch event.now outs.now lost)) }
+    ensures part { OnErr result (PutsPart S.written S.faults sink.old sink.new (block_text core.now tick switch event.now outs.now lost)) }
+{
+    let mut room = Room::<SHORT>::new();
+    put_through(sink, &mut room, core, tick, switch, event, outs, lost)
+}
+
+fn put_long<S: Sink>(
+    sink: &mut S,
+    core: &Core,
+    tick: u64,
+    switch: u32,
+    event: &Event,
+    outs: &Outs,
+    lost: u8,
+) -> Result<(), WriteFault>
+    requires event { IsTrue (event_fits core.now event.now) }
+    requires outs { All (λ out. IsTrue (out_fits core.now out)) outs.now }
+    ensures all { OnOk result (PutsAll S.written S.faults sink.old sink.new (block_text core.now tick switch event.now outs.now lost)) }
+    ensures part { OnErr result (PutsPart S.written S.faults sink.old sink.new (block_text core.now tick switch event.now outs.now lost)) }
+{
+    let mut room = Room::<ROOM>::new();
+    put_through(sink, &mut room, core, tick, switch, event, outs, lost)
+}
+
+// Writes the block through a room in which nothing waits.
+fn put_through<S: Sink, const N: usize>(
+    sink: &mut S,
+    room: &mut Room<N>,
+    core: &Core,
+    tick: u64,
+    switch: u32,
+    event: &Event,
+    outs: &Outs,
+    lost: u8,
+) -> Result<(), WriteFault>
+    requires empty { room.old ≡ [] }
+    requires event { IsTrue (event_fits core.now event.now) }
+    requires outs { All (λ out. IsTrue (out_fits core.now out)) outs.now }
+    ensures all { OnOk result (PutsAll S.written S.faults sink.old sink.new (block_text core.now tick switch event.now outs.now lost)) }
+    ensures part { OnErr result (PutsPart S.written S.faults sink.old sink.new (block_text core.now tick switch event.now outs.now lost)) }
+{
+    hold_head(sink, room, core, tick, switch, event)?;
+    hold_outs(sink, room, core, outs.as_slice(), lost)?;
+    release(sink, room)
+}
+
+// How many bytes a block has at most. No clause needs it: it only tells how large a room is worth its zeroing.
+fn most_of(core: &Core, event: &Event, outs: &[Out]) -> usize {
+    let mut most = most_of_event(core, event);
+    for out in outs {
+        most = most.saturating_add(most_of_out(core, out));
+    }
+    most
+}
+
+fn most_of_out(core: &Core, out: &Out) -> usize {
+    match out {
+        Out::Gen { event, .. } => most_of_event(core, event),
+        Out::Say { form, args } => match core.forms().get(*form as usize) {
+            Some(text) => most_of_line(text.bytes().len(), args.as_slice()),
+            None => 0,
+        },
+    }
+}
+
+fn most_of_event(core: &Core, event: &Event) -> usize {
+    match core.events().get(event.id as usize) {
+        Some(def) => most_of_line(def.name.bytes().len(), event.args.as_slice()),
+        None => 0,
+    }
+}
+
+// A line with a text and numbers has at most 70 bytes beside them, where it is an event that is sent out.
+fn most_of_line(text: usize, numbers: &[u64]) -> usize {
+    numbers
+        .len()
+        .saturating_mul(21)
+        .saturating_add(text)
+        .saturating_add(70)
+}
+
+fn hold_head<'a, S: Sink, const N: usize>(
+    sink: &mut S,
+    room: &mut Room<N>,
     core: &'a Core,
     tick: u64,
     switch: u32,
@@ -64,9 +158,9 @@ fn hold_head<'a, S: Sink>(
     )
 }
 
-fn hold_outs<S: Sink>(
+fn hold_outs<S: Sink, const N: usize>(
     sink: &mut S,
-    room: &mut Room,
+    room: &mut Room<N>,
     core: &Core,
     outs: &[Out],
     lost: u8,
@@ -89,9 +183,9 @@ fn is_set(byte: u8, bit: usize) -> bool
     byte >> bit & 1 == 1
 }
 
-fn hold_out<S: Sink>(
+fn hold_out<S: Sink, const N: usize>(
     sink: &mut S,
-    room: &mut Room,
+    room: &mut Room<N>,
     core: &Core,
     out: &Out,
     is_lost: bool,
@@ -133,9 +227,9 @@ fn form_at(core: &Core, form: u32) -> &[u8]
     core.forms()[form as usize].bytes()
 }
 
-fn hold_generate<'a, S: Sink>(
+fn hold_generate<'a, S: Sink, const N: usize>(
     sink: &mut S,
-    room: &mut Room,
+    room: &mut Room<N>,
     name: &'a [u8],
     args: &'a [u64],
     delay: u64,
@@ -161,7 +255,11 @@ fn hold_generate<'a, S: Sink>(
     hold(sink, room, end_of(is_lost))
 }
 
-fn hold_target<S: Sink>(sink: &mut S, room: &mut Room, to: Target) -> Result<(), WriteFault>
+fn hold_target<S: Sink, const N: usize>(
+    sink: &mut S,
+    room: &mut Room<N>,
+    to: Target,
+) -> Result<(), WriteFault>
     ensures all { OnOk result (Leaves S.written S.faults sink.old sink.new (room.old ++ target_text to) room.new) }
     ensures part { OnErr result (PutsPart S.written S.faults sink.old sink.new (room.old ++ target_text to)) }
 {
@@ -178,9 +276,9 @@ fn end_of(is_lost: bool) -> &'static [u8]
 }
 
 // Lets the line of a print wait in the room.
-fn hold_say<S: Sink>(
+fn hold_say<S: Sink, const N: usize>(
     sink: &mut S,
-    room: &mut Room,
+    room: &mut Room<N>,
     text: &[u8],
     numbers: &[u64],
 ) -> Result<(), WriteFault>

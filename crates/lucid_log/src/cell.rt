@@ -5,7 +5,7 @@ ghost use Rattle.lucid_log.specs.Cell.{array_name, cell_text, line_of};
 
 use crate::pieces::{Piece, hold_pieces};
 use lucid_core::Core;
-use lucid_io::{Room, Sink, WriteFault, release};
+use lucid_io::{ROOM, Room, Sink, WriteFault, release};
 
 /// Writes the line of a cell of a declared array (`cell_text`): all of it, or a proper prefix of it where the sink's count of faults rose in this call.
 pub fn put_cell<S: Sink>(
@@ -20,7 +20,7 @@ pub fn put_cell<S: Sink>(
     ensures all { OnOk result (PutsAll S.written S.faults sink.old sink.new (cell_text core.now switch array cell value)) }
     ensures part { OnErr result (PutsPart S.written S.faults sink.old sink.new (cell_text core.now switch array cell value)) }
 {
-    let mut room = Room::new();
+    let mut room = Room::<ROOM>::new();
     let name = name_of(core, array);
     hold_line(sink, &mut room, switch, name, cell, value)?;
     release(sink, &mut room)
@@ -35,9 +35,9 @@ fn name_of(core: &Core, array: u32) -> &[u8]
 }
 
 // The line of a cell of the array of this name.
-pub(crate) fn hold_line<'a, S: Sink>(
+pub(crate) fn hold_line<'a, S: Sink, const N: usize>(
     sink: &mut S,
-    room: &mut Room,
+    room: &mut Room<N>,
     switch: u32,
     name: &'a [u8],
     cell: u64,

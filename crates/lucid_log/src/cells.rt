@@ -7,7 +7,7 @@ ghost use Rattle.lucid_log.specs.Cells.{shown_line, lines_from, cells_text};
 use crate::cell::hold_line;
 use lucid_base::ArrayDef;
 use lucid_core::Cells;
-use lucid_io::{Room, Sink, WriteFault, release};
+use lucid_io::{ROOM, Room, Sink, WriteFault, release};
 
 /// What cells hold, by the number of their array and their own, as a core's cells or a pipeline's registers do.
 pub trait ArrayCells {
@@ -39,14 +39,14 @@ pub fn put_cells<S: Sink, C: ArrayCells>(
     ensures all { OnOk result (PutsAll S.written S.faults sink.old sink.new (cells_text switch arrays.now (C.held cells.now))) }
     ensures part { OnErr result (PutsPart S.written S.faults sink.old sink.new (cells_text switch arrays.now (C.held cells.now))) }
 {
-    let mut room = Room::new();
+    let mut room = Room::<ROOM>::new();
     hold_cells(sink, &mut room, switch, arrays, cells)?;
     release(sink, &mut room)
 }
 
-fn hold_cells<S: Sink, C: ArrayCells>(
+fn hold_cells<S: Sink, C: ArrayCells, const N: usize>(
     sink: &mut S,
-    room: &mut Room,
+    room: &mut Room<N>,
     switch: u32,
     arrays: &[ArrayDef],
     cells: &C,
@@ -63,9 +63,9 @@ fn hold_cells<S: Sink, C: ArrayCells>(
 }
 
 // The cells of one array, of this name and size.
-fn hold_array<S: Sink, C: ArrayCells>(
+fn hold_array<S: Sink, C: ArrayCells, const N: usize>(
     sink: &mut S,
-    room: &mut Room,
+    room: &mut Room<N>,
     switch: u32,
     cells: &C,
     array: u32,
@@ -83,9 +83,9 @@ fn hold_array<S: Sink, C: ArrayCells>(
 }
 
 // The line of one cell, unless it holds 0.
-fn hold_shown<S: Sink>(
+fn hold_shown<S: Sink, const N: usize>(
     sink: &mut S,
-    room: &mut Room,
+    room: &mut Room<N>,
     switch: u32,
     name: &[u8],
     cell: u64,

@@ -8,9 +8,9 @@ use crate::pieces::{Piece, hold_pieces};
 use lucid_io::{Room, Sink, WriteFault, hold};
 
 // Lets the text wait in the room, with its `%d` replaced by the numbers, from the left.
-pub(crate) fn hold_filled<S: Sink>(
+pub(crate) fn hold_filled<S: Sink, const N: usize>(
     sink: &mut S,
-    room: &mut Room,
+    room: &mut Room<N>,
     text: &[u8],
     numbers: &[u64],
 ) -> Result<(), WriteFault>

@@ -1,10 +1,13 @@
 // Texts in pieces, and the numbers in them. Numbers are printed on the stack.
-ghost use Rattle.std.specs.Prelude.{◌≡◌, ◌<◌, ◌++◌, decimal, OnOk, OnErr};
+ghost use Rattle.std.specs.Prelude.{◌≡◌, ◌<◌, [], ◌++◌, decimal, OnOk, OnErr};
 ghost use Rattle.lucid_io.specs.Puts.{PutsAll, PutsPart, Leaves};
 ghost use Rattle.lucid_log.specs.Pieces.{numbers_text, hex_digit as digit_of, hex_text, piece_text, text_of};
 
 use itoa::Buffer;
-use lucid_io::{Room, Sink, WriteFault, hold, release};
+use lucid_io::{ROOM, Room, Sink, WriteFault, hold, release};
+
+// How many bytes a room has for a short text, as most lines are.
+pub(crate) const SHORT: usize = 512;
 
 /// A piece of a text.
 #[derive(Clone, Copy, Debug)]
@@ -24,15 +27,65 @@ pub fn put_pieces<S: Sink>(sink: &mut S, pieces: &[Piece]) -> Result<(), WriteFa
     ensures all { OnOk result (PutsAll S.written S.faults sink.old sink.new (text_of pieces.now)) }
     ensures part { OnErr result (PutsPart S.written S.faults sink.old sink.new (text_of pieces.now)) }
 {
-    let mut room = Room::new();
-    hold_pieces(sink, &mut room, pieces)?;
-    release(sink, &mut room)
+    if most_of(pieces) <= SHORT {
+        put_short(sink, pieces)
+    } else {
+        put_long(sink, pieces)
+    }
+}
+
+fn put_short<S: Sink>(sink: &mut S, pieces: &[Piece]) -> Result<(), WriteFault>
+    ensures all { OnOk result (PutsAll S.written S.faults sink.old sink.new (text_of pieces.now)) }
+    ensures part { OnErr result (PutsPart S.written S.faults sink.old sink.new (text_of pieces.now)) }
+{
+    let mut room = Room::<SHORT>::new();
+    put_through(sink, &mut room, pieces)
+}
+
+fn put_long<S: Sink>(sink: &mut S, pieces: &[Piece]) -> Result<(), WriteFault>
+    ensures all { OnOk result (PutsAll S.written S.faults sink.old sink.new (text_of pieces.now)) }
+    ensures part { OnErr result (PutsPart S.written S.faults sink.old sink.new (text_of pieces.now)) }
+{
+    let mut room = Room::<ROOM>::new();
+    put_through(sink, &mut room, pieces)
+}
+
+// Writes the pieces through a room in which nothing waits.
+fn put_through<S: Sink, const N: usize>(
+    sink: &mut S,
+    room: &mut Room<N>,
+    pieces: &[Piece],
+) -> Result<(), WriteFault>
+    requires { room.old ≡ [] }
+    ensures all { OnOk result (PutsAll S.written S.faults sink.old sink.new (text_of pieces.now)) }
+    ensures part { OnErr result (PutsPart S.written S.faults sink.old sink.new (text_of pieces.now)) }
+{
+    hold_pieces(sink, room, pieces)?;
+    release(sink, room)
+}
+
+// How many bytes the text of the pieces has at most. No clause needs it: it only tells how large a room is worth its zeroing.
+fn most_of(pieces: &[Piece]) -> usize {
+    let mut most: usize = 0;
+    for piece in pieces {
+        most = most.saturating_add(most_of_piece(piece));
+    }
+    most
+}
+
+fn most_of_piece(piece: &Piece) -> usize {
+    match *piece {
+        Piece::Text(bytes) => bytes.len(),
+        Piece::Number(_) => 20,
+        Piece::Numbers(numbers) => numbers.len().saturating_mul(21),
+        Piece::Hex(_) => 16,
+    }
 }
 
 // Lets the pieces wait in the room, or writes them on the way: of what waited and their text all was put but what waits then.
-pub(crate) fn hold_pieces<S: Sink>(
+pub(crate) fn hold_pieces<S: Sink, const N: usize>(
     sink: &mut S,
-    room: &mut Room,
+    room: &mut Room<N>,
     pieces: &[Piece],
 ) -> Result<(), WriteFault>
     ensures all { OnOk result (Leaves S.written S.faults sink.old sink.new (room.old ++ text_of pieces.now) room.new) }
@@ -44,7 +97,11 @@ pub(crate) fn hold_pieces<S: Sink>(
     Ok(())
 }
 
-fn hold_piece<S: Sink>(sink: &mut S, room: &mut Room, piece: &Piece) -> Result<(), WriteFault>
+fn hold_piece<S: Sink, const N: usize>(
+    sink: &mut S,
+    room: &mut Room<N>,
+    piece: &Piece,
+) -> Result<(), WriteFault>
     ensures all { OnOk result (Leaves S.written S.faults sink.old sink.new (room.old ++ piece_text piece.now) room.new) }
     ensures part { OnErr result (PutsPart S.written S.faults sink.old sink.new (room.old ++ piece_text piece.now)) }
 {
@@ -56,7 +113,11 @@ fn hold_piece<S: Sink>(sink: &mut S, room: &mut Room, piece: &Piece) -> Result<(
     }
 }
 
-fn hold_number<S: Sink>(sink: &mut S, room: &mut Room, n: u64) -> Result<(), WriteFault>
+fn hold_number<S: Sink, const N: usize>(
+    sink: &mut S,
+    room: &mut Room<N>,
+    n: u64,
+) -> Result<(), WriteFault>
     ensures all { OnOk result (Leaves S.written S.faults sink.old sink.new (room.old ++ decimal n) room.new) }
     ensures part { OnErr result (PutsPart S.written S.faults sink.old sink.new (room.old ++ decimal n)) }
 {
@@ -64,7 +125,11 @@ fn hold_number<S: Sink>(sink: &mut S, room: &mut Room, n: u64) -> Result<(), Wri
     hold(sink, room, digits.format(n).as_bytes())
 }
 
-fn hold_numbers<S: Sink>(sink: &mut S, room: &mut Room, numbers: &[u64]) -> Result<(), WriteFault>
+fn hold_numbers<S: Sink, const N: usize>(
+    sink: &mut S,
+    room: &mut Room<N>,
+    numbers: &[u64],
+) -> Result<(), WriteFault>
     ensures all { OnOk result (Leaves S.written S.faults sink.old sink.new (room.old ++ numbers_text numbers.now) room.new) }
     ensures part { OnErr result (PutsPart S.written S.faults sink.old sink.new (room.old ++ numbers_text numbers.now)) }
 {

@@ -116,9 +116,23 @@ impl Ord for Place {
 
     ghost matches_eq = { λ p q. refl };
 
+    #[inline(always)]
     fn cmp(&self, other: &Place) -> Ordering {
-        self.switch
-            .cmp(&other.switch)
-            .then(self.key().cmp(&other.key()))
+        if self.switch != other.switch {
+            return self.switch.cmp(&other.switch);
+        }
+        if self.ready != other.ready {
+            return self.ready.cmp(&other.ready);
+        }
+        if self.made != other.made {
+            return self.made.cmp(&other.made);
+        }
+        if self.tick != other.tick {
+            return self.tick.cmp(&other.tick);
+        }
+        if self.parent != other.parent {
+            return self.parent.cmp(&other.parent);
+        }
+        self.index.cmp(&other.index)
     }
 }
