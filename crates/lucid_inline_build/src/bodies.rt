@@ -1,4 +1,4 @@
-// Bodies with their calls put in: a function a form.
+// Bodies with their calls put in: a function a form. How much deeper parts may stand in one another, `left` says.
 ghost use Rattle.std.specs.Prelude.{◌≡◌, IfOk, OnOk, map, option_map, slice_get};
 ghost use Rattle.lucid_core.specs.declared.body.Expr.TheViews.{roll-Expr};
 ghost use Rattle.lucid_inline_form.specs.Flat.{block as block_of, both, each, flat_expr, flat_stmt, flat_touch, optional as optional_of};
@@ -6,68 +6,89 @@ ghost use Rattle.lucid_inline_form.specs.Flat.{put_in, puts_of};
 ghost use Rattle.lucid_inline_build.specs.Numbers.{FewBoth, FewExpr, FewExprs, FewOptional, FewStmts, FewTouch};
 ghost use Rattle.lucid_inline_build.specs.Sites.{called, place};
 
-use crate::group::{alone, group, numbered};
+use crate::depth::deeper;
+use crate::group::{group, numbered};
+use crate::single::{assigning, branching, dropping, returning, saying, sending};
 use crate::site::{Site, array_at, arrays_at, earlier, number};
 use lucid_base::{ArrayName, Boxed, Items, Memory, Width};
 use lucid_core::{Expr, Stmt, Touch};
 
 /// An expression of the body, behind these locals of the handler.
 #[cycle(flatten)]
-fn expr(site: Site, locals: &mut Items<Width>, e: &Expr) -> Result<Expr, Memory>
+fn expr(site: Site, left: u32, locals: &mut Items<Width>, e: &Expr) -> Result<Expr, Memory>
     requires { FewExpr (flat_expr e.now (place site) locals.now) }
     ensures value { IfOk result (λ x. x ≡ (flat_expr e.now (place site.entry) locals.old).value) }
     ensures locals { OnOk result (locals.new ≡ (flat_expr e.now (place site.entry) locals.old).locals) }
 {
+    let left = deeper(left)?;
     match e {
         Expr::Fixed(n) => Ok(Expr::Fixed(*n)),
         Expr::Local(i) => Ok(Expr::Local(site.first + *i)),
         Expr::Now => Ok(Expr::Now),
         Expr::Me => Ok(Expr::Me),
         Expr::Un(op, a) => {
-            let a = expr(site, locals, a.get())?;
-            Ok(Expr::Un(*op, Boxed::new(site.alloc, a)?))
+            let a = boxed(site, left, locals, a.get())?;
+            Ok(Expr::Un(*op, a))
         }
         Expr::Bin(op, a, b) => {
-            let a = expr(site, locals, a.get())?;
-            let b = expr(site, locals, b.get())?;
-            Ok(Expr::Bin(*op, Boxed::new(site.alloc, a)?, Boxed::new(site.alloc, b)?))
+            let a = boxed(site, left, locals, a.get())?;
+            let b = boxed(site, left, locals, b.get())?;
+            Ok(Expr::Bin(*op, a, b))
         }
         Expr::Cmp(op, a, b) => {
-            let a = expr(site, locals, a.get())?;
-            let b = expr(site, locals, b.get())?;
-            Ok(Expr::Cmp(*op, Boxed::new(site.alloc, a)?, Boxed::new(site.alloc, b)?))
+            let a = boxed(site, left, locals, a.get())?;
+            let b = boxed(site, left, locals, b.get())?;
+            Ok(Expr::Cmp(*op, a, b))
         }
         Expr::Cast(width, a) => {
-            let a = expr(site, locals, a.get())?;
-            Ok(Expr::Cast(*width, Boxed::new(site.alloc, a)?))
+            let a = boxed(site, left, locals, a.get())?;
+            Ok(Expr::Cast(*width, a))
         }
         Expr::Hash(width, xs) => {
-            let xs = exprs(site, locals, xs.as_slice())?;
+            let xs = exprs(site, left, locals, xs.as_slice())?;
             Ok(Expr::Hash(*width, Items::from_vec(xs)))
         }
         Expr::Array(t) => {
-            let t = touch(site, locals, t.get())?;
-            Ok(Expr::Array(Boxed::new(site.alloc, t)?))
+            let t = touch(site, left, locals, t.get())?;
+            Ok(Expr::Array(t))
         }
         Expr::Fun(k, names, args) => {
-            let args = exprs(site, locals, args.as_slice())?;
+            let args = exprs(site, left, locals, args.as_slice())?;
             let arrays = arrays_at(site.alloc, site.arrays, names.as_slice())?;
-            put(site, locals, *k, arrays.as_slice(), args)
+            put(site, left, locals, *k, arrays.as_slice(), args)
         }
         Expr::Inlined(_, _) => Ok(Expr::Inlined(Items::new(site.alloc), Items::new(site.alloc))),
     }
 }
 
+/// An operand. It is a function of its own, so that `expr` holds no expression on the stack, where it stands as often as these are deep.
 #[cycle(flatten)]
-fn touch(site: Site, locals: &mut Items<Width>, t: &Touch) -> Result<Touch, Memory>
+#[inline(never)]
+fn boxed(site: Site, left: u32, locals: &mut Items<Width>, e: &Expr) -> Result<Boxed<Expr>, Memory>
+    requires { FewExpr (flat_expr e.now (place site) locals.now) }
+    ensures value { IfOk result (λ x. x ≡ (flat_expr e.now (place site.entry) locals.old).value) }
+    ensures locals { OnOk result (locals.new ≡ (flat_expr e.now (place site.entry) locals.old).locals) }
+{
+    let x = expr(site, left, locals, e)?;
+    Ok(Boxed::new(site.alloc, x)?)
+}
+
+#[cycle(flatten)]
+#[inline(never)]
+fn touch(
+    site: Site,
+    left: u32,
+    locals: &mut Items<Width>,
+    t: &Touch,
+) -> Result<Boxed<Touch>, Memory>
     requires { FewTouch (flat_touch t.now (place site) locals.now) }
     ensures value { IfOk result (λ x. x ≡ (flat_touch t.now (place site.entry) locals.old).value) }
     ensures locals { OnOk result (locals.new ≡ (flat_touch t.now (place site.entry) locals.old).locals) }
 {
-    let index = expr(site, locals, &t.index)?;
-    let get_arg = expr(site, locals, &t.get_arg)?;
-    let set_arg = expr(site, locals, &t.set_arg)?;
-    Ok(Touch {
+    let index = expr(site, left, locals, &t.index)?;
+    let get_arg = expr(site, left, locals, &t.get_arg)?;
+    let set_arg = expr(site, left, locals, &t.set_arg)?;
+    let made = Touch {
         array: ArrayName::Global(array_at(site.arrays, t.array)),
         index,
         get: t.get,
@@ -75,25 +96,33 @@ fn touch(site: Site, locals: &mut Items<Width>, t: &Touch) -> Result<Touch, Memo
         set: t.set,
         set_arg,
         answers: t.answers,
-    })
+    };
+    Ok(Boxed::new(site.alloc, made)?)
 }
 
 #[cycle(flatten)]
-fn exprs(site: Site, locals: &mut Items<Width>, es: &[Expr]) -> Result<Vec<Expr>, Memory>
+#[inline(never)]
+fn exprs(site: Site, left: u32, locals: &mut Items<Width>, es: &[Expr]) -> Result<Vec<Expr>, Memory>
     requires { FewExprs (each (map flat_expr es.now) (place site) locals.now) }
     ensures value { IfOk result (λ xs. xs.items ≡ (each (map flat_expr es.now) (place site.entry) locals.old).value) }
     ensures locals { OnOk result (locals.new ≡ (each (map flat_expr es.now) (place site.entry) locals.old).locals) }
 {
     let mut xs = Vec::new(site.alloc);
     for e in es {
-        xs.push(expr(site, locals, e)?)?;
+        xs.push(expr(site, left, locals, e)?)?;
     }
     Ok(xs)
 }
 
 /// An operand that may be left out.
 #[cycle(flatten)]
-fn optional(site: Site, locals: &mut Items<Width>, e: &Option<Expr>) -> Result<Option<Expr>, Memory>
+#[inline(never)]
+fn optional(
+    site: Site,
+    left: u32,
+    locals: &mut Items<Width>,
+    e: &Option<Expr>,
+) -> Result<Option<Expr>, Memory>
     requires { FewOptional (optional_of (option_map flat_expr e.now) (place site) locals.now) }
     ensures value { IfOk result (λ x. x ≡ (optional_of (option_map flat_expr e.now) (place site.entry) locals.old).value) }
     ensures locals { OnOk result (locals.new ≡ (optional_of (option_map flat_expr e.now) (place site.entry) locals.old).locals) }
@@ -101,7 +130,7 @@ fn optional(site: Site, locals: &mut Items<Width>, e: &Option<Expr>) -> Result<O
     match e {
         None => Ok(None),
         Some(e) => {
-            let x = expr(site, locals, e)?;
+            let x = expr(site, left, locals, e)?;
             Ok(Some(x))
         }
     }
@@ -109,8 +138,10 @@ fn optional(site: Site, locals: &mut Items<Width>, e: &Option<Expr>) -> Result<O
 
 /// A delay and a target, the delay first where the test holds.
 #[cycle(flatten)]
+#[inline(never)]
 fn delay_and_target(
     site: Site,
+    left: u32,
     locals: &mut Items<Width>,
     delay: &Option<Expr>,
     to: &Option<Expr>,
@@ -123,50 +154,58 @@ fn delay_and_target(
         (optional_of (option_map flat_expr delay.now)) (optional_of (option_map flat_expr to.now)) (place site.entry) locals.old).locals) }
 {
     if delay_first {
-        let delay = optional(site, locals, delay)?;
-        let to = optional(site, locals, to)?;
+        let delay = optional(site, left, locals, delay)?;
+        let to = optional(site, left, locals, to)?;
         Ok((delay, to))
     } else {
-        let to = optional(site, locals, to)?;
-        let delay = optional(site, locals, delay)?;
+        let to = optional(site, left, locals, to)?;
+        let delay = optional(site, left, locals, delay)?;
         Ok((delay, to))
     }
 }
 
 /// Statements of the body, behind these locals of the handler.
 #[cycle(flatten)]
-pub fn block(site: Site, locals: &mut Items<Width>, stmts: &[Stmt]) -> Result<Items<Stmt>, Memory>
+pub fn block(
+    site: Site,
+    left: u32,
+    locals: &mut Items<Width>,
+    stmts: &[Stmt],
+) -> Result<Items<Stmt>, Memory>
     requires { FewStmts (block_of (map flat_stmt stmts.now) (place site) locals.now) }
     ensures value { IfOk result (λ ss. ss ≡ (block_of (map flat_stmt stmts.now) (place site.entry) locals.old).value) }
     ensures locals { OnOk result (locals.new ≡ (block_of (map flat_stmt stmts.now) (place site.entry) locals.old).locals) }
 {
     let mut ss = Items::new(site.alloc);
     for s in stmts {
-        ss.append(stmt(site, locals, s)?)?;
+        ss.append(stmt(site, left, locals, s)?)?;
     }
     Ok(ss)
 }
 
 #[cycle(flatten)]
-fn stmt(site: Site, locals: &mut Items<Width>, s: &Stmt) -> Result<Items<Stmt>, Memory>
+#[inline(never)]
+fn stmt(site: Site, left: u32, locals: &mut Items<Width>, s: &Stmt) -> Result<Items<Stmt>, Memory>
     requires { FewStmts (flat_stmt s.now (place site) locals.now) }
     ensures value { IfOk result (λ ss. ss ≡ (flat_stmt s.now (place site.entry) locals.old).value) }
     ensures locals { OnOk result (locals.new ≡ (flat_stmt s.now (place site.entry) locals.old).locals) }
 {
+    let left = deeper(left)?;
     match s {
         Stmt::Assign(i, e) => {
-            let e = expr(site, locals, e)?;
-            alone(site.alloc, Stmt::Assign(site.first + *i, e))
+            let e = expr(site, left, locals, e)?;
+            assigning(site.alloc, site.first + *i, e)
         }
         Stmt::Drop(e) => {
-            let e = expr(site, locals, e)?;
-            alone(site.alloc, Stmt::Drop(e))
+            let e = expr(site, left, locals, e)?;
+            dropping(site.alloc, e)
         }
         Stmt::If(e, yes, no) => {
-            let e = expr(site, locals, e)?;
-            let yes = block(site, locals, yes.as_slice())?;
-            let no = block(site, locals, no.as_slice())?;
-            alone(site.alloc, Stmt::If(e, yes, no))
+            let left = deeper(left)?;
+            let e = expr(site, left, locals, e)?;
+            let yes = block(site, left, locals, yes.as_slice())?;
+            let no = block(site, left, locals, no.as_slice())?;
+            branching(site.alloc, e, yes, no)
         }
         Stmt::Gen {
             event,
@@ -175,16 +214,10 @@ fn stmt(site: Site, locals: &mut Items<Width>, s: &Stmt) -> Result<Items<Stmt>, 
             to,
             delay_first,
         } => {
-            let args = exprs(site, locals, args.as_slice())?;
-            let given = delay_and_target(site, locals, delay, to, *delay_first)?;
-            let sent = Stmt::Gen {
-                event: *event,
-                args: Items::from_vec(args),
-                delay: given.0,
-                to: given.1,
-                delay_first: *delay_first,
-            };
-            alone(site.alloc, sent)
+            let args = exprs(site, left, locals, args.as_slice())?;
+            let given = delay_and_target(site, left, locals, delay, to, *delay_first)?;
+            let args = Items::from_vec(args);
+            sending(site.alloc, *event, args, given, *delay_first)
         }
         Stmt::Multi {
             event,
@@ -193,7 +226,7 @@ fn stmt(site: Site, locals: &mut Items<Width>, s: &Stmt) -> Result<Items<Stmt>, 
             members,
         } => match delay {
             None => {
-                let held = exprs(site, locals, args.as_slice())?;
+                let held = exprs(site, left, locals, args.as_slice())?;
                 group(
                     site.alloc,
                     locals,
@@ -205,8 +238,8 @@ fn stmt(site: Site, locals: &mut Items<Width>, s: &Stmt) -> Result<Items<Stmt>, 
                 )
             }
             Some(delay) => {
-                let mut held = exprs(site, locals, args.as_slice())?;
-                let last = expr(site, locals, delay)?;
+                let mut held = exprs(site, left, locals, args.as_slice())?;
+                let last = expr(site, left, locals, delay)?;
                 held.push(last)?;
                 group(
                     site.alloc,
@@ -220,24 +253,22 @@ fn stmt(site: Site, locals: &mut Items<Width>, s: &Stmt) -> Result<Items<Stmt>, 
             }
         },
         Stmt::Say { form, args } => {
-            let args = exprs(site, locals, args.as_slice())?;
-            let said = Stmt::Say {
-                form: *form,
-                args: Items::from_vec(args),
-            };
-            alone(site.alloc, said)
+            let args = exprs(site, left, locals, args.as_slice())?;
+            saying(site.alloc, *form, Items::from_vec(args))
         }
         Stmt::Return(e) => {
-            let e = optional(site, locals, e)?;
-            alone(site.alloc, Stmt::Return(e))
+            let e = optional(site, left, locals, e)?;
+            returning(site.alloc, e)
         }
     }
 }
 
 /// A call of function `k` with these arrays and arguments.
 #[cycle(flatten)]
+#[inline(never)]
 fn put(
     site: Site,
+    left: u32,
     locals: &mut Items<Width>,
     k: u32,
     arrays: &[u32],
@@ -261,7 +292,7 @@ fn put(
                 funs,
                 ..site
             };
-            let body = block(inner, locals, f.body.as_slice())?;
+            let body = block(inner, left, locals, f.body.as_slice())?;
             Ok(Expr::Inlined(given, body))
         }
     }

@@ -1,5 +1,5 @@
 // Statements that the flat form makes: what a group becomes once its calls are taken.
-ghost use Rattle.std.specs.Prelude.{◌≡◌, ◌≤◌, ◌+◌, [], ◌∷◌, ◌++◌, IfOk, OnOk, map, length};
+ghost use Rattle.std.specs.Prelude.{◌≡◌, ◌≤◌, ◌+◌, ◌++◌, IfOk, OnOk, map, length};
 ghost use Rattle.std.specs.List.{enumerate_from};
 ghost use Rattle.lucid_core.specs.declared.body.Expr.TheViews.{roll-Stmt};
 ghost use Rattle.lucid_inline_form.specs.Flat.{locals_from, to_member, width_in};
@@ -11,16 +11,8 @@ use lucid_base::{Bits, Items, Memory, Width};
 use lucid_core::{Expr, Stmt, width_of};
 use std::alloc::Global;
 
-/// A statement that becomes one.
-pub fn alone(alloc: Global, s: Stmt) -> Result<Items<Stmt>, Memory>
-    ensures { IfOk result (λ ss. ss ≡ s ∷ []) }
-{
-    let mut ss = Items::new(alloc);
-    ss.push(s)?;
-    Ok(ss)
-}
-
 /// Arguments with the locals that hold them, from `first` on.
+#[inline(never)]
 pub fn numbered(alloc: Global, first: u32, args: Vec<Expr>) -> Result<Items<(u32, Expr)>, Memory>
     requires { first + length args.items ≤ most }
     ensures { IfOk result (λ given. given ≡ enumerate_from first args.items) }
@@ -129,6 +121,7 @@ pub fn send(
 }
 
 /// A group whose first `n` arguments, and delay behind them, are held by new locals.
+#[inline(never)]
 pub fn group(
     alloc: Global,
     locals: &mut Items<Width>,

@@ -5,8 +5,10 @@
 #![tactic(auto)]
 
 mod bodies;
+mod depth;
 mod group;
 mod program;
+mod single;
 mod site;
 
 pub use program::flatten;

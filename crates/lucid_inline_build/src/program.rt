@@ -5,6 +5,7 @@ ghost use Rattle.lucid_inline_form.specs.Flat.{flat_body, flat_handler, flat_of}
 ghost use Rattle.lucid_inline_build.specs.Numbers.{FewStmts, most_size};
 
 use crate::bodies::block;
+use crate::depth::MOST;
 use crate::site::Site;
 use lucid_base::{ArrayDef, Id, Items, Memory};
 use lucid_core::{Core, EventDef, Flat, FunDef, HandlerDef, MemopDef};
@@ -95,7 +96,7 @@ fn put_in_calls(alloc: Global, funs: &[FunDef], handler: &HandlerDef) -> Result<
         first: 0,
         funs,
     };
-    let body = block(site, &mut locals, handler.body.as_slice())?;
+    let body = block(site, MOST, &mut locals, handler.body.as_slice())?;
     Ok(HandlerDef {
         event: handler.event,
         locals,

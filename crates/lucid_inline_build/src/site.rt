@@ -26,6 +26,7 @@ pub fn number(n: usize) -> u32
 }
 
 /// Function `k` with the functions before it, where it is there.
+#[inline(never)]
 pub fn earlier(funs: &[FunDef], k: u32) -> Option<(&[FunDef], &FunDef)>
     ensures fun { option_map (λ x. x.1.now) result ≡ slice_get funs.now k }
     ensures before { IfSome result (λ x. x.0.now ≡ take k funs.now) }
@@ -38,6 +39,7 @@ pub fn earlier(funs: &[FunDef], k: u32) -> Option<(&[FunDef], &FunDef)>
 }
 
 /// What names of arrays stand for, where array parameters stand for these.
+#[inline(never)]
 pub fn arrays_at(alloc: Global, arrays: &[u32], names: &[ArrayName]) -> Result<Items<u32>, Memory>
     ensures { IfOk result (λ found. found ≡ map (array_of arrays.now) names.now) }
 {

@@ -72,19 +72,19 @@ expr-returns-in_ok-arrays-in-Fun-clause-locals t c =
 pub stmt-returns-in_ok-args-in-Say-clause-value : goal.stmt-returns-in_ok-args-in-Say-clause-value
 stmt-returns-in_ok-args-in-Say-clause-value t c =
     let a = rw c.as_slice-in-Say.ensures at c.in_ok-args-in-Say.ensures.value in
-    rw c.in-Say.is (say_value c.in-Say.form c.in-Say.args (place c.args.site) c.args.locals.now c.from_vec-in-Say.result c.alone-in-Say.result (c.from_vec-in-Say.ensures ∙ a) c.alone-in-Say.ensures)
+    rw c.in-Say.is (say_value c.in-Say.form c.in-Say.args (place c.args.site) c.args.locals.now c.from_vec.result c.saying.result (c.from_vec.ensures ∙ a) c.saying.ensures)
 
 pub stmt-returns-in_ok-given-in-Gen-clause-value : goal.stmt-returns-in_ok-given-in-Gen-clause-value
 stmt-returns-in_ok-given-in-Gen-clause-value t c =
     let a = rw c.as_slice-in-Gen.ensures at c.in_ok-args-in-Gen.ensures.value in
     let l = rw c.as_slice-in-Gen.ensures at c.in_ok-args-in-Gen.ensures.locals in
-    rw c.in-Gen.is (gen_value c.in-Gen.event c.in-Gen.args c.in-Gen.delay c.in-Gen.to c.in-Gen.delay_first (place c.args.site) c.args.locals.now c.from_vec.result c.exprs.new.locals c.in_ok-given-in-Gen.given c.alone-in-Gen.result
-    (c.from_vec.ensures ∙ a) l c.in_ok-given-in-Gen.ensures.value c.alone-in-Gen.ensures)
+    rw c.in-Gen.is (gen_value c.in-Gen.event c.in-Gen.args c.in-Gen.delay c.in-Gen.to c.in-Gen.delay_first (place c.args.site) c.args.locals.now c.from_vec-args.result c.exprs.new.locals c.in_ok-given-in-Gen.given c.sending.result
+    (c.from_vec-args.ensures ∙ a) l c.in_ok-given-in-Gen.ensures.value c.sending.ensures)
 
 pub stmt-returns-in_ok-given-in-Gen-clause-locals : goal.stmt-returns-in_ok-given-in-Gen-clause-locals
 stmt-returns-in_ok-given-in-Gen-clause-locals t c =
     let l = rw c.as_slice-in-Gen.ensures at c.in_ok-args-in-Gen.ensures.locals in
-    rw c.in-Gen.is (on_any c.alone-in-Gen.result (gen_locals c.in-Gen.event c.in-Gen.args c.in-Gen.delay c.in-Gen.to c.in-Gen.delay_first (place c.args.site) c.args.locals.now c.exprs.new.locals c.delay_and_target.new.locals l c.in_ok-given-in-Gen.ensures.locals))
+    rw c.in-Gen.is (on_any c.sending.result (gen_locals c.in-Gen.event c.in-Gen.args c.in-Gen.delay c.in-Gen.to c.in-Gen.delay_first (place c.args.site) c.args.locals.now c.exprs.new.locals c.delay_and_target.new.locals l c.in_ok-given-in-Gen.ensures.locals))
 
 pub stmt-returns-in_ok-held-in-None-clause-value : goal.stmt-returns-in_ok-held-in-None-clause-value
 stmt-returns-in_ok-held-in-None-clause-value t c =
@@ -142,14 +142,14 @@ delay_and_target-optional-requires-else-delay_first t c =
     let few = rw c.if-delay_first.false at c.requires in
     (omega arith, fewer.turned_first c.args.site c.args.delay.now c.args.to.now c.args.locals.now few)
 
-pub expr-expr-requires-in-Bin : goal.expr-expr-requires-in-Bin
-expr-expr-requires-in-Bin t c =
+pub expr-boxed-requires-in-Bin : goal.expr-boxed-requires-in-Bin
+expr-boxed-requires-in-Bin t c =
     let few = rw c.in-Bin.is at c.requires in
     let below = rw (← c.get-in-Bin.ensures) at (sizes.below_bin c.args.e.now c.in-Bin.op c.in-Bin.a c.in-Bin.b c.in-Bin.is) in
     (omega arith, rw c.get-in-Bin.ensures (fewer.bin_first c.args.site c.in-Bin.op c.in-Bin.a c.in-Bin.b c.args.locals.now few))
 
-pub expr-expr-requires-in-Cmp : goal.expr-expr-requires-in-Cmp
-expr-expr-requires-in-Cmp t c =
+pub expr-boxed-requires-in-Cmp : goal.expr-boxed-requires-in-Cmp
+expr-boxed-requires-in-Cmp t c =
     let few = rw c.in-Cmp.is at c.requires in
     let below = rw (← c.get-in-Cmp.ensures) at (sizes.below_cmp c.args.e.now c.in-Cmp.op c.in-Cmp.a c.in-Cmp.b c.in-Cmp.is) in
     (omega arith, rw c.get-in-Cmp.ensures (fewer.cmp_first c.args.site c.in-Cmp.op c.in-Cmp.a c.in-Cmp.b c.args.locals.now few))
@@ -193,7 +193,7 @@ pub stmt-returns-in_ok-no-in-If-clause-locals : goal.stmt-returns-in_ok-no-in-If
 stmt-returns-in_ok-no-in-If-clause-locals t c =
     let left = rw c.as_slice.ensures at c.in_ok-yes-in-If.ensures.locals in
     let right = rw c.as_slice-in-If.ensures at c.in_ok-no-in-If.ensures.locals in
-    rw c.in-If.is (on_any c.alone-in-If.result (if_locals c.in-If.e c.in-If.yes c.in-If.no (place c.args.site) c.args.locals.now c.expr-in-If.new.locals c.block.new.locals c.block-in-If.new.locals c.in_ok-e-in-If.ensures.locals left right))
+    rw c.in-If.is (on_any c.branching.result (if_locals c.in-If.e c.in-If.yes c.in-If.no (place c.args.site) c.args.locals.now c.expr-in-If.new.locals c.block.new.locals c.block-in-If.new.locals c.in_ok-e-in-If.ensures.locals left right))
 
 pub stmt-exprs-requires : goal.stmt-exprs-requires
 stmt-exprs-requires t c =

@@ -39,4 +39,7 @@ abbrev pub decreases-optional : goal.decreases-optional
 decreases-optional l = 5 * (weight l.site.funs.now + goal.size-optional l) + 1
 
 abbrev pub decreases-delay_and_target : goal.decreases-delay_and_target
-decreases-delay_and_target l = 5 * (weight l.site.funs.now + max (goal.size-delay_and_target l) (goal.size-delay_and_target (record { the-lifetimes = l.the-lifetimes; site = l.site; locals = l.locals; delay = l.to; to = l.delay; delay_first = l.delay_first }))) + 2
+decreases-delay_and_target l = 5 * (weight l.site.funs.now + max (goal.size-delay_and_target l) (goal.size-delay_and_target (record { the-lifetimes = l.the-lifetimes; site = l.site; left = l.left; locals = l.locals; delay = l.to; to = l.delay; delay_first = l.delay_first }))) + 2
+
+abbrev pub decreases-boxed : goal.decreases-boxed
+decreases-boxed l = 5 * (weight l.site.funs.now + goal.size-boxed l) + 1
