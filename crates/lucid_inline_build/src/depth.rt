@@ -4,7 +4,7 @@ use lucid_base::Memory;
 
 /// How deep a flat form may be: an expression and a statement count as one, an `if` as two. So deep, all walks of it take less than 8 MiB of
 /// stack (docs/PROVING.md).
-pub const MOST: u32 = 4_000;
+pub const MOST: u32 = 3_500;
 
 /// How many may stand within one where so many might stand in its place: Memory where none may.
 pub fn deeper(left: u32) -> Result<u32, Memory> {

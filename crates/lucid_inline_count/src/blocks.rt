@@ -5,6 +5,7 @@ ghost use Rattle.lucid_inline_count.specs.Rounds.{round};
 
 use crate::body::{Body, Part};
 use crate::counts::{Counts, count};
+use crate::depth::deeper;
 use crate::exprs::{condition, expr, group, optional, total};
 use crate::held::{joined, put_back, set};
 use lucid_base::Memory;
@@ -42,10 +43,11 @@ fn joins(
     }
 }
 
-/// Statements, each behind those before it.
+/// Statements, each behind those before it. Memory where ifs stand deeper than `left` in one another.
 #[cycle(blocks)]
 pub fn block(
     alloc: Global,
+    left: u32,
     funs: &[Counts],
     body: &mut Body,
     stmts: &[Stmt],
@@ -54,12 +56,13 @@ pub fn block(
     ensures held { OnOk result (body.new.held.items ≡ body.old.held.items) }
     ensures assigned { OnOk result (body.new.assigned.items ≡ body.old.assigned.items ++ names_of (map stmt_tally stmts.now)) }
 {
+    let left = deeper(left)?;
     let mut notes = Vec::new(alloc);
     let mut counts = count(0, 0);
     let mut returns = false;
     let mut value = false;
     for s in stmts {
-        let part = stmt(alloc, funs, body, s)?;
+        let part = stmt(alloc, left, funs, body, s)?;
         counts = counts.and(part.counts);
         returns = returns || part.returns;
         value = value || part.value;
@@ -77,7 +80,13 @@ pub fn block(
 }
 
 #[cycle(blocks)]
-fn stmt(alloc: Global, funs: &[Counts], body: &mut Body, s: &Stmt) -> Result<Part, Memory>
+fn stmt(
+    alloc: Global,
+    left: u32,
+    funs: &[Counts],
+    body: &mut Body,
+    s: &Stmt,
+) -> Result<Part, Memory>
     ensures part { IfOk result (λ p. p ≡ part_of (stmt_tally s.now) (round funs.now body.old)) }
     ensures held { OnOk result (body.new.held.items ≡ body.old.held.items) }
     ensures assigned { OnOk result (body.new.assigned.items ≡ body.old.assigned.items ++ (stmt_tally s.now).names) }
@@ -95,8 +104,8 @@ fn stmt(alloc: Global, funs: &[Counts], body: &mut Body, s: &Stmt) -> Result<Par
         Stmt::Drop(e) => Ok(plainly(expr(funs, e).and(count(0, 1)))),
         Stmt::If(e, yes, no) => {
             let from = body.assigned.len();
-            let yes = block(alloc, funs, body, yes.as_slice())?;
-            let no = block(alloc, funs, body, no.as_slice())?;
+            let yes = block(alloc, left, funs, body, yes.as_slice())?;
+            let no = block(alloc, left, funs, body, no.as_slice())?;
             let returns = yes.returns || no.returns;
             let value = yes.value && no.value;
             let joins = joins(

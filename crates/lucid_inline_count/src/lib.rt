@@ -7,6 +7,7 @@
 mod blocks;
 mod body;
 mod counts;
+mod depth;
 mod exprs;
 mod held;
 mod program;
