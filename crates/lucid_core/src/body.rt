@@ -35,6 +35,31 @@ pub enum Stmt {
     Return(Option<Expr>),
 }
 
+/// Gives a block back on a small stack, in a loop where it is deep: what stands behind a return, and behind a case of a `match`, is the second
+/// branch of an `If` that ends it, so a block is as deep as it has returns and cases, and all else is no deeper than the text may be.
+#[cycle(give_back)]
+pub(crate) fn give_back(stmts: Items<Stmt>) {
+    let mut left = stmts;
+    for _ in 0..left.len() {
+        if let Some(stmt) = left.pop() {
+            give_stmt_back(stmt);
+        }
+    }
+}
+
+#[cycle(give_back)]
+fn give_stmt_back(stmt: Stmt) {
+    let mut left = stmt;
+    while let Stmt::If(_, yes, mut no) = left {
+        give_back(yes);
+        let Some(last) = no.pop() else {
+            return;
+        };
+        give_back(no);
+        left = last;
+    }
+}
+
 /// An expression. Locals and functions go by their numbers.
 #[cycle(body)]
 #[derive(Drop)]

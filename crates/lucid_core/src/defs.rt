@@ -1,5 +1,6 @@
 // What a program declares besides its arrays.
 use crate::Stmt;
+use crate::body::give_back;
 use lucid_base::{Id, Items, MemAlu, Width};
 
 /// A memop of the source.
@@ -19,7 +20,6 @@ pub struct EventDef {
 
 /// A function: the cell widths of its array parameters, the widths of its locals, of which the first `params` are its value parameters,
 /// and the width of its value, if it gives one. It is declaration `decl` of the program, from 1, and begins on line `line`, from 1.
-#[derive(Drop)]
 pub struct FunDef {
     pub name: Id,
     pub arrays: Items<Width>,
@@ -31,13 +31,41 @@ pub struct FunDef {
     pub line: u32,
 }
 
+impl Drop for FunDef {
+    fn drop(self) {
+        let FunDef {
+            name: _,
+            arrays: _,
+            params: _,
+            locals: _,
+            answer: _,
+            body,
+            decl: _,
+            line: _,
+        } = self;
+        give_back(body);
+    }
+}
+
 /// A handler of an event: the widths of its locals, of which the first are the event's parameters.
 /// It is declaration `decl` of the program, from 1, and begins on line `line`, from 1.
-#[derive(Drop)]
 pub struct HandlerDef {
     pub event: u32,
     pub locals: Items<Width>,
     pub body: Items<Stmt>,
     pub decl: u32,
     pub line: u32,
+}
+
+impl Drop for HandlerDef {
+    fn drop(self) {
+        let HandlerDef {
+            event: _,
+            locals: _,
+            body,
+            decl: _,
+            line: _,
+        } = self;
+        give_back(body);
+    }
 }

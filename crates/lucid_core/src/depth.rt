@@ -20,7 +20,7 @@ pub const BLOCK: u32 = 112;
 
 pub const SENDS: u32 = 672;
 
-/// What is left of the stack below a function that takes so much.
+/// What is left of a budget of stack below what takes so much of it. Memory where too little is left.
 #[inline(always)]
 pub fn below(left: u32, takes: u32) -> Result<u32, Memory> {
     if left < takes {

@@ -23,6 +23,7 @@ mod widths;
 
 pub use body::{Expr, Stmt, Touch};
 pub use defs::{EventDef, FunDef, HandlerDef, MemopDef};
+pub use depth::below;
 pub use ending::Ending;
 pub use laws::{
     cells_stay_fit, flat_cells_stay_fit, flat_one_handler, flat_outs_fit, flat_widths_are_static,

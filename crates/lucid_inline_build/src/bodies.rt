@@ -6,12 +6,11 @@ ghost use Rattle.lucid_inline_form.specs.Flat.{put_in, puts_of};
 ghost use Rattle.lucid_inline_build.specs.Numbers.{FewBoth, FewExpr, FewExprs, FewOptional, FewStmts, FewTouch};
 ghost use Rattle.lucid_inline_build.specs.Sites.{called, place};
 
-use crate::depth::deeper;
 use crate::group::{group, numbered};
 use crate::single::{assigning, branching, dropping, returning, saying, sending};
 use crate::site::{Site, array_at, arrays_at, earlier, number};
 use lucid_base::{ArrayName, Boxed, Items, Memory, Width};
-use lucid_core::{Expr, Stmt, Touch};
+use lucid_core::{Expr, Stmt, Touch, below};
 
 /// An expression of the body, behind these locals of the handler.
 #[cycle(flatten)]
@@ -20,7 +19,7 @@ fn expr(site: Site, left: u32, locals: &mut Items<Width>, e: &Expr) -> Result<Ex
     ensures value { IfOk result (λ x. x ≡ (flat_expr e.now (place site.entry) locals.old).value) }
     ensures locals { OnOk result (locals.new ≡ (flat_expr e.now (place site.entry) locals.old).locals) }
 {
-    let left = deeper(left)?;
+    let left = below(left, 1)?;
     match e {
         Expr::Fixed(n) => Ok(Expr::Fixed(*n)),
         Expr::Local(i) => Ok(Expr::Local(site.first + *i)),
@@ -190,7 +189,7 @@ fn stmt(site: Site, left: u32, locals: &mut Items<Width>, s: &Stmt) -> Result<It
     ensures value { IfOk result (λ ss. ss ≡ (flat_stmt s.now (place site.entry) locals.old).value) }
     ensures locals { OnOk result (locals.new ≡ (flat_stmt s.now (place site.entry) locals.old).locals) }
 {
-    let left = deeper(left)?;
+    let left = below(left, 1)?;
     match s {
         Stmt::Assign(i, e) => {
             let e = expr(site, left, locals, e)?;
@@ -201,7 +200,7 @@ fn stmt(site: Site, left: u32, locals: &mut Items<Width>, s: &Stmt) -> Result<It
             dropping(site.alloc, e)
         }
         Stmt::If(e, yes, no) => {
-            let left = deeper(left)?;
+            let left = below(left, 1)?;
             let e = expr(site, left, locals, e)?;
             let yes = block(site, left, locals, yes.as_slice())?;
             let no = block(site, left, locals, no.as_slice())?;

@@ -5,11 +5,10 @@ ghost use Rattle.lucid_inline_count.specs.Rounds.{round};
 
 use crate::body::{Body, Part};
 use crate::counts::{Counts, count};
-use crate::depth::deeper;
 use crate::exprs::{condition, expr, group, optional, total};
 use crate::held::{joined, put_back, set};
 use lucid_base::Memory;
-use lucid_core::Stmt;
+use lucid_core::{Stmt, below};
 use std::alloc::Global;
 
 /// What neither assigns nor returns.
@@ -56,7 +55,7 @@ pub fn block(
     ensures held { OnOk result (body.new.held.items ≡ body.old.held.items) }
     ensures assigned { OnOk result (body.new.assigned.items ≡ body.old.assigned.items ++ names_of (map stmt_tally stmts.now)) }
 {
-    let left = deeper(left)?;
+    let left = below(left, 1)?;
     let mut notes = Vec::new(alloc);
     let mut counts = count(0, 0);
     let mut returns = false;
