@@ -5,7 +5,7 @@ use Rattle.std.proofs.lemmas.Bool.{and_from, and_parts, eqb-true, eq-eqb, true�
 use Rattle.std.proofs.lemmas.List.{get_or-set_same, get_or-set_other, map-append}
 use Rattle.std.proofs.lemmas.List.Elements.{filter-append}
 use Rattle.lucid_code.specs.declared.op.Op.{Op}
-use Rattle.lucid_code.specs.Parts.{Parts}
+use Rattle.lucid_code.specs.Parts.{CodeParts}
 use Rattle.lucid_tables.specs.declared.table.Row.{Row}
 use Rattle.lucid_tables.specs.declared.table.Table.{Table}
 use Rattle.lucid_tables.specs.Rows.{table}
@@ -212,7 +212,7 @@ fit_kept ops limits ps f = all_kept ops limits [] (works ops) ps f (record {
   crowd = λ k. omega arith;
 })
 
-pub first_fits_keep_rules : (code : Parts) (limits : Limits) (ps : List Pair) → IsFirstFit code.ops limits [] (works code.ops) ps → KeepsRules code.ops limits (seats (works code.ops) ps)
+pub first_fits_keep_rules : (code : CodeParts) (limits : Limits) (ps : List Pair) → IsFirstFit code.ops limits [] (works code.ops) ps → KeepsRules code.ops limits (seats (works code.ops) ps)
 first_fits_keep_rules code limits ps f =
     let ss : List Seat = seats (works code.ops) ps in
     let kept : Kept code.ops limits ss = fit_kept code.ops limits ps f in

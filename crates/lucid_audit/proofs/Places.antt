@@ -5,7 +5,7 @@ use Rattle.std.proofs.lemmas.Bool.{cases_lt}
 use Rattle.std.proofs.lemmas.List.{get_or_past}
 use Rattle.std.proofs.lemmas.List.FromFn.{length-map-range_with_len, get_or-map-range_with_len}
 use Rattle.lucid_code.specs.declared.op.Op.{Op}
-use Rattle.lucid_code.specs.Parts.{Parts}
+use Rattle.lucid_code.specs.Parts.{CodeParts}
 use Rattle.lucid_code.specs.Valid.{IsValid}
 use Rattle.lucid_tables.specs.declared.table.Row.{Row}
 use Rattle.lucid_tables.specs.declared.table.Table.{Table}
@@ -80,7 +80,7 @@ seats_all [] (p ∷ ps) e = absurd (omega (arith, e))
 seats_all (n ∷ ns) [] e = absurd (omega (arith, e))
 seats_all (n ∷ ns) (p ∷ ps) e = ap (λ l. n.ops ++ l) (seats_all ns ps (omega (arith, e)))
 
-pub rules_place : (acting : ProductsAct) (naming : ProductsName) (contradicting : GuardsContradict) (code : Parts) (limits : Limits) (ps : List Pair) → IsValid code → AreLimits limits → length ps ≡ length (works code.ops) →
+pub rules_place : (acting : ProductsAct) (naming : ProductsName) (contradicting : GuardsContradict) (code : CodeParts) (limits : Limits) (ps : List Pair) → IsValid code → AreLimits limits → length ps ≡ length (works code.ops) →
     KeepsRules code.ops limits (seats (works code.ops) ps) → IsPlaced code (map (stage_code code.ops) (stages code.ops limits (seats (works code.ops) ps)))
 rules_place acting naming contradicting code limits ps valid ranges long rules =
     let ss : List Seat = seats (works code.ops) ps in

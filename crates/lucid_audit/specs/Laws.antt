@@ -1,6 +1,6 @@
 -- What holds of all placements.
 use Rattle.std.specs.Prelude.{◌≡◌, ◌≢◌, List, []}
-use Rattle.lucid_code.specs.Parts.{Parts}
+use Rattle.lucid_code.specs.Parts.{CodeParts}
 use Rattle.lucid_tables.specs.Placed.{PlacedParts}
 use Rattle.lucid_conf.specs.declared.limits.Limits.{Limits}
 use Rattle.lucid_layout.specs.declared.stage.Pair.{Pair}
@@ -14,11 +14,11 @@ use Rattle.lucid_audit.specs.Refused.{IsRefused}
 
 -- The places of every first fit keep the rules, and where code has a layout, it is what its places give.
 pub record FirstFitsAreAccepted : Type 0 where
-  pub rules : (code : Parts) (limits : Limits) (pairs : List Pair) → IsFirstFit code.ops limits [] (works code.ops) pairs → KeepsRules code.ops limits (seats (works code.ops) pairs)
-  pub placed : (code : Parts) (limits : Limits) (placed : PlacedParts) → IsLayout code limits placed → (pairs : List Pair) × IsFirstFit code.ops limits [] (works code.ops) pairs × IsAudited code limits pairs placed
+  pub rules : (code : CodeParts) (limits : Limits) (pairs : List Pair) → IsFirstFit code.ops limits [] (works code.ops) pairs → KeepsRules code.ops limits (seats (works code.ops) pairs)
+  pub placed : (code : CodeParts) (limits : Limits) (placed : PlacedParts) → IsLayout code limits placed → (pairs : List Pair) × IsFirstFit code.ops limits [] (works code.ops) pairs × IsAudited code limits pairs placed
 
 -- Places give one placed code, or one cause why they are refused.
 pub record AuditsAreOne : Type 0 where
-  pub one : (code : Parts) (limits : Limits) (pairs : List Pair) (p q : PlacedParts) → IsAudited code limits pairs p → IsAudited code limits pairs q → p ≡ q
-  pub never_both : (code : Parts) (limits : Limits) (pairs : List Pair) (p : PlacedParts) (e : AuditError) → IsAudited code limits pairs p → IsRefused code limits pairs e → e ≡ Memory
-  pub one_cause : (code : Parts) (limits : Limits) (pairs : List Pair) (e f : AuditError) → IsRefused code limits pairs e → IsRefused code limits pairs f → e ≢ Memory → f ≢ Memory → e ≡ f
+  pub one : (code : CodeParts) (limits : Limits) (pairs : List Pair) (p q : PlacedParts) → IsAudited code limits pairs p → IsAudited code limits pairs q → p ≡ q
+  pub never_both : (code : CodeParts) (limits : Limits) (pairs : List Pair) (p : PlacedParts) (e : AuditError) → IsAudited code limits pairs p → IsRefused code limits pairs e → e ≡ Memory
+  pub one_cause : (code : CodeParts) (limits : Limits) (pairs : List Pair) (e f : AuditError) → IsRefused code limits pairs e → IsRefused code limits pairs f → e ≢ Memory → f ≢ Memory → e ≡ f

@@ -6,7 +6,7 @@ use Rattle.std.proofs.lemmas.List.{get_or_past}
 use Rattle.lucid_base.specs.Ops.{low_of}
 use Rattle.lucid_base.specs.declared.event.Event.{Event}
 use Rattle.lucid_code.specs.Inputs.{IsInput}
-use Rattle.lucid_code.specs.Parts.{Parts}
+use Rattle.lucid_code.specs.Parts.{CodeParts}
 use Rattle.lucid_code.specs.Run.{FieldsFit, begun}
 use Rattle.lucid_code.specs.Valid.{IsValid}
 
@@ -23,7 +23,7 @@ words_first (a ∷ b ∷ c ∷ rest) h =
     (sym (eqb-true 32 a first.0), sym (eqb-true 32 b second.0), sym (eqb-true 32 c (and_parts (nat_eq 32 c) true second.1).0))
 
 -- The fields of an input are within their widths as it comes.
-pub begun_fits : (code : Parts) (cells : List (List ℕ)) (now me : ℕ) (event : Event) → IsValid code → IsInput code me event → FieldsFit code.fields (begun cells now me event).fields
+pub begun_fits : (code : CodeParts) (cells : List (List ℕ)) (now me : ℕ) (event : Event) → IsValid code → IsInput code me event → FieldsFit code.fields (begun cells now me event).fields
 begun_fits code cells now me event valid input = by
   where
     words : (slice_index code.fields 0 ≡ 32) × (slice_index code.fields 1 ≡ 32) × (slice_index code.fields 2 ≡ 32)

@@ -12,7 +12,7 @@ use Rattle.lucid_code.specs.declared.op.Act.{Act}
 use Rattle.lucid_code.specs.declared.op.Act.TheVariants as act
 use Rattle.lucid_code.specs.declared.op.Op.{Op}
 use Rattle.lucid_code.specs.Guards.{all_hold}
-use Rattle.lucid_code.specs.Parts.{Parts}
+use Rattle.lucid_code.specs.Parts.{CodeParts}
 use Rattle.lucid_code.specs.Run.{Machine, value, stored, run_op, run}
 use Rattle.lucid_code.specs.Valid.{IsValid, is_wide, widths_agree}
 use Rattle.lucid_code.proofs.Acting.{acts, rests}
@@ -56,5 +56,5 @@ module _ (fields : List ℕ) (arrays : List ArrayDef) where
   run_cells widths [] each m fit = fit
   run_cells widths (o ∷ ops) each m fit = run_cells widths ops (λ q i. each q (inr i)) (run_op widths m o) (op_cells widths m o (each o (inl refl)) fit)
 
-pub code_cells_fit : (code : Parts) → IsValid code → (m : Machine) → rows_fit code.arrays m.cells ≡ true → rows_fit code.arrays (run code.fields code.ops m).cells ≡ true
+pub code_cells_fit : (code : CodeParts) → IsValid code → (m : Machine) → rows_fit code.arrays m.cells ≡ true → rows_fit code.arrays (run code.fields code.ops m).cells ≡ true
 code_cells_fit code valid m fit = run_cells code.fields code.arrays code.fields code.ops (λ o i. (and_parts _ _ (and_parts _ _ (and_parts _ _ (sound_each code valid o i)).0).0).1) m fit

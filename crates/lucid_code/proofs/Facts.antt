@@ -7,7 +7,7 @@ use Rattle.lucid_code.specs.declared.op.Op.{Op}
 use Rattle.lucid_code.specs.Guards.{contradict}
 use Rattle.lucid_code.specs.Nodes.{is_one_node, nodes_follow_writes, reads_from, stands_before}
 use Rattle.lucid_code.specs.Uses.{called_by, is_same, key_of, read_by, slot_of, writes, written_by}
-use Rattle.lucid_code.specs.Parts.{Parts}
+use Rattle.lucid_code.specs.Parts.{CodeParts}
 use Rattle.lucid_code.specs.Valid.{IsValid, all_apart, goes_before, may_share, op_is_sound, reads_follow_writes, writers_go_before}
 use Rattle.lucid_code.proofs.Members.{In, Pairwise, all_in, all_from, any_from, any_gives, numbered, place_from, element_of}
 
@@ -108,10 +108,10 @@ facts_of ops f c s r = record {
       zip ops f.1 c.1 s.1 b.1,
     )
 
-pub code_facts : (code : Parts) → IsValid code → Facts false code.ops
+pub code_facts : (code : CodeParts) → IsValid code → Facts false code.ops
 code_facts code v = facts_of code.ops v.fields v.calls v.slots v.reads
 
-pub sound_each : (code : Parts) → IsValid code → (q : Op) → In q code.ops → op_is_sound code.fields code.inputs code.arrays q ≡ true
+pub sound_each : (code : CodeParts) → IsValid code → (q : Op) → In q code.ops → op_is_sound code.fields code.inputs code.arrays q ≡ true
 sound_each code v = all_in (op_is_sound code.fields code.inputs code.arrays) code.ops v.ops
 
 -- ---- to the tests

@@ -11,7 +11,7 @@ use Rattle.lucid_code.specs.declared.op.Act.TheVariants as act
 use Rattle.lucid_code.specs.declared.op.Op.{Op}
 use Rattle.lucid_code.specs.Guards.{Fields, all_hold}
 use Rattle.lucid_code.specs.Laws.{numbers_of}
-use Rattle.lucid_code.specs.Parts.{Parts}
+use Rattle.lucid_code.specs.Parts.{CodeParts}
 use Rattle.lucid_code.specs.Run.{Machine, begun, value, values, put_out, sent, run_op, run}
 use Rattle.lucid_code.specs.Uses.{slot_of}
 use Rattle.lucid_code.specs.Valid.{IsValid, act_keeps_limits}
@@ -163,7 +163,7 @@ module _ (widths : List ℕ) (ops : List Op) (facts : Facts false ops) (limits :
       (few_rising 0 (run widths ops m).outs s.rising (λ q i. omega arith) s.small (omega arith), s.few)
 
 -- For all cells, moments, switches and events.
-pub code_outs_fit : (code : Parts) → IsValid code → (cells : List (List ℕ)) (now me : ℕ) (event : Event) →
+pub code_outs_fit : (code : CodeParts) → IsValid code → (cells : List (List ℕ)) (now me : ℕ) (event : Event) →
     let m = run code.fields code.ops (begun cells now me event) in (length m.outs ≤ 8) × ((p : ℕ × Out) → In p m.outs → length (numbers_of p.1) ≤ 8)
 code_outs_fit code valid cells now me event =
     outs_fit code.fields code.ops (code_facts code valid) (λ o i. (and_parts _ _ (and_parts _ _ (sound_each code valid o i)).0).1) (begun cells now me event) refl

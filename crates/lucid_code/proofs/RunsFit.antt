@@ -4,7 +4,7 @@ use Rattle.std.proofs.lemmas.List.{length-map}
 use Rattle.std.proofs.lemmas.List.Elements.{All-map}
 use Rattle.lucid_base.specs.declared.event.Out.{Out}
 use Rattle.lucid_code.specs.Laws.{RunsFit, numbers_of}
-use Rattle.lucid_code.specs.Parts.{Parts}
+use Rattle.lucid_code.specs.Parts.{CodeParts}
 use Rattle.lucid_code.specs.Run.{begun, run}
 use Rattle.lucid_code.specs.Valid.{IsValid}
 use Rattle.lucid_code.proofs.Acting.{run_fits}
@@ -13,7 +13,7 @@ use Rattle.lucid_code.proofs.CellsStay.{code_cells_fit}
 use Rattle.lucid_code.proofs.Members.{at_place}
 use Rattle.lucid_code.proofs.Outs.{code_outs_fit}
 
-pub runs_fit : (code : Parts) → IsValid code → RunsFit code
+pub runs_fit : (code : CodeParts) → IsValid code → RunsFit code
 runs_fit code valid = record {
   few = λ cells now me event.
       let m = run code.fields code.ops (begun cells now me event) in

@@ -7,7 +7,7 @@ use Rattle.std.specs.Str.{bytes_eq}
 use Rattle.std.proofs.lemmas.Map.Text.{is_eq-slice_cmp}
 use Rattle.serde_json.specs.Data.{Data, null, boolean, number, string, array, object, Members, no_members, member}
 use Rattle.serde_json.specs.Find.{get, get_member}
-use Rattle.lucid_core.specs.Parts.{Parts}
+use Rattle.lucid_core.specs.Parts.{CoreParts}
 use Rattle.lucid_conf.specs.declared.key.Key.{Key}
 use Rattle.lucid_conf.specs.declared.key.Key.TheVariants as key
 use Rattle.lucid_conf.specs.declared.key.Key.TheVariants.{Version, Switches, Stop, Links, Events, Steps}
@@ -56,7 +56,7 @@ file_plain (array ds) no_version no_down = refl
 file_plain (object ms) no_version no_down = ap (check key.Other) (all_known_plain ms no_version no_down)
 
 -- The table, given what stands under the two keys and whether the file has no others.
-abbrev read_with : Parts → Data → Option Data → Option Data → Reading (Unit {0}) → Reading Scene
+abbrev read_with : CoreParts → Data → Option Data → Option Data → Reading (Unit {0}) → Reading Scene
 read_with parts d version down keys = do
   _ ← keys
   version ← number_or Version 1 2 1 version

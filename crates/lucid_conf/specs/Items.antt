@@ -5,7 +5,7 @@ use Rattle.std.specs.List.{list_any}
 use Rattle.serde_json.specs.Data.{Data, Members, no_members, member}
 use Rattle.serde_json.specs.Find.{get, as_object}
 use Rattle.lucid_core.specs.Fits.{event_fits}
-use Rattle.lucid_core.specs.Parts.{Parts}
+use Rattle.lucid_core.specs.Parts.{CoreParts}
 use Rattle.lucid_conf.specs.declared.scene.Down.{Down}
 use Rattle.lucid_conf.specs.declared.scene.FileEvent.{FileEvent}
 use Rattle.lucid_conf.specs.declared.scene.Link.{Link}
@@ -61,7 +61,7 @@ abbrev pub are_event_keys : Members → Bool
 are_event_keys no_members = true
 are_event_keys (member k d ms) = is_event_key k && are_event_keys ms
 
-abbrev pub event : Parts → ℕ → List FileEvent → Data → Option FileEvent
+abbrev pub event : CoreParts → ℕ → List FileEvent → Data → Option FileEvent
 event parts switches before d = do
   members ← as_object d
   _ ← must (are_event_keys members)
@@ -90,7 +90,7 @@ go d = do
   _ ← must (nat_le k last_stage)
   Some (Go k)
 
-abbrev pub look : Parts → Data → Option Step
+abbrev pub look : CoreParts → Data → Option Step
 look parts d = do
   name ← text_at 1 d
   cell ← number_at 2 d
@@ -98,11 +98,11 @@ look parts d = do
   array ← last_named name (array_names parts.arrays)
   Some (Look array cell)
 
-abbrev pub step_of : Parts → List ℕ → Data → Option Step
+abbrev pub step_of : CoreParts → List ℕ → Data → Option Step
 step_of parts word d =
     if bytes_eq word (codes "enter") then enter d else (if bytes_eq word (codes "go") then go d else (if bytes_eq word (codes "look") then look parts d else None))
 
-abbrev pub step : Parts → List Step → Data → Option Step
+abbrev pub step : CoreParts → List Step → Data → Option Step
 step parts before d = do
   word ← text_at 0 d
   step_of parts word d

@@ -2,7 +2,7 @@
 use Rattle.std.specs.Prelude.{◌≡◌, ◌≢◌, ℕ, ◌*◌, ◌<◌, ◌≤◌, List, length, false, IsTrue}
 use Rattle.std.specs.List.{All, AllPairs}
 use Rattle.lucid_core.specs.Fits.{event_fits}
-use Rattle.lucid_core.specs.Parts.{Parts}
+use Rattle.lucid_core.specs.Parts.{CoreParts}
 use Rattle.lucid_conf.specs.declared.limits.Limits.{Limits}
 use Rattle.lucid_conf.specs.declared.scene.Down.{Down}
 use Rattle.lucid_conf.specs.declared.scene.FileEvent.{FileEvent}
@@ -41,18 +41,18 @@ pub record IsWindow (links : List Link) (w : Down) : Type 0 where
   pub order : w.from < w.until
 
 -- An event comes at a switch that there is, and fits the program.
-pub record IsFileEvent (parts : Parts) (switches : ℕ) (e : FileEvent) : Type 0 where
+pub record IsFileEvent (parts : CoreParts) (switches : ℕ) (e : FileEvent) : Type 0 where
   pub switch : e.switch < switches
   pub fits : IsTrue (event_fits parts e.event)
 
 -- A step names a slot that some pipeline has, and an array of the program.
-abbrev pub IsStep : Parts → Step → Type 0
+abbrev pub IsStep : CoreParts → Step → Type 0
 IsStep parts Enter = Unit {0}
 IsStep parts (Go k) = k ≤ last_stage
 IsStep parts (Look array cell) = array < length parts.arrays
 
 -- The scenario keeps the ranges and the sums of its table, for a program of these parts.
-pub record IsScene (parts : Parts) (s : Scene) : Type 0 where
+pub record IsScene (parts : CoreParts) (s : Scene) : Type 0 where
   pub switches : IsBetween 1 64 s.switches
   pub cells : cells parts.arrays * s.switches ≤ most_cells
   pub stop : s.stop * s.switches ≤ most_ticks

@@ -2,7 +2,7 @@
 use Rattle.std.specs.Prelude.{◌≡◌, List, [], ◌∷◌, None, Ok}
 use Rattle.serde_json.specs.Data.{Data}
 use Rattle.serde_json.specs.Find.{get}
-use Rattle.lucid_core.specs.Parts.{Parts}
+use Rattle.lucid_core.specs.Parts.{CoreParts}
 use Rattle.lucid_conf.specs.declared.key.Key.{Key}
 use Rattle.lucid_conf.specs.declared.key.Key.TheVariants as key
 use Rattle.lucid_conf.specs.declared.key.Key.TheVariants.{Version, Switches, Stop, Links, Events, Steps}
@@ -16,7 +16,7 @@ use Rattle.lucid_conf.specs.Tables.{scene_read, switches_read, stop_read}
 abbrev pub plain_keys : List Key
 plain_keys = Switches ∷ Stop ∷ Links ∷ Events ∷ Steps ∷ []
 
-abbrev pub plain_scene_read : Parts → Data → Reading Scene
+abbrev pub plain_scene_read : CoreParts → Data → Reading Scene
 plain_scene_read parts d = do
   _ ← file d plain_keys
   switches ← switches_read parts d
@@ -29,4 +29,4 @@ plain_scene_read parts d = do
 -- A value that has neither key is read as by that table, its faults too.
 abbrev pub PlainScenariosStay : Type 0
 PlainScenariosStay =
-    (parts : Parts) (d : Data) → get (name_of Version) d ≡ None → get (name_of key.Down) d ≡ None → scene_read parts d ≡ plain_scene_read parts d
+    (parts : CoreParts) (d : Data) → get (name_of Version) d ≡ None → get (name_of key.Down) d ≡ None → scene_read parts d ≡ plain_scene_read parts d

@@ -4,7 +4,7 @@ use Rattle.std.specs.Prelude.{ℕ, ◌+◌, ◌*◌, List, [], ◌∷◌, nat_le
 use Rattle.serde_json.specs.Data.{Data}
 use Rattle.serde_json.specs.Find.{get}
 use Rattle.lucid_base.specs.declared.array.ArrayDef.{ArrayDef}
-use Rattle.lucid_core.specs.Parts.{Parts}
+use Rattle.lucid_core.specs.Parts.{CoreParts}
 use Rattle.lucid_conf.specs.declared.key.Key.TheVariants as key
 use Rattle.lucid_conf.specs.declared.key.Key.TheVariants.{Stages, Tables, Rows, Arrays, Arms, Bits, Recirc, Version, Switches, Stop, Links, Events, Steps}
 use Rattle.lucid_conf.specs.declared.limits.Limits.{Limits}
@@ -36,7 +36,7 @@ abbrev pub cells : List ArrayDef → ℕ
 cells [] = 0
 cells (a ∷ arrays) = a.size + cells arrays
 
-abbrev pub switches_read : Parts → Data → Reading ℕ
+abbrev pub switches_read : CoreParts → Data → Reading ℕ
 switches_read parts d = do
   switches ← number d Switches 1 64 1
   _ ← check Switches (nat_le (cells parts.arrays * switches) most_cells)
@@ -59,7 +59,7 @@ down_read version links d = do
   list d key.Down (window links)
 
 -- The scenario of a network whose switches run the program of these parts.
-abbrev pub scene_read : Parts → Data → Reading Scene
+abbrev pub scene_read : CoreParts → Data → Reading Scene
 scene_read parts d = do
   _ ← file d scene_keys
   version ← number d Version 1 2 1

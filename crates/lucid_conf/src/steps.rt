@@ -2,7 +2,7 @@
 ghost use Rattle.std.specs.Prelude.{◌≡◌, [], IfOk, IfSome};
 ghost use Rattle.std.specs.List.{All};
 ghost use Rattle.serde_json.specs.View.{view, items_view};
-ghost use Rattle.lucid_core.specs.Parts.{Parts};
+ghost use Rattle.lucid_core.specs.Parts.{CoreParts};
 ghost use Rattle.lucid_conf.specs.declared.key.Key.TheVariants as key;
 ghost use Rattle.lucid_conf.specs.Answers.{Gives};
 ghost use Rattle.lucid_conf.specs.Items.{step as step_read, go as go_read, look as look_read};
@@ -24,7 +24,7 @@ const LAST_STAGE: u64 = 31;
 
 fn go(item: &Value) -> Option<Step>
     ensures value { result ≡ go_read (view item.now) }
-    ensures is { (parts : Parts) → IfSome result (IsStep parts) }
+    ensures is { (parts : CoreParts) → IfSome result (IsStep parts) }
 {
     let k = number_at(item, 1)?;
     if item.get(2usize).is_some() || k > LAST_STAGE {

@@ -7,24 +7,24 @@ use Rattle.lucid_base.specs.declared.array.ArrayName.TheVariants.{Global, Param}
 use Rattle.lucid_base.proofs.CellsFit.{rows-set, zero_rows_fit}
 use Rattle.lucid_core.specs.Acts.{Frame, array_of}
 use Rattle.lucid_core.specs.Fits.{cells_fit}
-use Rattle.lucid_core.specs.Parts.{Parts}
+use Rattle.lucid_core.specs.Parts.{CoreParts}
 use Rattle.lucid_core.specs.Scope.{Scope}
 use Rattle.lucid_core.specs.Typing.{all_typed, cell_width}
 use Rattle.lucid_core.proofs.Fine.{Asked, AreWide, IsWide, Stands}
 use Rattle.lucid_core.proofs.TypingRules.{all_rule}
 
 -- A write of a number within the width keeps the cells fit.
-pub with_cell-fits : (core : Parts) (cells : List (List ℕ)) (a i w v : ℕ) → IsWide core a w → v < 2 ^ w → cells_fit core cells ≡ true → cells_fit core (with_cell cells a i v) ≡ true
+pub with_cell-fits : (core : CoreParts) (cells : List (List ℕ)) (a i w v : ℕ) → IsWide core a w → v < 2 ^ w → cells_fit core cells ≡ true → cells_fit core (with_cell cells a i v) ≡ true
 with_cell-fits core cells a i w v there small fit = rows-set core.arrays cells a i w v there (lt-ltb v (2 ^ w) small) fit
 
 -- Cells that are all 0 fit.
-pub zero_cells-fit : (core : Parts) → cells_fit core (zero_cells core.arrays) ≡ true
+pub zero_cells-fit : (core : CoreParts) → cells_fit core (zero_cells core.arrays) ≡ true
 zero_cells-fit core = zero_rows_fit core.arrays
 
 pub nothing_there : (i w : ℕ) → slice_get [] i ≡ Some w → ⊥
 nothing_there i w h = cc
 
-module _ (asked : Asked) (core : Parts) (s : Scope) (p : Frame) (stands : Stands asked core s p) (is : asked.cells ≡ true) where
+module _ (asked : Asked) (core : CoreParts) (s : Scope) (p : Frame) (stands : Stands asked core s p) (is : asked.cells ≡ true) where
   -- A name stands for an array of its width.
   pub is_wide : (name : ArrayName) (w : ℕ) → cell_width name s ≡ Some w → IsWide core (array_of p.arrays name) w
   is_wide (Global a) w h = ap (λ (ws : List ℕ). slice_get ws a) (sym stands.arrays) ∙ h

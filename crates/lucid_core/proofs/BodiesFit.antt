@@ -22,7 +22,7 @@ use Rattle.lucid_core.specs.Limits.{body_keeps_limits}
 use Rattle.lucid_core.specs.Meaning as m
 use Rattle.lucid_core.specs.Meaning.{value_of, effect_of, touch_of, fun_of}
 use Rattle.lucid_core.specs.OutCount.{body_outs, funs_outs}
-use Rattle.lucid_core.specs.Parts.{Parts}
+use Rattle.lucid_core.specs.Parts.{CoreParts}
 use Rattle.lucid_core.specs.Returns as r
 use Rattle.lucid_core.specs.Returns.{Returns, expr_returns, stmt_returns, touch_returns, body_returns}
 use Rattle.lucid_core.specs.Scope.{Scope, fun_scope, handler_scope, funs_pass}
@@ -49,7 +49,7 @@ opened : {A B C D : Type 0} (P : A → B → C → D → Type 0) {a x : A} {b y 
 opened P {a} {x} {b} {y} {c} {z} {d} {w} e f g h is =
     subst (λ v. P v b c d) (sym e) (subst (λ v. P x v c d) (sym f) (subst (λ v. P x y v d) (sym g) (subst (λ v. P x y z v) (sym h) is)))
 
-module _ (asked : Asked) (core : Parts) (s : Scope) (p : Frame) (stands : Stands asked core s p) where
+module _ (asked : Asked) (core : CoreParts) (s : Scope) (p : Frame) (stands : Stands asked core s p) where
   abbrev ExprHolds : Expr → Type 0
   ExprHolds e = ExprFits asked core s p stands (value_of e) (answer_of e) (expr_prints e) (expr_returns e)
 
@@ -109,18 +109,18 @@ module _ (asked : Asked) (core : Parts) (s : Scope) (p : Frame) (stands : Stands
   body_fits ss = subst (BodyFits asked core s p stands) (stmts-proved ss) (block_fits asked core s p stands (proved ss))
 
 -- No event has more than 8 parameters.
-abbrev pub EventsAreSmall : Parts → Type 0
+abbrev pub EventsAreSmall : CoreParts → Type 0
 EventsAreSmall parts = list_all (λ e. nat_le (length e.params) 8) parts.events ≡ true
 
 -- The rules for a function, behind those before it.
-pub record IsSoundFun (parts : Parts) (before : List FunDef) (f : FunDef) : Type 0 where
+pub record IsSoundFun (parts : CoreParts) (before : List FunDef) (f : FunDef) : Type 0 where
   pub widths : body_gives_only f.answer f.body (fun_scope parts before f) ≡ true
   pub texts : body_fills_texts f.body parts.forms ≡ true
   pub limits : body_keeps_limits f.body ≡ true
   pub returns : ((body_returns f.body).last && (not (is_some f.answer) || (body_returns f.body).always)) ≡ true
 
 -- A sound function gives a value of its answer's width.
-pub fun_fits : (asked : Asked) (parts : Parts) → EventsAreSmall parts → (now me : ℕ) (before : List FunDef) (known : List Fun) (f : FunDef) → Pairwise (FunFits asked parts) before known → IsSoundFun parts before f →
+pub fun_fits : (asked : Asked) (parts : CoreParts) → EventsAreSmall parts → (now me : ℕ) (before : List FunDef) (known : List Fun) (f : FunDef) → Pairwise (FunFits asked parts) before known → IsSoundFun parts before f →
     FunFits asked parts f (fun_of now me known f)
 fun_fits asked parts few now me before known f pairs sound arrays vs width wide ws a s fine =
     let place : Frame = record { now = now; me = me; arrays = arrays; funs = known } in
@@ -135,7 +135,7 @@ fun_fits asked parts few now me before known f pairs sound arrays vs width wide 
     }
 
 -- Behind sound functions, each function is sound.
-pub funs_fit : (asked : Asked) (parts : Parts) → EventsAreSmall parts → (now me : ℕ) (before : List FunDef) (known : List Fun) (fs : List FunDef) → Pairwise (FunFits asked parts) before known →
+pub funs_fit : (asked : Asked) (parts : CoreParts) → EventsAreSmall parts → (now me : ℕ) (before : List FunDef) (known : List Fun) (fs : List FunDef) → Pairwise (FunFits asked parts) before known →
     funs_pass (λ earlier f. body_gives_only f.answer f.body (fun_scope parts earlier f)) before fs ≡ true →
     list_all (λ f. body_fills_texts f.body parts.forms) fs ≡ true →
     list_all (λ f. body_keeps_limits f.body) fs ≡ true →
@@ -153,12 +153,12 @@ funs_fit asked parts few now me before known (f ∷ fs) pairs widths texts limit
     subst (λ (q : List FunDef). Pairwise (FunFits asked parts) q (funs_from now me (known ++ fun_of now me known f ∷ []) fs)) (append_assoc before (f ∷ []) fs) all
 
 -- After an event's handler, what is sent out fits and carries few numbers, and is at most 8 outs; and the cells fit, where they did before.
-record Ends (parts : Parts) (cells : List (List ℕ)) (after : State) : Type 0 where
+record Ends (parts : CoreParts) (cells : List (List ℕ)) (after : State) : Type 0 where
   outs : list_all (goes_out parts) after.outs ≡ true
   few : length after.outs ≤ 8
   cells_fit : cells_fit parts cells ≡ true → cells_fit parts after.cells ≡ true
 
-module _ (parts : Parts) (sound : IsSound parts) (cells : List (List ℕ)) (now me : ℕ) (args : List ℕ) where
+module _ (parts : CoreParts) (sound : IsSound parts) (cells : List (List ℕ)) (now me : ℕ) (args : List ℕ) where
   -- All is asked, of the cells where they fit at the start.
   abbrev asked : Asked
   asked = record { outs = true; cells = cells_fit parts cells }
@@ -201,11 +201,11 @@ module _ (parts : Parts) (sound : IsSound parts) (cells : List (List ℕ)) (now 
   handled_fits None = record { outs = refl; few = omega arith; cells_fit = λ fit. fit }
   handled_fits (Some k) = at_handler k (slice_get parts.handlers k) refl
 
-ends : (parts : Parts) → IsSound parts → (cells : List (List ℕ)) (now me : ℕ) (event : Event) → Ends parts cells (ran parts cells now me event).after
+ends : (parts : CoreParts) → IsSound parts → (cells : List (List ℕ)) (now me : ℕ) (event : Event) → Ends parts cells (ran parts cells now me event).after
 ends parts sound cells now me event = handled_fits parts sound cells now me event.args (option_and_then (λ e. e.handler) (slice_get parts.events event.id))
 
 -- In a sound program, what an event's handler sends out fits and carries few numbers, and is at most 8 outs.
-pub outs_fit : (parts : Parts) → IsSound parts → OutsFit parts
+pub outs_fit : (parts : CoreParts) → IsSound parts → OutsFit parts
 outs_fit parts sound = record {
   each = λ cells now me event. All-weaker (λ out. goes_out parts out ≡ true) (λ out. IsTrue (out_fits parts out)) (λ out fits. (and_parts _ _ fits).0) _ (all_go_out cells now me event);
   small = λ cells now me event. All-weaker (λ out. goes_out parts out ≡ true) (λ out. length (carried out) ≤ 8) (λ out fits. leb-true _ _ (and_parts _ _ fits).1) _ (all_go_out cells now me event);
@@ -215,15 +215,15 @@ outs_fit parts sound = record {
     all_go_out : (cells : List (List ℕ)) (now me : ℕ) (event : Event) → All (λ out. goes_out parts out ≡ true) (step parts cells now me event).outs
     all_go_out cells now me event = AllPass-from_list_all (goes_out parts) _ (ends parts sound cells now me event).outs
 
-step_fits : (parts : Parts) → IsSound parts → (cells : List (List ℕ)) (now me : ℕ) (event : Event) → cells_fit parts cells ≡ true → cells_fit parts (step parts cells now me event).cells ≡ true
+step_fits : (parts : CoreParts) → IsSound parts → (cells : List (List ℕ)) (now me : ℕ) (event : Event) → cells_fit parts cells ≡ true → cells_fit parts (step parts cells now me event).cells ≡ true
 step_fits parts sound cells now me event fit = (ends parts sound cells now me event).cells_fit fit
 
-steps_fit : (parts : Parts) → IsSound parts → (entries : List Entry) (so_far : Steps) → cells_fit parts so_far.cells ≡ true → cells_fit parts (steps_from parts so_far entries).cells ≡ true
+steps_fit : (parts : CoreParts) → IsSound parts → (entries : List Entry) (so_far : Steps) → cells_fit parts so_far.cells ≡ true → cells_fit parts (steps_from parts so_far entries).cells ≡ true
 steps_fit parts sound [] so_far fit = fit
 steps_fit parts sound (e ∷ es) so_far fit = steps_fit parts sound es (one_more parts so_far e) (step_fits parts sound so_far.cells e.now e.me e.event fit)
 
 -- Cells that fit stay so at each step, and so after any list of events from cells that are all 0.
-pub cells_stay_fit : (parts : Parts) → IsSound parts → CellsStayFit parts
+pub cells_stay_fit : (parts : CoreParts) → IsSound parts → CellsStayFit parts
 cells_stay_fit parts sound = record {
   zero = zero_cells-fit parts;
   step = step_fits parts sound;

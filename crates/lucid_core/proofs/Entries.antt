@@ -3,17 +3,17 @@ use Rattle.std.proofs.Common.{◌≡◌, ℕ, zero, suc, ◌+◌, List, [], ◌�
 use Rattle.std.specs.Prelude.{fold, slice_get, slice_index_or}
 use Rattle.std.specs.Option.{option_map_or}
 use Rattle.lucid_base.specs.declared.event.Out.{Out}
-use Rattle.lucid_core.specs.Parts.{Parts}
+use Rattle.lucid_core.specs.Parts.{CoreParts}
 use Rattle.lucid_base.specs.Cells.{zero_cells}
 use Rattle.lucid_core.proofs.Grown.{get_before, get_last}
 use Rattle.std.proofs.lemmas.List.{get_or_past}
 use Rattle.std.proofs.lemmas.Option.{get_or_from_slice_get}
 use Rattle.lucid_core.specs.Step.{Entry, one_more, Steps, outs, step, steps}
 
-abbrev pub steps_from : Parts → Steps → List Entry → Steps
+abbrev pub steps_from : CoreParts → Steps → List Entry → Steps
 steps_from parts so_far entries = fold (one_more parts) so_far entries
 
-module _ (parts : Parts) where
+module _ (parts : CoreParts) where
   -- What was sent out before stays where it is.
   outs_stay : (so_far : Steps) (entries : List Entry) (j : ℕ) (sent : List Out) → slice_get so_far.outs j ≡ Some sent → slice_get (steps_from parts so_far entries).outs j ≡ Some sent
   outs_stay so_far [] j sent is = is

@@ -12,7 +12,7 @@ use Rattle.lucid_core.specs.declared.defs.FunDef.{FunDef}
 use Rattle.lucid_core.specs.Acts.{Act, Frame, Fun, State, Ran, both}
 use Rattle.lucid_core.specs.Fits.{carried, cells_fit, out_fits}
 use Rattle.lucid_core.specs.Meaning.{call, generated}
-use Rattle.lucid_core.specs.Parts.{Parts}
+use Rattle.lucid_core.specs.Parts.{CoreParts}
 use Rattle.lucid_core.specs.Scope.{Scope}
 use Rattle.lucid_core.specs.Texts.{holes_of}
 use Rattle.lucid_core.specs.Typing.{Answer}
@@ -30,7 +30,7 @@ once true a = a
 once false a = None
 
 -- The out fits, and carries at most 8 numbers.
-abbrev pub goes_out : Parts → Out → Bool
+abbrev pub goes_out : CoreParts → Out → Bool
 goes_out core out = out_fits core out && nat_le (length (carried out)) 8
 
 -- What is asked of a state beyond widths: whether its outs fit, and whether its cells do.
@@ -39,32 +39,32 @@ pub record Asked : Type 0 where
   pub cells : Bool
 
 -- Each local has its width, and so has the answer; where it is asked, all that was sent out fits and carries few numbers, and the cells fit.
-pub record IsFine (k : Asked) (core : Parts) (ws : List ℕ) (a : Answer) (s : State) : Type 0 where
+pub record IsFine (k : Asked) (core : CoreParts) (ws : List ℕ) (a : Answer) (s : State) : Type 0 where
   pub locals : widths s.locals ≡ ws
   pub answer : Has a s.answer
   pub outs : k.outs ≡ true → list_all (goes_out core) s.outs ≡ true
   pub cells : k.cells ≡ true → cells_fit core s.cells ≡ true
 
 -- A run gives what P holds of, and leaves a state that is fine.
-pub record Goes {A : Type 0} (k : Asked) (core : Parts) (ws : List ℕ) (a : Answer) (P : A → Type 0) (ran : Ran A) : Type 0 where
+pub record Goes {A : Type 0} (k : Asked) (core : CoreParts) (ws : List ℕ) (a : Answer) (P : A → Type 0) (ran : Ran A) : Type 0 where
   pub gives : P ran.gives
   pub fine : IsFine k core ws a ran.after
 
 -- Array `a` has cells of this width.
-abbrev pub IsWide : Parts → ℕ → ℕ → Type 0
+abbrev pub IsWide : CoreParts → ℕ → ℕ → Type 0
 IsWide core a w = slice_get (map (λ d. d.width) core.arrays) a ≡ Some w
 
 -- Each array parameter of these widths stands for an array of its width.
-abbrev pub AreWide : Parts → List ℕ → List ℕ → Type 0
+abbrev pub AreWide : CoreParts → List ℕ → List ℕ → Type 0
 AreWide core params arrays = (i w : ℕ) → slice_get params i ≡ Some w → IsWide core (slice_index arrays i) w
 
 -- A function that is given values of its parameters' widths gives a value of its answer's width, and its caller's state stays fine.
-abbrev pub FunFits : Asked → Parts → FunDef → Fun → Type 0
+abbrev pub FunFits : Asked → CoreParts → FunDef → Fun → Type 0
 FunFits k core f g = (arrays : List ℕ) (vs : List Bits) → widths vs ≡ take f.params f.locals → (k.cells ≡ true → AreWide core f.arrays arrays) →
     (ws : List ℕ) (a : Answer) (s : State) → IsFine k core ws a s → Goes k core ws a (Has f.answer) (g arrays vs s)
 
 -- A body runs where its scope says.
-pub record Stands (k : Asked) (core : Parts) (s : Scope) (p : Frame) : Type 0 where
+pub record Stands (k : Asked) (core : CoreParts) (s : Scope) (p : Frame) : Type 0 where
   pub events : s.events ≡ map (λ e. e.params) core.events
   pub few : list_all (λ e. nat_le (length e.params) 8) core.events ≡ true
   pub funs : Pairwise (FunFits k core) s.funs p.funs
@@ -83,7 +83,7 @@ pub has_none : (a : Answer) (v : Bits) → a ≡ None → Has a v
 has_none a v e = subst (λ (b : Answer). Has b v) (sym e) tt
 
 -- A call of a declared function.
-pub call_fits : (k : Asked) (core : Parts) (p : Frame) (fs : List FunDef) (gs : List Fun) → Pairwise (FunFits k core) fs gs → (i : ℕ) (f : FunDef) → slice_get fs i ≡ Some f →
+pub call_fits : (k : Asked) (core : CoreParts) (p : Frame) (fs : List FunDef) (gs : List Fun) → Pairwise (FunFits k core) fs gs → (i : ℕ) (f : FunDef) → slice_get fs i ≡ Some f →
     FunFits k core f (λ arrays vs. call i arrays vs (record p { funs = gs }))
 call_fits k core p [] [] all i f h = absurd (cc)
 call_fits k core p (d ∷ fs) (g ∷ gs) all zero f h = let e : d ≡ f = cc in subst (λ (x : FunDef). FunFits k core x g) e all.0
@@ -91,7 +91,7 @@ call_fits k core p (d ∷ fs) (g ∷ gs) all (suc i) f h = call_fits k core p fs
 call_fits k core p [] (g ∷ gs) all i f h = absurd all
 call_fits k core p (d ∷ fs) [] all i f h = absurd all
 
-module _ (k : Asked) (core : Parts) (ws : List ℕ) where
+module _ (k : Asked) (core : CoreParts) (ws : List ℕ) where
   -- Of an answer that is not given, nothing is asked.
   pub forget : (a : Answer) (s : State) → IsFine k core ws a s → IsFine k core ws None s
   forget a s fine = record { locals = fine.locals; answer = tt; outs = fine.outs; cells = fine.cells }
@@ -137,7 +137,7 @@ module _ (k : Asked) (core : Parts) (ws : List ℕ) where
   }
 
 -- An event with values of the widths of its parameters fits, wherever it goes.
-pub generated_fits : (k : Asked) (core : Parts) (s : Scope) (p : Frame) → Stands k core s p → (event : ℕ) (params : List ℕ) (vs : List Bits) (delay : ℕ) (to : Target) →
+pub generated_fits : (k : Asked) (core : CoreParts) (s : Scope) (p : Frame) → Stands k core s p → (event : ℕ) (params : List ℕ) (vs : List Bits) (delay : ℕ) (to : Target) →
     slice_get s.events event ≡ Some params → widths vs ≡ params → goes_out core (generated event vs delay to) ≡ true
 generated_fits k core s p stands event params vs delay to declared e =
     let is : slice_get (map (λ d. d.params) core.events) event ≡ Some params = ap (λ (es : List (List ℕ)). slice_get es event) (sym stands.events) ∙ declared in
@@ -145,7 +145,7 @@ generated_fits k core s p stands event params vs delay to declared e =
     and_from _ _ (event_is_fit core.events event params vs is e) (ap (λ n. nat_le n 8) (numbers-as_many vs params e) ∙ few)
 
 -- So do those to all members of a group.
-pub group_fits : (core : Parts) (event : ℕ) (vs : List Bits) (delay : ℕ) (members : List ℕ) → ((m : ℕ) → goes_out core (generated event vs delay (At m)) ≡ true) →
+pub group_fits : (core : CoreParts) (event : ℕ) (vs : List Bits) (delay : ℕ) (members : List ℕ) → ((m : ℕ) → goes_out core (generated event vs delay (At m)) ≡ true) →
     list_all (goes_out core) (map (generated event vs delay) (map At members)) ≡ true
 group_fits core event vs delay [] fit = refl
 group_fits core event vs delay (m ∷ ms) fit = and_from _ _ (fit m) (group_fits core event vs delay ms fit)
@@ -178,7 +178,7 @@ pub both_asked : {A : Type 0} {asked : Bool} (test : A → Bool) (xs ys : List A
 both_asked test xs ys h = (λ is. (both_pass test xs ys (h is)).0, λ is. (both_pass test xs ys (h is)).1)
 
 -- A body that returns a value always returns.
-pub answer_given : (k : Asked) (core : Parts) (ws : List ℕ) (a : Answer) (value always : Bool) (s : State) → ((w : ℕ) → a ≡ Some w → value ≡ true) → (not value || always) ≡ true →
+pub answer_given : (k : Asked) (core : CoreParts) (ws : List ℕ) (a : Answer) (value always : Bool) (s : State) → ((w : ℕ) → a ≡ Some w → value ≡ true) → (not value || always) ≡ true →
     IsFine k core ws (once (false || always) a) s → Has a s.answer
 answer_given k core ws None value always s seen rule fine = tt
 answer_given k core ws (Some w) true true s seen rule fine = fine.answer

@@ -7,7 +7,7 @@ use Rattle.lucid_core.specs.declared.defs.EventDef.{EventDef}
 use Rattle.lucid_core.specs.declared.defs.HandlerDef.{HandlerDef}
 use Rattle.lucid_core.specs.Events.{event_params, events_and_handlers_agree, handles, is_handled_by}
 use Rattle.lucid_core.specs.Laws.{OneHandler}
-use Rattle.lucid_core.specs.Parts.{Parts}
+use Rattle.lucid_core.specs.Parts.{CoreParts}
 use Rattle.lucid_core.specs.Step.{handler_of}
 use Rattle.lucid_core.specs.Valid.{IsSound}
 use Rattle.lucid_core.proofs.Fine.{is_this}
@@ -19,7 +19,7 @@ numbered_at {A = A} test (y ∷ ys) b zero x all h = let e : y ≡ x = cc in let
 numbered_at {A = A} test (y ∷ ys) b (suc k) x all h =
     let z : b + suc k ≡ b + 1 + k = omega arith in ap (λ (i : ℕ). test (i, x)) z ∙ numbered_at test ys (b + 1) k x (and_parts _ _ all).1 h
 
-module _ (parts : Parts) (agree : events_and_handlers_agree parts ≡ true) where
+module _ (parts : CoreParts) (agree : events_and_handlers_agree parts ≡ true) where
   -- What a handler's event says of it.
   pub record Declared (k : ℕ) (h : HandlerDef) : Type 0 where
     pub event : EventDef
@@ -61,7 +61,7 @@ module _ (parts : Parts) (agree : events_and_handlers_agree parts ≡ true) wher
       let e : h.event ≡ 0 + id = eqb-true h.event (0 + id) same in
       omega arith
 
-pub one_handler : (parts : Parts) → IsSound parts → OneHandler parts
+pub one_handler : (parts : CoreParts) → IsSound parts → OneHandler parts
 one_handler parts sound = record {
   own = own parts sound.events;
   one = one parts sound.events;

@@ -18,7 +18,7 @@ use Rattle.lucid_core.specs.Meaning as m
 use Rattle.lucid_core.specs.Meaning.{all_given, call, delay_of, effect_of, fun_of, generated, holding, target_of, touch_of, value_of}
 use Rattle.lucid_core.specs.OutCount as n
 use Rattle.lucid_core.specs.OutCount.{Count, total, expr_outs, stmt_outs, touch_outs, body_outs, funs_outs}
-use Rattle.lucid_core.specs.Parts.{Parts}
+use Rattle.lucid_core.specs.Parts.{CoreParts}
 use Rattle.lucid_core.specs.Step.{handled, started, taken_at}
 use Rattle.lucid_core.specs.Values.{nothing, numbers}
 use Rattle.lucid_core.proofs.Funs.{funs_from}
@@ -282,7 +282,7 @@ funs_keep now me (f ∷ fs) known counted keep =
     (λ arrays vs s. body_keeps f.body (record { now = now; me = me; arrays = arrays; funs = known }) counted keep (record s { locals = begun_with vs f.locals; answer = nothing })))
 
 -- What a handler sends out is at most what is counted of its body, behind all functions.
-pub handler_keeps : (h : HandlerDef) (parts : Parts) (cells : List (List ℕ)) (now me : ℕ) (args : List ℕ) →
+pub handler_keeps : (h : HandlerDef) (parts : CoreParts) (cells : List (List ℕ)) (now me : ℕ) (args : List ℕ) →
     length (handled (Some h) parts cells now me args).after.outs ≤ body_outs h.body (funs_outs [] parts.funs)
 handler_keeps h parts cells now me args =
     let known = funs_keep now me parts.funs [] [] tt in

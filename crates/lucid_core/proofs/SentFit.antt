@@ -16,7 +16,7 @@ use Rattle.lucid_core.specs.Acts.{Act, Effect, Frame, State, all, array_of, bloc
 use Rattle.lucid_base.specs.Cells.{cell_at}
 use Rattle.lucid_core.specs.Meaning as m
 use Rattle.lucid_core.specs.Meaning.{all_given, call, delay_of, effect_of, generated, holding, target_of, touch_of, value_of}
-use Rattle.lucid_core.specs.Parts.{Parts}
+use Rattle.lucid_core.specs.Parts.{CoreParts}
 use Rattle.lucid_core.specs.Returns as r
 use Rattle.lucid_core.specs.Returns.{Returns, expr_returns, stmt_returns, touch_returns}
 use Rattle.lucid_core.specs.Scope.{Scope}
@@ -32,7 +32,7 @@ use Rattle.lucid_core.proofs.Seen.{block_sees}
 use Rattle.lucid_core.proofs.TypingRules.{AllGive, Matched, give_parts, local_rule, un_rule, bin_rule, cmp_rule, cast_rule, hash_rule, all_rule, values_rule, call_rule, inlined_rule, touch_rule, assign_rule, drop_rule, if_rule, gen_rule, multi_rule, say_rule, return_rule}
 use Rattle.lucid_core.proofs.WidthLists.{widths, HeldFit, local_width_is, widths-set, widths-holding}
 
-module _ (asked : Asked) (core : Parts) (s : Scope) (p : Frame) (stands : Stands asked core s p) where
+module _ (asked : Asked) (core : CoreParts) (s : Scope) (p : Frame) (stands : Stands asked core s p) where
   abbrev pub Fine : Answer → State → Type 0
   Fine k old = IsFine asked core s.locals k old
 

@@ -7,7 +7,7 @@ use Rattle.lucid_core.specs.declared.defs.HandlerDef.{HandlerDef}
 use Rattle.lucid_core.specs.Acts.{Frame, State}
 use Rattle.lucid_core.specs.Laws.{AnswersItsWidth, GivesItsWidth, WidthsAreStatic}
 use Rattle.lucid_core.specs.Meaning.{fun_of, funs_of}
-use Rattle.lucid_core.specs.Parts.{Parts}
+use Rattle.lucid_core.specs.Parts.{CoreParts}
 use Rattle.lucid_core.specs.Scope.{Scope, fun_scope, funs_pass, handler_scope}
 use Rattle.lucid_core.specs.Typing.{Answer}
 use Rattle.lucid_core.specs.Valid.{IsSound}
@@ -44,7 +44,7 @@ passes-take test [] (suc k) all = refl
 passes-take test (x ∷ xs) zero all = refl
 passes-take test (x ∷ xs) (suc k) all = let each = and_parts _ _ all in and_from _ _ each.0 (passes-take test xs k each.1)
 
-module _ (parts : Parts) (sound : IsSound parts) (now me : ℕ) where
+module _ (parts : CoreParts) (sound : IsSound parts) (now me : ℕ) where
   few : EventsAreSmall parts
   few = (and_parts _ _ (and_parts _ _ sound.declarations).0).1
 
@@ -85,7 +85,7 @@ module _ (parts : Parts) (sound : IsSound parts) (now me : ℕ) where
       let ran = fun_fits nothing_asked parts few now me (take k parts.funs) (funs_of now me (take k parts.funs)) f (pairs k) own arrays vs width (λ is. not_asked is) (widths s.locals) None s (fine (widths s.locals) s refl) in
       subst (λ (a : Answer). Has a (fun_of now me (funs_of now me (take k parts.funs)) f arrays vs s).gives) answer ran.gives
 
-pub widths_are_static : (parts : Parts) → IsSound parts → WidthsAreStatic parts
+pub widths_are_static : (parts : CoreParts) → IsSound parts → WidthsAreStatic parts
 widths_are_static parts sound = record {
   handlers = λ h now me. in_handler parts sound now me h;
   funs = λ k f there now me arrays. in_fun parts sound now me k f arrays;

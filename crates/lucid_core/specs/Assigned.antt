@@ -7,7 +7,7 @@ use Rattle.lucid_core.specs.declared.body.Touch.{Touch}
 use Rattle.lucid_core.specs.declared.body.Expr.TheOpen.{Expr-F, Stmt-F, Touch-F}
 use Rattle.lucid_core.specs.declared.body.Expr.TheFolds.{fold-Expr, fold-Stmt, fold-Touch}
 use Rattle.lucid_core.specs.Children.{expr_children, stmt_children, touch_children}
-use Rattle.lucid_core.specs.Parts.{Parts}
+use Rattle.lucid_core.specs.Parts.{CoreParts}
 use Rattle.lucid_core.specs.Numbers.{is_in, places}
 use Rattle.lucid_core.specs.Events.{event_params}
 
@@ -54,7 +54,7 @@ touch_flow = fold-Touch Flow Flow Flow expr_step stmt_step touch_step
 abbrev pub body_reads_assigned : List ℕ → List Stmt → Bool
 body_reads_assigned params ss = block_reads_assigned (map stmt_flow ss) (places params)
 
-abbrev pub reads_follow_assignments : Parts → Bool
+abbrev pub reads_follow_assignments : CoreParts → Bool
 reads_follow_assignments parts =
     list_all (λ f. body_reads_assigned (take f.params f.locals) f.body) parts.funs
     && list_all (λ h. body_reads_assigned (event_params parts.events h.event) h.body) parts.handlers

@@ -16,7 +16,7 @@ use Rattle.lucid_core.specs.declared.body.Expr.TheViews.{roll-Expr, roll-Stmt, r
 use Rattle.lucid_core.specs.declared.defs.FunDef.{FunDef}
 use Rattle.lucid_core.specs.declared.defs.HandlerDef.{HandlerDef}
 use Rattle.lucid_core.specs.declared.defs.EventDef.{EventDef}
-use Rattle.lucid_core.specs.Parts.{Parts, made_of}
+use Rattle.lucid_core.specs.Parts.{CoreParts, made_of}
 
 abbrev pub local : ℕ → Expr
 local i = roll-Expr (Expr-F.Local i)
@@ -101,7 +101,7 @@ abbrev pub handler : List Stmt → HandlerDef
 handler body = record { event = 0; locals = 32 ∷ 32 ∷ 32 ∷ []; body = body; decl = 5; line = 5 }
 
 -- Two arrays, a memop, an event with a handler, a function with an array parameter, and the text "n %d".
-abbrev pub program : List Stmt → List Stmt → Parts
+abbrev pub program : List Stmt → List Stmt → CoreParts
 program bumps handles = made_of (array 4 ∷ array 8 ∷ []) (record { name = []; alu = plus } ∷ []) (note ∷ []) (bump bumps ∷ []) (handler handles ∷ []) ((110 ∷ 32 ∷ 37 ∷ 100 ∷ []) ∷ [])
 
 -- { int n = Array.update(a, i, plus, 1, plus, 1); return n; }
@@ -112,18 +112,18 @@ bumps = assign 1 (update (Param 0) (local 0) plus) ∷ return (Some (local 1)) �
 abbrev pub handles : List Stmt
 handles = assign 2 (call 0 (Global 0 ∷ []) (local 0 ∷ [])) ∷ choose (less (local 2) (local 1)) (generate 0 (local 0 ∷ local 2 ∷ []) ∷ []) (say 0 (local 2 ∷ []) ∷ []) ∷ []
 
-abbrev pub small : Parts
+abbrev pub small : CoreParts
 small = program bumps handles
 
 -- The same with another body of the function, or of the handler before these statements.
-abbrev pub with_bump : List Stmt → Parts
+abbrev pub with_bump : List Stmt → CoreParts
 with_bump ss = program ss handles
 
-abbrev pub with_handler : List Stmt → Parts
+abbrev pub with_handler : List Stmt → CoreParts
 with_handler ss = program bumps (ss ++ handles)
 
 -- A flat program of this handler.
-abbrev pub flat : List Stmt → Parts
+abbrev pub flat : List Stmt → CoreParts
 flat ss = record small { funs = []; handlers = handler ss ∷ [] }
 
 -- A call with its body put in: local 2 holds its parameter.

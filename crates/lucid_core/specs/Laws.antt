@@ -9,26 +9,26 @@ use Rattle.lucid_core.specs.declared.defs.HandlerDef.{HandlerDef}
 use Rattle.lucid_core.specs.Acts.{Frame, Fun, State}
 use Rattle.lucid_core.specs.Fits.{carried, cells_fit, out_fits}
 use Rattle.lucid_core.specs.Meaning.{fun_of, funs_of, value_of}
-use Rattle.lucid_core.specs.Parts.{Parts}
+use Rattle.lucid_core.specs.Parts.{CoreParts}
 use Rattle.lucid_core.specs.Returns.{expr_returns}
 use Rattle.lucid_core.specs.Scope.{Scope, fun_scope, handler_scope}
 use Rattle.lucid_core.specs.Step.{Entry, after, handler_of, outs, step, steps}
 use Rattle.lucid_core.specs.Typing.{answer_of}
 
 -- What an event's handler sends out fits the program, and is at most 8 outs, of at most 8 numbers each; also where the event doesn't fit.
-pub record OutsFit (parts : Parts) : Type 0 where
+pub record OutsFit (parts : CoreParts) : Type 0 where
   pub each : (cells : List (List ℕ)) (now me : ℕ) (event : Event) → All (λ out. IsTrue (out_fits parts out)) (step parts cells now me event).outs
   pub small : (cells : List (List ℕ)) (now me : ℕ) (event : Event) → All (λ out. length (carried out) ≤ 8) (step parts cells now me event).outs
   pub few : (cells : List (List ℕ)) (now me : ℕ) (event : Event) → length (step parts cells now me event).outs ≤ 8
 
 -- Cells that are all 0 fit the program; cells that fit stay so at every step; so they fit after any events.
-pub record CellsStayFit (parts : Parts) : Type 0 where
+pub record CellsStayFit (parts : CoreParts) : Type 0 where
   pub zero : IsTrue (cells_fit parts (zero_cells parts.arrays))
   pub step : (cells : List (List ℕ)) (now me : ℕ) (event : Event) → IsTrue (cells_fit parts cells) → IsTrue (cells_fit parts (step parts cells now me event).cells)
   pub after : (entries : List Entry) (n : ℕ) → IsTrue (cells_fit parts (after parts entries n))
 
 -- The outs of event j are those that `steps` has at place j, and none where it has no such place.
-abbrev pub OutsAreOfSteps : Parts → Type 0
+abbrev pub OutsAreOfSteps : CoreParts → Type 0
 OutsAreOfSteps parts = (entries : List Entry) (j : ℕ) → slice_index_or (steps parts entries).outs j [] ≡ outs parts entries j
 
 -- An expression that answers width w in this scope, and in which returns stand last, gives a value of width w in this frame, where the locals have their widths.
@@ -41,14 +41,14 @@ abbrev pub AnswersItsWidth : FunDef → Fun → Type 0
 AnswersItsWidth f g = (arrays : List ℕ) (vs : List Bits) (w : ℕ) (s : State) → map (λ v. v.width) vs ≡ take f.params f.locals → f.answer ≡ Some w → (g arrays vs s).gives.width ≡ w
 
 -- The width that the typing rules give is the width of the value, in the body of each handler and of each function, and of what each function answers.
-pub record WidthsAreStatic (parts : Parts) : Type 0 where
+pub record WidthsAreStatic (parts : CoreParts) : Type 0 where
   pub handlers : (h : HandlerDef) (now me : ℕ) → GivesItsWidth (handler_scope parts h) (record { now = now; me = me; arrays = []; funs = funs_of now me parts.funs })
   pub funs : (k : ℕ) (f : FunDef) → slice_get parts.funs k ≡ Some f → (now me : ℕ) (arrays : List ℕ) →
       GivesItsWidth (fun_scope parts (take k parts.funs) f) (record { now = now; me = me; arrays = arrays; funs = funs_of now me (take k parts.funs) })
   pub answers : (k : ℕ) (f : FunDef) → slice_get parts.funs k ≡ Some f → (now me : ℕ) → AnswersItsWidth f (fun_of now me (funs_of now me (take k parts.funs)) f)
 
 -- An event has one handler: each handler is that of its event, no two are of one event, and what is an event's handler is one of it.
-pub record OneHandler (parts : Parts) : Type 0 where
+pub record OneHandler (parts : CoreParts) : Type 0 where
   pub own : (k : ℕ) (h : HandlerDef) → slice_get parts.handlers k ≡ Some h → handler_of parts h.event ≡ Some h
   pub one : (j k : ℕ) (g h : HandlerDef) → slice_get parts.handlers j ≡ Some g → slice_get parts.handlers k ≡ Some h → g.event ≡ h.event → j ≡ k
   pub its_event : (id : ℕ) (h : HandlerDef) → handler_of parts id ≡ Some h → h.event ≡ id

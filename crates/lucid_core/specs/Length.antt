@@ -9,7 +9,7 @@ use Rattle.lucid_core.specs.declared.defs.FunDef.{FunDef}
 use Rattle.lucid_core.specs.declared.defs.HandlerDef.{HandlerDef}
 use Rattle.lucid_core.specs.Events.{event_params}
 use Rattle.lucid_core.specs.Numbers.{is_in}
-use Rattle.lucid_core.specs.Parts.{Parts}
+use Rattle.lucid_core.specs.Parts.{CoreParts}
 
 -- The lengths of the functions before, how many locals there are, and which of them are from outside: parameters, and those assigned earlier in a block round.
 pub record Around : Type 0 where
@@ -20,7 +20,7 @@ pub record Around : Type 0 where
 -- An expression: how many ops it becomes, and whether a condition that is this one needs a move.
 pub record Measure : Type 0 where
   pub ops : Around → ℕ
-  pub plain : Bool
+  pub needs_move : Bool
 
 -- A statement: how many ops it becomes, the locals that it assigns for what follows in its block, all those that it assigns, and whether it returns on some path, and with a value.
 pub record Piece : Type 0 where
@@ -63,7 +63,7 @@ count_below zero test = 0
 count_below (suc n) test = count_below n test + (if test n then 1 else 0)
 
 abbrev pub measured : Bool → (Around → ℕ) → Measure
-measured plain ops = record { ops = ops; plain = plain }
+measured needs_move ops = record { ops = ops; needs_move = needs_move }
 
 abbrev pub expr_step : Expr-F Measure Piece Measure → Measure
 expr_step (Expr-F.Fixed n) = measured true (λ a. 0)
@@ -96,7 +96,7 @@ abbrev pub stmt_step : Stmt-F Measure Piece Measure → Piece
 stmt_step (Stmt-F.Assign i x) = record { ops = λ a. x.ops a + 1; sets = λ k. nat_eq k i; changes = λ k. nat_eq k i; returns = false; value = false }
 stmt_step (Stmt-F.Drop x) = plainly x.ops
 stmt_step (Stmt-F.If x ss ts) = record {
-  ops = λ a. x.ops a + (if x.plain then 1 else 0) + block_ops ss a + block_ops ts a + joins ss ts a;
+  ops = λ a. x.ops a + (if x.needs_move then 1 else 0) + block_ops ss a + block_ops ts a + joins ss ts a;
   sets = λ i. false;
   changes = λ i. any_changes ss i || any_changes ts i;
   returns = any_returns ss || any_returns ts;
@@ -126,9 +126,9 @@ abbrev pub fun_lengths : List ℕ → List FunDef → List ℕ
 fun_lengths before fs = fold (λ so_far f. so_far ++ body_length so_far f.params (length f.locals) f.body ∷ []) before fs
 
 -- The length of a handler's normal form, given those of the functions.
-abbrev pub handler_length : Parts → List ℕ → HandlerDef → ℕ
+abbrev pub handler_length : CoreParts → List ℕ → HandlerDef → ℕ
 handler_length parts funs h = body_length funs (length (event_params parts.events h.event)) (length h.locals) h.body
 
 -- The length of a program's normal form. In a flat core there are no functions.
-abbrev pub program_length : Parts → ℕ
+abbrev pub program_length : CoreParts → ℕ
 program_length parts = sum (map (handler_length parts (fun_lengths [] parts.funs)) parts.handlers)

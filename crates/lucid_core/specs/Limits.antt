@@ -8,7 +8,7 @@ use Rattle.lucid_core.specs.declared.body.Expr.TheOpen.{Expr-F, Stmt-F, Touch-F}
 use Rattle.lucid_core.specs.declared.body.Expr.TheFolds.{fold-Expr, fold-Stmt, fold-Touch}
 use Rattle.lucid_core.specs.declared.defs.FunDef.{FunDef}
 use Rattle.lucid_core.specs.Children.{expr_children, stmt_children, touch_children}
-use Rattle.lucid_core.specs.Parts.{Parts}
+use Rattle.lucid_core.specs.Parts.{CoreParts}
 use Rattle.lucid_base.specs.Memop.{memop_fits}
 use Rattle.lucid_core.specs.Numbers.{all_hold, are_distinct}
 
@@ -47,7 +47,7 @@ abbrev pub body_keeps_limits : List Stmt → Bool
 body_keeps_limits ss = all_hold (map stmt_limits ss)
 
 -- At most 64 arrays of 1 to 65,536 cells; at most 8 array parameters and 8 value parameters.
-abbrev pub declarations_keep_limits : Parts → Bool
+abbrev pub declarations_keep_limits : CoreParts → Bool
 declarations_keep_limits parts =
     nat_le (length parts.arrays) 64
     && list_all (λ a. is_between 1 65536 a.size) parts.arrays
@@ -58,5 +58,5 @@ declarations_keep_limits parts =
 abbrev pub funs_keep_limits : List FunDef → Bool
 funs_keep_limits funs = list_all (λ f. body_keeps_limits f.body) funs
 
-abbrev pub bodies_keep_limits : Parts → Bool
+abbrev pub bodies_keep_limits : CoreParts → Bool
 bodies_keep_limits parts = funs_keep_limits parts.funs && list_all (λ h. body_keeps_limits h.body) parts.handlers

@@ -9,7 +9,7 @@ use Rattle.lucid_core.specs.declared.body.Touch.{Touch}
 use Rattle.lucid_core.specs.declared.body.Expr.TheOpen.{Expr-F, Stmt-F, Touch-F}
 use Rattle.lucid_core.specs.declared.body.Expr.TheFolds.{fold-Expr, fold-Stmt, fold-Touch}
 use Rattle.lucid_core.specs.Children.{expr_children, stmt_children, touch_children}
-use Rattle.lucid_core.specs.Parts.{Parts}
+use Rattle.lucid_core.specs.Parts.{CoreParts}
 use Rattle.lucid_core.specs.Scope.{Test, each, bodies_pass}
 
 -- A declared array, or an array parameter of the body.
@@ -43,5 +43,5 @@ abbrev pub touch_names : Touch → Test
 touch_names = fold-Touch Test Test Test expr_step stmt_step touch_step
 
 -- In all bodies; and a function's value parameters are locals of it.
-abbrev pub names_are_there : Parts → Bool
+abbrev pub names_are_there : CoreParts → Bool
 names_are_there parts = bodies_pass (λ ss. each (map stmt_names ss)) parts && list_all (λ f. nat_le f.params (length f.locals)) parts.funs

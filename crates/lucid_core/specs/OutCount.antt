@@ -8,7 +8,7 @@ use Rattle.lucid_core.specs.declared.body.Expr.TheOpen.{Expr-F, Stmt-F, Touch-F}
 use Rattle.lucid_core.specs.declared.body.Expr.TheFolds.{fold-Expr, fold-Stmt, fold-Touch}
 use Rattle.lucid_core.specs.declared.defs.FunDef.{FunDef}
 use Rattle.lucid_core.specs.Children.{expr_children, stmt_children, touch_children}
-use Rattle.lucid_core.specs.Parts.{Parts}
+use Rattle.lucid_core.specs.Parts.{CoreParts}
 
 -- A count, from the counts of the functions before the body.
 abbrev pub Count : Type 0
@@ -50,7 +50,7 @@ funs_outs counted [] = counted
 funs_outs counted (f ∷ fs) = funs_outs (counted ++ body_outs f.body counted ∷ []) fs
 
 -- No path of a function or a handler has more than 8 outs.
-abbrev pub outs_are_few : Parts → Bool
+abbrev pub outs_are_few : CoreParts → Bool
 outs_are_few parts =
     let counts = funs_outs [] parts.funs in
     list_all (λ n. nat_le n 8) counts && list_all (λ h. nat_le (body_outs h.body counts) 8) parts.handlers

@@ -7,7 +7,7 @@ use Rattle.lucid_core.specs.declared.defs.FunDef.{FunDef}
 use Rattle.lucid_core.specs.declared.defs.HandlerDef.{HandlerDef}
 
 -- Each list is numbered from 0; `forms` are the texts of the prints.
-pub record Parts : Type 0 where
+pub record CoreParts : Type 0 where
   pub arrays : List ArrayDef
   pub memops : List MemopDef
   pub events : List EventDef
@@ -15,7 +15,7 @@ pub record Parts : Type 0 where
   pub handlers : List HandlerDef
   pub forms : List (List ℕ)
 
-abbrev pub made_of : List ArrayDef → List MemopDef → List EventDef → List FunDef → List HandlerDef → List (List ℕ) → Parts
+abbrev pub made_of : List ArrayDef → List MemopDef → List EventDef → List FunDef → List HandlerDef → List (List ℕ) → CoreParts
 made_of arrays memops events funs handlers forms = record {
   arrays = arrays;
   memops = memops;

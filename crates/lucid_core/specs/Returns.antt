@@ -7,7 +7,7 @@ use Rattle.lucid_core.specs.declared.body.Touch.{Touch}
 use Rattle.lucid_core.specs.declared.body.Expr.TheOpen.{Expr-F, Stmt-F, Touch-F}
 use Rattle.lucid_core.specs.declared.body.Expr.TheFolds.{fold-Expr, fold-Stmt, fold-Touch}
 use Rattle.lucid_core.specs.Children.{expr_children, stmt_children, touch_children}
-use Rattle.lucid_core.specs.Parts.{Parts}
+use Rattle.lucid_core.specs.Parts.{CoreParts}
 
 -- Of a statement or a block: whether it returns on some path, whether it returns a value on some path, whether it returns on every path,
 -- and whether each return in it stands last in its block.
@@ -72,7 +72,7 @@ abbrev pub body_returns : List Stmt → Returns
 body_returns ss = block_returns (map stmt_returns ss)
 
 -- In all bodies; and a function with an answer always returns.
-abbrev pub returns_stand_last : Parts → Bool
+abbrev pub returns_stand_last : CoreParts → Bool
 returns_stand_last parts =
     list_all (λ f. (body_returns f.body).last && (not (is_some f.answer) || (body_returns f.body).always)) parts.funs
     && list_all (λ h. (body_returns h.body).last) parts.handlers

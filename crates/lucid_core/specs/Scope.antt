@@ -4,7 +4,7 @@ use Rattle.std.specs.List.{list_all}
 use Rattle.lucid_core.specs.declared.defs.FunDef.{FunDef}
 use Rattle.lucid_core.specs.declared.defs.HandlerDef.{HandlerDef}
 use Rattle.lucid_core.specs.declared.body.Stmt.{Stmt}
-use Rattle.lucid_core.specs.Parts.{Parts}
+use Rattle.lucid_core.specs.Parts.{CoreParts}
 
 -- What a body may name: the cell widths of the declared arrays and of its array parameters, the widths of its locals,
 -- the widths of each event's parameters, the texts, and the functions before it.
@@ -24,7 +24,7 @@ abbrev pub each : List Test → Test
 each tests = λ s. list_all (λ test. test s) tests
 
 -- The scope of a function's body, behind the functions before it.
-abbrev pub fun_scope : Parts → List FunDef → FunDef → Scope
+abbrev pub fun_scope : CoreParts → List FunDef → FunDef → Scope
 fun_scope parts before f = record {
   arrays = map (λ a. a.width) parts.arrays;
   params = f.arrays;
@@ -35,7 +35,7 @@ fun_scope parts before f = record {
 }
 
 -- The scope of a handler's body.
-abbrev pub handler_scope : Parts → HandlerDef → Scope
+abbrev pub handler_scope : CoreParts → HandlerDef → Scope
 handler_scope parts h = record {
   arrays = map (λ a. a.width) parts.arrays;
   params = [];
@@ -51,5 +51,5 @@ funs_pass test before [] = true
 funs_pass test before (f ∷ fs) = test before f && funs_pass test (before ++ f ∷ []) fs
 
 -- Each body passes in its scope.
-abbrev pub bodies_pass : (List Stmt → Test) → Parts → Bool
+abbrev pub bodies_pass : (List Stmt → Test) → CoreParts → Bool
 bodies_pass test parts = funs_pass (λ before f. test f.body (fun_scope parts before f)) [] parts.funs && list_all (λ h. test h.body (handler_scope parts h)) parts.handlers

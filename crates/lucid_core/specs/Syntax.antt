@@ -8,7 +8,7 @@ use Rattle.lucid_core.specs.declared.body.Expr.TheOpen.{Expr-F, Stmt-F, Touch-F}
 use Rattle.lucid_core.specs.declared.body.Expr.TheFolds.{fold-Expr, fold-Stmt, fold-Touch}
 use Rattle.lucid_core.specs.Children.{expr_children, stmt_children, touch_children}
 use Rattle.lucid_core.specs.Numbers.{all_hold}
-use Rattle.lucid_core.specs.Parts.{Parts}
+use Rattle.lucid_core.specs.Parts.{CoreParts}
 
 abbrev pub touch_step : Touch-F Bool Bool Bool → Bool
 touch_step t = all_hold (touch_children t)
@@ -48,8 +48,8 @@ is_flat_stmt = fold-Stmt Bool Bool Bool not_call not_group touch_step
 abbrev pub is_flat_touch : Touch → Bool
 is_flat_touch = fold-Touch Bool Bool Bool not_call not_group touch_step
 
-abbrev pub has_core_syntax : Parts → Bool
+abbrev pub has_core_syntax : CoreParts → Bool
 has_core_syntax parts = list_all (λ f. list_all is_core_stmt f.body) parts.funs && list_all (λ h. list_all is_core_stmt h.body) parts.handlers
 
-abbrev pub has_flat_syntax : Parts → Bool
+abbrev pub has_flat_syntax : CoreParts → Bool
 has_flat_syntax parts = list_all (λ h. list_all is_flat_stmt h.body) parts.handlers

@@ -8,7 +8,7 @@ use Rattle.lucid_core.specs.declared.body.Touch.{Touch}
 use Rattle.lucid_core.specs.declared.body.Expr.TheOpen.{Expr-F, Stmt-F, Touch-F}
 use Rattle.lucid_core.specs.declared.body.Expr.TheFolds.{fold-Expr, fold-Stmt, fold-Touch}
 use Rattle.lucid_core.specs.Children.{expr_children, stmt_children, touch_children}
-use Rattle.lucid_core.specs.Parts.{Parts}
+use Rattle.lucid_core.specs.Parts.{CoreParts}
 
 -- How often `%d` stands in a text; 37 is '%' and 100 is 'd'.
 abbrev pub holes_of : List ℕ → ℕ
@@ -45,6 +45,6 @@ touch_texts = fold-Touch Printed Printed Printed expr_step stmt_step touch_step
 abbrev pub body_fills_texts : List Stmt → Printed
 body_fills_texts ss = each_filled (map stmt_texts ss)
 
-abbrev pub texts_are_filled : Parts → Bool
+abbrev pub texts_are_filled : CoreParts → Bool
 texts_are_filled parts =
     list_all (λ f. body_fills_texts f.body parts.forms) parts.funs && list_all (λ h. body_fills_texts h.body parts.forms) parts.handlers

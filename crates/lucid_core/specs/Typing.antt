@@ -11,7 +11,7 @@ use Rattle.lucid_core.specs.declared.body.Touch.{Touch}
 use Rattle.lucid_core.specs.declared.body.Expr.TheOpen.{Expr-F, Stmt-F, Touch-F}
 use Rattle.lucid_core.specs.declared.body.Expr.TheFolds.{fold-Expr, fold-Stmt, fold-Touch}
 use Rattle.lucid_core.specs.declared.defs.FunDef.{FunDef}
-use Rattle.lucid_core.specs.Parts.{Parts}
+use Rattle.lucid_core.specs.Parts.{CoreParts}
 use Rattle.lucid_core.specs.Scope.{Scope, fun_scope, handler_scope, funs_pass}
 
 -- What a call or an expression gives: the width of its value, or None where it gives no value.
@@ -171,7 +171,7 @@ abbrev pub body_gives_only : Answer → List Stmt → Scope → Bool
 body_gives_only answer ss s = gives_only answer (all_typed (map returns_of ss) s)
 
 -- In all bodies. A function gives values of its answer's width, or none; a handler gives none.
-abbrev pub widths_agree : Parts → Bool
+abbrev pub widths_agree : CoreParts → Bool
 widths_agree parts =
     funs_pass (λ before f. body_gives_only f.answer f.body (fun_scope parts before f)) [] parts.funs
     && list_all (λ h. body_gives_only None h.body (handler_scope parts h)) parts.handlers

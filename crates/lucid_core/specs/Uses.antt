@@ -7,7 +7,7 @@ use Rattle.lucid_core.specs.declared.body.Touch.{Touch}
 use Rattle.lucid_core.specs.declared.body.Expr.TheOpen.{Expr-F, Stmt-F, Touch-F}
 use Rattle.lucid_core.specs.declared.body.Expr.TheFolds.{fold-Expr, fold-Stmt, fold-Touch}
 use Rattle.lucid_core.specs.Children.{expr_children, stmt_children, touch_children}
-use Rattle.lucid_core.specs.Parts.{Parts}
+use Rattle.lucid_core.specs.Parts.{CoreParts}
 use Rattle.lucid_core.specs.Events.{event_params}
 use Rattle.lucid_core.specs.Numbers.{are_in, places}
 
@@ -74,7 +74,7 @@ body_uses ss = all_uses (map stmt_uses ss)
 abbrev pub assigns_its_locals : ℕ → List ℕ → List Stmt → Bool
 assigns_its_locals params locals ss = are_in (body_uses ss).assigns (drop params (places locals))
 
-abbrev pub locals_are_assigned : Parts → Bool
+abbrev pub locals_are_assigned : CoreParts → Bool
 locals_are_assigned parts =
     list_all (λ f. assigns_its_locals f.params f.locals f.body) parts.funs
     && list_all (λ h. assigns_its_locals (length (event_params parts.events h.event)) h.locals h.body) parts.handlers
@@ -90,5 +90,5 @@ keeps_to_itself params body i = list_all (λ n. nat_le params n && nat_eq (times
 abbrev pub all_keep_to_themselves : ℕ → Uses → Bool
 all_keep_to_themselves params body = list_all (keeps_to_itself params (named body)) body.inlined
 
-abbrev pub inlined_keep_to_themselves : Parts → Bool
+abbrev pub inlined_keep_to_themselves : CoreParts → Bool
 inlined_keep_to_themselves parts = list_all (λ h. all_keep_to_themselves (length (event_params parts.events h.event)) (body_uses h.body)) parts.handlers

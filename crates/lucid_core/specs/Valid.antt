@@ -1,6 +1,6 @@
 -- Which parts are a valid core, and which a valid flat core. Each rule is a test of its own, in the file of its name.
 use Rattle.std.specs.Prelude.{◌≡◌, [], IsTrue}
-use Rattle.lucid_core.specs.Parts.{Parts}
+use Rattle.lucid_core.specs.Parts.{CoreParts}
 use Rattle.lucid_core.specs.Assigned.{reads_follow_assignments}
 use Rattle.lucid_core.specs.Events.{events_and_handlers_agree}
 use Rattle.lucid_core.specs.Syntax.{has_core_syntax, has_flat_syntax}
@@ -14,7 +14,7 @@ use Rattle.lucid_core.specs.Typing.{widths_agree}
 use Rattle.lucid_core.specs.Uses.{locals_are_assigned, inlined_keep_to_themselves}
 
 -- The rules for both.
-pub record IsSound (parts : Parts) : Type 0 where
+pub record IsSound (parts : CoreParts) : Type 0 where
   pub names : IsTrue (names_are_there parts)
   pub events : IsTrue (events_and_handlers_agree parts)
   pub widths : IsTrue (widths_agree parts)
@@ -28,12 +28,12 @@ pub record IsSound (parts : Parts) : Type 0 where
   pub numbered : IsTrue (declarations_are_numbered parts)
 
 -- A valid core.
-pub record IsValid (parts : Parts) : Type 0 where
+pub record IsValid (parts : CoreParts) : Type 0 where
   pub sound : IsSound parts
   pub syntax : IsTrue (has_core_syntax parts)
 
 -- A valid flat core.
-pub record IsValidFlat (parts : Parts) : Type 0 where
+pub record IsValidFlat (parts : CoreParts) : Type 0 where
   pub sound : IsSound parts
   pub syntax : IsTrue (has_flat_syntax parts)
   pub no_functions : parts.funs ≡ []

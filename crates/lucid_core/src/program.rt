@@ -24,10 +24,10 @@ pub struct Core {
 impl Model for Core {
     ghost use Rattle.lucid_core.specs.contracts.body.Stmt as stmt;
     ghost use Rattle.std.specs.Coded.{codes};
-    ghost use Rattle.lucid_core.specs.Parts.{Parts, made_of};
+    ghost use Rattle.lucid_core.specs.Parts.{CoreParts, made_of};
     ghost use Rattle.lucid_core.specs.Valid.{IsValid};
 
-    ghost Value = { Parts };
+    ghost Value = { CoreParts };
 
     ghost coded = { Prim.hlevel (codes, stmt.the_row.coded) };
 
@@ -133,10 +133,10 @@ impl Model for Flat {
     ghost use Rattle.std.specs.Prelude.{[]};
     ghost use Rattle.lucid_core.specs.contracts.body.Stmt as stmt;
     ghost use Rattle.std.specs.Coded.{codes};
-    ghost use Rattle.lucid_core.specs.Parts.{Parts, made_of};
+    ghost use Rattle.lucid_core.specs.Parts.{CoreParts, made_of};
     ghost use Rattle.lucid_core.specs.Valid.{IsValidFlat};
 
-    ghost Value = { Parts };
+    ghost Value = { CoreParts };
 
     ghost coded = { Prim.hlevel (codes, stmt.the_row.coded) };
 

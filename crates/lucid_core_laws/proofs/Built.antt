@@ -13,7 +13,7 @@ use Rattle.lucid_core.specs.Assigned.{body_reads_assigned}
 use Rattle.lucid_core.specs.Events.{event_params, events_and_handlers_agree, handles, is_handled_by}
 use Rattle.lucid_core.specs.Limits.{body_keeps_limits}
 use Rattle.lucid_core.specs.Names.{stmt_names}
-use Rattle.lucid_core.specs.Parts.{Parts}
+use Rattle.lucid_core.specs.Parts.{CoreParts}
 use Rattle.lucid_core.specs.Returns.{body_returns}
 use Rattle.lucid_core.specs.Scope.{each, fun_scope, funs_pass, handler_scope}
 use Rattle.lucid_core.specs.Syntax as syntax
@@ -96,7 +96,7 @@ all_allowed flat is e ss h = subst (λ (f : Stmt → Bool). list_all f ss ≡ tr
 
 -- ---- one body after another
 
-module _ (flat : Bool) (parts : Parts) where
+module _ (flat : Bool) (parts : CoreParts) where
   -- A test of a function and those before it.
   pub by_place : (test : List FunDef → FunDef → Bool) → ((before : List FunDef) (f : FunDef) → KeepsFun flat parts before f → test before f ≡ true) →
       (before fs : List FunDef) → KeepFuns flat parts before fs → funs_pass test before fs ≡ true
@@ -139,7 +139,7 @@ is_handled hs id (Some k) link = let h = link k refl in rw h.1 (eq-eqb h.0.event
 handles_it : (events : List EventDef) (k id : ℕ) → ((e : EventDef) × (slice_get events id ≡ Some e) × (e.handler ≡ Some k)) → is_handled_by events k id ≡ true
 handles_it events k id e = rw (e.1, e.2) (eq-eqb k k refl)
 
-events_agree : (flat : Bool) (parts : Parts) → IsBuilt flat parts → events_and_handlers_agree parts ≡ true
+events_agree : (flat : Bool) (parts : CoreParts) → IsBuilt flat parts → events_and_handlers_agree parts ≡ true
 events_agree flat parts built = and_from _ _
     (all_numbered (λ e. option_map_or (handles parts.handlers e.0) e.1.handler true) 0 parts.events (λ id e at.
     subst (λ (n : ℕ). option_map_or (handles parts.handlers n) e.handler true ≡ true) (zero_on id) (is_handled parts.handlers id e.handler (λ k is. built.handled id e k at is))))
@@ -156,7 +156,7 @@ ends_well (Some w) always h = h refl
 gives_answer : (p : Place) (a : Answer) (r : Ending) (xs : List Stmt) → KeepsBlock p a r xs → body_gives_only a xs p.scope ≡ true
 gives_answer p a r xs f = rw f.typed f.only
 
-pub sound : (flat : Bool) (parts : Parts) → IsBuilt flat parts → IsSound parts
+pub sound : (flat : Bool) (parts : CoreParts) → IsBuilt flat parts → IsSound parts
 sound flat parts built =
     let of_funs = λ (test : FunDef → Bool) (one : (before : List FunDef) (f : FunDef) → KeepsFun flat parts before f → arguments_are_few f.body ≡ true → test f ≡ true). each_fun flat parts test one [] parts.funs built.funs built.few_in_funs in
     let of_handlers = λ (test : HandlerDef → Bool) (one : (h : HandlerDef) → KeepsHandler flat parts h → arguments_are_few h.body ≡ true → test h ≡ true). each_handler flat parts test one parts.handlers built.handlers built.few_in_handlers in

@@ -4,7 +4,7 @@ use Rattle.std.proofs.lemmas.Bool.Decides.{nat_tests}
 use Rattle.std.proofs.lemmas.List.{length-map}
 use Rattle.std.specs.List.{AllByRecursion}
 use Rattle.std.specs.Option.{option_map_or}
-use Rattle.lucid_core.specs.Parts.{Parts}
+use Rattle.lucid_core.specs.Parts.{CoreParts}
 use Rattle.lucid_core.specs.Step as core
 use Rattle.lucid_core.specs.Step.{Entry}
 use Rattle.lucid_pipe_stream.specs.Picture.{IsPicture, after}
@@ -81,7 +81,7 @@ came_is p (suc k) = refl
 
 module _ {C P : Type 0} where
   -- the cells after passes of the first entries are those after the program's steps
-  folded : (parts : Parts) (step : Steps C P) (cells : List C) (view : List C → List (List ℕ)) (packet : Entry → P) (sent : P → Gone) (Good : List C → Type 0) (Fits : Entry → Type 0) → DoSteps parts step cells view packet sent Good Fits →
+  folded : (parts : CoreParts) (step : Steps C P) (cells : List C) (view : List C → List (List ℕ)) (packet : Entry → P) (sent : P → Gone) (Good : List C → Type 0) (Fits : Entry → Type 0) → DoSteps parts step cells view packet sent Good Fits →
       (es : List Entry) (s : core.Steps) (cs : List C) → s.cells ≡ view cs → Good cs → AllByRecursion Fits es →
       ((fold (core.one_more parts) s es).cells ≡ view (after step cs (map packet es))) × Good (after step cs (map packet es))
   folded parts step cells view packet sent Good Fits law [] s cs is good all = (is, good)
@@ -90,7 +90,7 @@ module _ {C P : Type 0} where
       folded parts step cells view packet sent Good Fits law es (core.one_more parts s e) (whole step cs (packet e)).0
       (ap (λ (c : List (List ℕ)). (core.step parts c e.now e.me e.event).cells) is ∙ sym one.0) one.2 all.1
 
-  pub after_is : (parts : Parts) (step : Steps C P) (cells : List C) (view : List C → List (List ℕ)) (packet : Entry → P) (sent : P → Gone) (Good : List C → Type 0) (Fits : Entry → Type 0) → DoSteps parts step cells view packet sent Good Fits →
+  pub after_is : (parts : CoreParts) (step : Steps C P) (cells : List C) (view : List C → List (List ℕ)) (packet : Entry → P) (sent : P → Gone) (Good : List C → Type 0) (Fits : Entry → Type 0) → DoSteps parts step cells view packet sent Good Fits →
       (es : List Entry) (n : ℕ) → AllByRecursion Fits (take n es) → (core.after parts es n ≡ view (after step cells (map packet (take n es)))) × Good (after step cells (map packet (take n es)))
   after_is parts step cells view packet sent Good Fits law es n all = folded parts step cells view packet sent Good Fits law (take n es) _ cells (sym law.start) law.good all
 

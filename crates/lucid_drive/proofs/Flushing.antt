@@ -5,7 +5,7 @@ use Rattle.std.proofs.lemmas.Bool.Decides.{nat_tests}
 use Rattle.std.proofs.lemmas.List.{get_or-set_other, get_or-set_same}
 use Rattle.std.specs.Option.{option_and_then}
 use Rattle.lucid_conf.specs.declared.scene.Scene.{Scene}
-use Rattle.lucid_core.specs.Parts.{Parts}
+use Rattle.lucid_core.specs.Parts.{CoreParts}
 use Rattle.lucid_pipe.specs.Packets.{Packet, left_by}
 use Rattle.lucid_pipe.specs.Pipe.{PipeParts, executed}
 use Rattle.lucid_pipe.proofs.Settles.{there_full}
@@ -32,7 +32,7 @@ below : (a b : ℕ) → nat_lt a b ≡ true → a < b
 below a b is = grind (arith, nat_tests)
 
 -- A packet that moves writes its block where it leaves, and the blocks of the others are left.
-pub flight_next : (parts : Parts) (scene : Scene) (p : Progress) (pipe : PipeParts) → IsAt parts scene p pipe → (k : ℕ) → is_taken p k ≡ true →
+pub flight_next : (parts : CoreParts) (scene : Scene) (p : Progress) (pipe : PipeParts) → IsAt parts scene p pipe → (k : ℕ) → is_taken p k ≡ true →
     flight_text (drive_of parts pipe scene) p ≡ left_text (drive_of parts pipe scene) p k ++ flight_text (drive_of parts pipe scene) (moved p k)
 flight_next parts scene p pipe is k taken = ⊎_elim on last (cases_lt (k + 1) (length p.passed))
   where

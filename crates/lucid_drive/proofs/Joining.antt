@@ -4,7 +4,7 @@ use Rattle.std.proofs.Math.Seq.{take-length}
 use Rattle.lucid_conf.specs.Kept.{IsScene}
 use Rattle.lucid_conf.specs.declared.scene.Scene.{Scene}
 use Rattle.lucid_conf.specs.declared.scene.Step.{Step}
-use Rattle.lucid_core.specs.Parts.{Parts}
+use Rattle.lucid_core.specs.Parts.{CoreParts}
 use Rattle.lucid_core.specs.Step.{after}
 use Rattle.lucid_io.proofs.Leaves.{Leaves-after, Leaves-whole, PutsAll-last, PutsPart-at, PutsPart-last}
 use Rattle.lucid_io.specs.Puts.{Leaves, PutsAll, PutsPart}
@@ -26,7 +26,7 @@ take_whole : (d : Drive) (count : ℕ) → count ≡ length d.scene.steps → ta
 take_whole d count all = ap (λ (n : ℕ). take n d.scene.steps) all ∙ take-length d.scene.steps
 
 -- A fresh pipe stands at a new state.
-pub fresh_stands : (parts : Parts) (scene : Scene) (pipe : PipeParts) (state : DriveState) → IsScene parts scene → StandsFor pipe.placed.code parts → pipe.placed.code.arrays ≡ parts.arrays → pipe ≡ empty_pipe pipe.placed →
+pub fresh_stands : (parts : CoreParts) (scene : Scene) (pipe : PipeParts) (state : DriveState) → IsScene parts scene → StandsFor pipe.placed.code parts → pipe.placed.code.arrays ≡ parts.arrays → pipe ≡ empty_pipe pipe.placed →
     state ≡ record { done = 0; flushed = 0; entered = 0; failed = false } → StandsAfter parts scene state 0 pipe
 fresh_stands parts scene pipe state kept stands_for arrays fresh new =
     subst (λ (s : DriveState). StandsAfter parts scene s 0 pipe) (sym new)
@@ -48,7 +48,7 @@ first_shown old new xs all = (length xs, subst (ShowsAll old new) (sym (take-len
 pub log_parts : (d : Drive) (count : ℕ) → count ≡ length d.scene.steps → drive_log d ≡ text_to d count ++ end_text d (after_steps d)
 log_parts d count all = ap (λ (xs : List Step). text_from d (begun d) xs ++ end_text d (after_steps d)) (sym (take_whole d count all))
 
-pub last_cells_are : (parts : Parts) (scene : Scene) (cells : List (List ℕ)) (entered : ℕ) (d_rest d : Drive) → cells ≡ after parts (entries scene) entered → entered ≡ (after_steps d_rest).entered → d_rest ≡ d →
+pub last_cells_are : (parts : CoreParts) (scene : Scene) (cells : List (List ℕ)) (entered : ℕ) (d_rest d : Drive) → cells ≡ after parts (entries scene) entered → entered ≡ (after_steps d_rest).entered → d_rest ≡ d →
     cells ≡ after parts (entries scene) (after_steps d).entered
 last_cells_are parts scene cells entered d_rest d is came same = is ∙ ap (after parts (entries scene)) (came ∙ ap (λ (e : Drive). (after_steps e).entered) same)
 
@@ -89,7 +89,7 @@ nil_first : (xs ys : List ℕ) → [] ≡ xs ++ ys → xs ≡ []
 nil_first [] ys e = refl
 nil_first (x ∷ xs) ys e = cc
 
-module _ {T : Type 0} {written : T → Option (List ℕ)} {faults : T → ℕ} (old now : T) (parts : Parts) (scene : Scene) (start pipe : PipeParts) (state : DriveState) (so : Flushing written faults old now parts scene start pipe state) where
+module _ {T : Type 0} {written : T → Option (List ℕ)} {faults : T → ℕ} (old now : T) (parts : CoreParts) (scene : Scene) (start pipe : PipeParts) (state : DriveState) (so : Flushing written faults old now parts scene start pipe state) where
   pub flushing_on : (new : T) (then_pipe : PipeParts) (then_state : DriveState) (moved : Option ℕ) (k : ℕ) → moved ≡ Some k → then_pipe.placed ≡ pipe.placed → then_state.done ≡ state.done → StandsAfter parts scene then_state (moves_after moved so.moves) then_pipe →
       PutsAll written faults now new (flush_at (drive_of parts pipe scene) state.done so.moves).text → Flushing written faults old new parts scene start then_pipe then_state
   flushing_on new then_pipe then_state moved k is same done at puts =

@@ -8,7 +8,7 @@ use Rattle.lucid_base.specs.Cells.{zero_cells}
 use Rattle.lucid_base.specs.declared.event.Out.{Out}
 use Rattle.lucid_conf.specs.declared.scene.Scene.{Scene}
 use Rattle.lucid_core.specs.Laws.{CellsStayFit}
-use Rattle.lucid_core.specs.Parts.{Parts}
+use Rattle.lucid_core.specs.Parts.{CoreParts}
 use Rattle.lucid_core.specs.Step as core
 use Rattle.lucid_core.specs.Step.{Entry}
 use Rattle.lucid_pipe.specs.Packets.{Packet, left_by, told}
@@ -69,7 +69,7 @@ passed_of e outs = record { event = e.event; now = e.now; me = e.me; outs = outs
 none_entry : Entry
 none_entry = record { now = 0; me = 0; event = record { id = 0; args = [] } }
 
-module _ (parts : Parts) (scene : Scene) (p : Progress) (pipe : PipeParts) (is : IsAt parts scene p pipe) (laws : Laws pipe) where
+module _ (parts : CoreParts) (scene : Scene) (p : Progress) (pipe : PipeParts) (is : IsAt parts scene p pipe) (laws : Laws pipe) where
   abbrev rows : List (Row Cells Packet)
   rows = pipe_rows pipe
 
@@ -173,7 +173,7 @@ rows_empty : (stages : List StageCode) (cells : Cells) → length (rows_of stage
 rows_empty [] cells = refl
 rows_empty (s ∷ stages) cells = ap suc (rows_empty stages cells)
 
-pub begins_at : (parts : Parts) (scene : Scene) (placed : PlacedParts) → StandsFor placed.code parts → placed.code.arrays ≡ parts.arrays →
+pub begins_at : (parts : CoreParts) (scene : Scene) (placed : PlacedParts) → StandsFor placed.code parts → placed.code.arrays ≡ parts.arrays →
     IsAt parts scene (begun (drive_of parts (empty_pipe placed) scene)) (empty_pipe placed)
 begins_at parts scene placed stands_for arrays = record {
   stands_for = stands_for;

@@ -4,7 +4,7 @@ use Rattle.std.proofs.Math.Seq.{take-length}
 use Rattle.lucid_conf.specs.declared.scene.Scene.{Scene}
 use Rattle.lucid_conf.specs.declared.scene.Step.{Step}
 use Rattle.lucid_conf.specs.declared.scene.Step.TheVariants.{Enter}
-use Rattle.lucid_core.specs.Parts.{Parts}
+use Rattle.lucid_core.specs.Parts.{CoreParts}
 use Rattle.lucid_io.proofs.Leaves.{Leaves-after, Leaves-nothing, Leaves-whole, PutsPart-at}
 use Rattle.lucid_io.specs.Puts.{Leaves, PutsAll, PutsPart}
 use Rattle.lucid_pipe.specs.Pipe.{PipeParts}
@@ -22,7 +22,7 @@ use Rattle.lucid_drive.proofs.Seeing.{Showing, showing_all, showing_first, showi
 use Rattle.lucid_drive.proofs.Standing.{passed_many}
 use Rattle.lucid_drive.proofs.States.{all_passed, last_found, next_is, step_is}
 
-pub drive_same : (parts : Parts) (scene : Scene) (a b : PipeParts) → a.placed ≡ b.placed → drive_of parts a scene ≡ drive_of parts b scene
+pub drive_same : (parts : CoreParts) (scene : Scene) (a b : PipeParts) → a.placed ≡ b.placed → drive_of parts a scene ≡ drive_of parts b scene
 drive_same parts scene a b same = ap (λ (placed : PlacedParts). record { parts = parts; stages = placed.stages; scene = scene }) same
 
 -- ---- steps
@@ -67,14 +67,14 @@ module _ (d : Drive) (xs : List Step) (n : ℕ) (inside : n < length xs) (within
       ∙ sym (ap (λ (p : Progress). sight_at d p ∷ sights_from d p (drop (n + 1) xs)) next)
 
 -- So many of the first `count` steps are done.
-pub record Stepping {T : Type 0} (written : T → Option (List ℕ)) (faults : T → ℕ) (old now : T) (shown seen : Option (List Sight)) (parts : Parts) (scene : Scene) (start pipe : PipeParts) (state : DriveState) (count n : ℕ) : Type 0 where
+pub record Stepping {T : Type 0} (written : T → Option (List ℕ)) (faults : T → ℕ) (old now : T) (shown seen : Option (List Sight)) (parts : CoreParts) (scene : Scene) (start pipe : PipeParts) (state : DriveState) (count n : ℕ) : Type 0 where
   pub same : pipe.placed ≡ start.placed
   pub done : state.done ≡ n
   pub at : StandsAfter parts scene state 0 pipe
   pub text : Leaves written faults old now (text_to (drive_of parts start scene) count) (text_from (drive_of parts start scene) (progress_at (drive_of parts start scene) n 0) (drop n (take count scene.steps)))
   pub sights : Showing shown seen (sights_to (drive_of parts start scene) count) (sights_from (drive_of parts start scene) (progress_at (drive_of parts start scene) n 0) (drop n (take count scene.steps)))
 
-pub stepping_first : {T : Type 0} (written : T → Option (List ℕ)) (faults : T → ℕ) (sink : T) (shown : Option (List Sight)) (parts : Parts) (scene : Scene) (start : PipeParts) (state : DriveState) (count : ℕ) → StandsAfter parts scene state 0 start → state.done ≡ 0 →
+pub stepping_first : {T : Type 0} (written : T → Option (List ℕ)) (faults : T → ℕ) (sink : T) (shown : Option (List Sight)) (parts : CoreParts) (scene : Scene) (start : PipeParts) (state : DriveState) (count : ℕ) → StandsAfter parts scene state 0 start → state.done ≡ 0 →
     Stepping written faults sink sink shown shown parts scene start start state count 0
 stepping_first written faults sink shown parts scene start state count at begins = record {
   same = refl;
@@ -84,7 +84,7 @@ stepping_first written faults sink shown parts scene start state count at begins
   sights = showing_first shown (sights_to (drive_of parts start scene) count);
 }
 
-module _ {T : Type 0} {written : T → Option (List ℕ)} {faults : T → ℕ} (old now : T) (shown seen : Option (List Sight)) (parts : Parts) (scene : Scene) (start pipe : PipeParts) (state : DriveState) (count n : ℕ)
+module _ {T : Type 0} {written : T → Option (List ℕ)} {faults : T → ℕ} (old now : T) (shown seen : Option (List Sight)) (parts : CoreParts) (scene : Scene) (start pipe : PipeParts) (state : DriveState) (count n : ℕ)
     (lt : n < count) (within : count ≤ length scene.steps) (so : Stepping written faults old now shown seen parts scene start pipe state count n) where
   abbrev d : Drive
   d = drive_of parts start scene
@@ -130,7 +130,7 @@ module _ {T : Type 0} {written : T → Option (List ℕ)} {faults : T → ℕ} (
       sight : sight_at (drive_of parts then_pipe scene) (progress_at (drive_of parts then_pipe scene) then_state.done 0) ≡ sight_at (drive_of parts start scene) (progress_at (drive_of parts start scene) (n + 1) 0)
       sight = ap (λ (e : Drive). sight_at e (progress_at e then_state.done 0)) (drive_same parts scene then_pipe start (same ∙ so.same)) ∙ ap (λ (m : ℕ). sight_at (drive_of parts start scene) (progress_at (drive_of parts start scene) m 0)) then_done
 
-module _ {T : Type 0} {written : T → Option (List ℕ)} {faults : T → ℕ} {old now : T} {shown seen : Option (List Sight)} (parts : Parts) (scene : Scene) (start pipe : PipeParts) (state : DriveState) (count n : ℕ)
+module _ {T : Type 0} {written : T → Option (List ℕ)} {faults : T → ℕ} {old now : T} {shown seen : Option (List Sight)} (parts : CoreParts) (scene : Scene) (start pipe : PipeParts) (state : DriveState) (count n : ℕ)
     (le : count ≤ n) (within : count ≤ length scene.steps) (so : Stepping written faults old now shown seen parts scene start pipe state count n) where
   none_left : drop n (take count scene.steps) ≡ []
   none_left = drop_of_length-le (take count scene.steps) (subst (λ (m : ℕ). m ≤ n) (sym (length_take count scene.steps within)) le)
@@ -149,7 +149,7 @@ all_steps d = ap (progress_from d (begun d)) (take-length d.scene.steps)
 -- ---- the packets in flight
 
 -- The oldest packet moved so often.
-pub record Flushing {T : Type 0} (written : T → Option (List ℕ)) (faults : T → ℕ) (old now : T) (parts : Parts) (scene : Scene) (start pipe : PipeParts) (state : DriveState) : Type 0 where
+pub record Flushing {T : Type 0} (written : T → Option (List ℕ)) (faults : T → ℕ) (old now : T) (parts : CoreParts) (scene : Scene) (start pipe : PipeParts) (state : DriveState) : Type 0 where
   pub moves : ℕ
   pub same : pipe.placed ≡ start.placed
   pub done : state.done ≡ length scene.steps
@@ -157,7 +157,7 @@ pub record Flushing {T : Type 0} (written : T → Option (List ℕ)) (faults : T
   pub entered : (progress_at (drive_of parts start scene) (length scene.steps) moves).entered ≡ (after_steps (drive_of parts start scene)).entered
   pub text : Leaves written faults old now (flight_text (drive_of parts start scene) (after_steps (drive_of parts start scene))) (flight_text (drive_of parts start scene) (progress_at (drive_of parts start scene) (length scene.steps) moves))
 
-pub flushing_first : {T : Type 0} (written : T → Option (List ℕ)) (faults : T → ℕ) (sink : T) (parts : Parts) (scene : Scene) (start : PipeParts) (state : DriveState) → StandsAfter parts scene state 0 start → state.done ≡ length scene.steps →
+pub flushing_first : {T : Type 0} (written : T → Option (List ℕ)) (faults : T → ℕ) (sink : T) (parts : CoreParts) (scene : Scene) (start : PipeParts) (state : DriveState) → StandsAfter parts scene state 0 start → state.done ≡ length scene.steps →
     Flushing written faults sink sink parts scene start start state
 flushing_first written faults sink parts scene start state at done = record {
   moves = 0;
@@ -168,7 +168,7 @@ flushing_first written faults sink parts scene start state at done = record {
   text = subst (λ (p : Progress). Leaves written faults sink sink (flight_text (drive_of parts start scene) (after_steps (drive_of parts start scene))) (flight_text (drive_of parts start scene) p)) (sym (all_steps (drive_of parts start scene))) Leaves-whole;
 }
 
-module _ {T : Type 0} {written : T → Option (List ℕ)} {faults : T → ℕ} (old now : T) (parts : Parts) (scene : Scene) (start pipe : PipeParts) (state : DriveState) (so : Flushing written faults old now parts scene start pipe state) where
+module _ {T : Type 0} {written : T → Option (List ℕ)} {faults : T → ℕ} (old now : T) (parts : CoreParts) (scene : Scene) (start pipe : PipeParts) (state : DriveState) (so : Flushing written faults old now parts scene start pipe state) where
   -- where the drive is
   abbrev here : Progress
   here = progress_at (drive_of parts start scene) (length scene.steps) so.moves

@@ -6,7 +6,7 @@ use Rattle.lucid_base.specs.Cells.{row_of, zero_cells}
 use Rattle.lucid_base.specs.declared.array.ArrayDef.{ArrayDef}
 use Rattle.lucid_conf.specs.declared.scene.Scene.{Scene}
 use Rattle.lucid_core.specs.Laws.{CellsStayFit}
-use Rattle.lucid_core.specs.Parts.{Parts}
+use Rattle.lucid_core.specs.Parts.{CoreParts}
 use Rattle.lucid_core.specs.Step as core
 use Rattle.lucid_pipe.specs.Packets.{Packet}
 use Rattle.lucid_pipe.specs.Pipe.{PipeParts}
@@ -101,7 +101,7 @@ rows_are d p (a ∷ arrays) (r ∷ cells) g long stands idle =
         ∙ sym (ap (λ (o : Option ℕ). option_map_or (λ k. row_of (core.after d.parts (entries d.scene) (slice_index p.passed k)) g) o (replicate a.size 0)) e)
 
 -- What is seen of the pipe.
-pub sight_is : (parts : Parts) (scene : Scene) (p : Progress) (pipe : PipeParts) → IsAt parts scene p pipe → CellsStayFit parts → Laws pipe → sight_of 0 pipe ≡ sight_at (drive_of parts pipe scene) p
+pub sight_is : (parts : CoreParts) (scene : Scene) (p : Progress) (pipe : PipeParts) → IsAt parts scene p pipe → CellsStayFit parts → Laws pipe → sight_of 0 pipe ≡ sight_at (drive_of parts pipe scene) p
 sight_is parts scene p pipe is stay laws = ap₂ (λ (l : List ℕ) (c : List (List ℕ)). record { switch = 0; places = l; cells = c }) places cells
   where
     d : Drive

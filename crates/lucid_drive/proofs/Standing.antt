@@ -15,7 +15,7 @@ use Rattle.lucid_code.specs.Run.{Done, Machine, run_code}
 use Rattle.lucid_conf.specs.declared.scene.Scene.{Scene}
 use Rattle.lucid_core.specs.Fits.{cells_fit}
 use Rattle.lucid_core.specs.Laws.{CellsStayFit}
-use Rattle.lucid_core.specs.Parts.{Parts}
+use Rattle.lucid_core.specs.Parts.{CoreParts}
 use Rattle.lucid_core.specs.Step as core
 use Rattle.lucid_core.specs.Step.{Entry}
 use Rattle.lucid_pipe.specs.Laws.{MovesAsRows}
@@ -47,10 +47,10 @@ pub record Laws (pipe : PipeParts) : Type 0 where
 
 -- ---- inputs
 
-happens_in : (parts : Parts) (e : Entry) → Fits parts e → Happens parts e.me e.event
+happens_in : (parts : CoreParts) (e : Entry) → Fits parts e → Happens parts e.me e.event
 happens_in parts e fits = record { switch = fits.me; id = fits.id; event_fits = fits.event }
 
-pub is_input_of : (placed : PlacedParts) (parts : Parts) (e : Entry) → StandsFor placed.code parts → Fits parts e → IsInput placed.code e.me e.event
+pub is_input_of : (placed : PlacedParts) (parts : CoreParts) (e : Entry) → StandsFor placed.code parts → Fits parts e → IsInput placed.code e.me e.event
 is_input_of placed parts e stands_for fits = stands_for.takes e.me e.event (happens_in parts e fits)
 
 false_true : false ≡ true → ⊥
@@ -67,7 +67,7 @@ fit_long [] (r ∷ cells) is = absurd (false_true is)
 fit_long (a ∷ arrays) [] is = absurd (false_true is)
 fit_long (a ∷ arrays) (r ∷ cells) is = ap suc (fit_long arrays cells (and_parts (Rattle.lucid_base.specs.Cells.row_fits a r) (Rattle.lucid_base.specs.Cells.rows_fit arrays cells) is).1)
 
-pub do_steps : (parts : Parts) (pipe : PipeParts) → CellsStayFit parts → Laws pipe → StandsFor pipe.placed.code parts → pipe.placed.code.arrays ≡ parts.arrays →
+pub do_steps : (parts : CoreParts) (pipe : PipeParts) → CellsStayFit parts → Laws pipe → StandsFor pipe.placed.code parts → pipe.placed.code.arrays ≡ parts.arrays →
     DoSteps parts (steps_of pipe.placed.code pipe.placed.stages) (first_cells pipe.placed) (by_array pipe.placed.code.arrays pipe.placed.stages) (packet_of pipe.placed) gone_of (IsGood pipe.placed parts) (Fits parts)
 do_steps parts pipe stay laws stands_for arrays = record {
   start = laws.rows.view zeros zeros_long (λ g is. refl) ∙ ap zero_cells arrays;
@@ -146,7 +146,7 @@ row_at (t ∷ stages) (y ∷ slots) cells zero s x d is here =
     (ap₂ (λ (a : StageCode) (o : Option Packet). Some (row (own a cells) o)) same slot, ap₂ (λ (a : StageCode) (o : Option Packet). row (own a cells) o) same slot)
 row_at (t ∷ stages) (y ∷ slots) cells (suc k) s x d is here = row_at stages slots cells k s x d is here
 
-module _ (parts : Parts) (scene : Scene) (p : Progress) (pipe : PipeParts) (is : IsAt parts scene p pipe) where
+module _ (parts : CoreParts) (scene : Scene) (p : Progress) (pipe : PipeParts) (is : IsAt parts scene p pipe) where
   abbrev pub stages : List StageCode
   stages = pipe.placed.stages
 

@@ -6,7 +6,7 @@ use Rattle.std.proofs.lemmas.Option.{slice_get-get_or}
 use Rattle.std.specs.Option.{option_and_then, option_map_or}
 use Rattle.lucid_conf.specs.declared.scene.Scene.{Scene}
 use Rattle.lucid_conf.specs.declared.scene.Step.{Step}
-use Rattle.lucid_core.specs.Parts.{Parts}
+use Rattle.lucid_core.specs.Parts.{CoreParts}
 use Rattle.lucid_core.specs.Laws.{CellsStayFit}
 use Rattle.lucid_core.specs.Step as core
 use Rattle.lucid_pipe.specs.Packets.{Packet}
@@ -58,7 +58,7 @@ this_step steps n s lt is = inner (sym is ∙ slice_get-get_or steps n s lt)
     inner : Some s ≡ Some (get_or steps n s) → s ≡ get_or steps n s
     inner e = cc
 
-module _ (parts : Parts) (scene : Scene) (old : DriveState) (before after : PipeParts) (s : Step) (h : Happened) (at : StandsAfter parts scene old 0 before)
+module _ (parts : CoreParts) (scene : Scene) (old : DriveState) (before after : PipeParts) (s : Step) (h : Happened) (at : StandsAfter parts scene old 0 before)
     (did : Did parts scene (progress_at (drive_of parts before scene) old.done 0).entered (does (drive_of parts before scene) (progress_at (drive_of parts before scene) old.done 0) s) h after) where
   pub stepped : (entered : ℕ) → old.done < length scene.steps → s ≡ get_or scene.steps old.done s → after.placed ≡ before.placed → entered ≡ entered_after old.entered h →
       StandsAfter parts scene (record { done = old.done + 1; flushed = old.flushed; entered = entered; failed = old.failed }) 0 after
@@ -83,19 +83,19 @@ last_same f g (suc n) same =
     ap (λ (b : Bool). if b then Some n else last_below f n) (same n) ∙ ap (λ (o : Option ℕ). if g n then Some n else o) (last_same f g n same)
 
 -- What is found passes the test, and none behind it does.
-pub record Found (test : ℕ → Bool) (n k : ℕ) : Type 0 where
+pub record LastBelow (test : ℕ → Bool) (n k : ℕ) : Type 0 where
   pub here : test k ≡ true
   pub within : k < n
   pub behind : (j : ℕ) → k < j → j < n → test j ≡ false
 
-pub last_found : (test : ℕ → Bool) (n k : ℕ) → last_below test n ≡ Some k → Found test n k
+pub last_found : (test : ℕ → Bool) (n k : ℕ) → last_below test n ≡ Some k → LastBelow test n k
 last_found test zero k is = cc
 last_found test (suc n) k is = by (test n) refl (λ (e : last_below test n ≡ Some k). last_found test n k e)
   where
     some_is : ◌≡◌ {A = Option ℕ} (Some n) (Some k) → n ≡ k
     some_is f = cc
 
-    by : (b : Bool) → test n ≡ b → (last_below test n ≡ Some k → Found test n k) → Found test (suc n) k
+    by : (b : Bool) → test n ≡ b → (last_below test n ≡ Some k → LastBelow test n k) → LastBelow test (suc n) k
     by true e later =
         let same : n ≡ k = some_is (sym (ap (λ (b : Bool). if b then Some n else last_below test n) e) ∙ is) in
         record {
@@ -154,7 +154,7 @@ empty_is pipe (Some k) e = (λ f. absurd (some_none f), λ all. absurd (true≢f
     some_none : ◌≡◌ {A = Option ℕ} (Some k) None → ⊥
     some_none f = cc
 
-module _ (parts : Parts) (scene : Scene) (p : Progress) (pipe : PipeParts) (is : IsAt parts scene p pipe) where
+module _ (parts : CoreParts) (scene : Scene) (p : Progress) (pipe : PipeParts) (is : IsAt parts scene p pipe) where
   -- The last slot that is taken is that of the oldest packet.
   pub oldest_is : last_below (λ (k : ℕ). is_some (packet_at pipe k)) (length pipe.slots) ≡ oldest p
   oldest_is =
@@ -194,7 +194,7 @@ module _ (parts : Parts) (scene : Scene) (p : Progress) (pipe : PipeParts) (is :
 one_more : (n : ℕ) → (if nat_lt (counted n + 1) (2 ^ 64) then counted n + 1 else counted n) ≡ counted (suc n)
 one_more n = grind (arith, nat_tests)
 
-module _ (parts : Parts) (scene : Scene) (old : DriveState) (moves : ℕ) (before after : PipeParts) (k : ℕ) (h : Happened) (at : StandsAfter parts scene old moves before) where
+module _ (parts : CoreParts) (scene : Scene) (old : DriveState) (moves : ℕ) (before after : PipeParts) (k : ℕ) (h : Happened) (at : StandsAfter parts scene old moves before) where
   abbrev d : Drive
   d = drive_of parts before scene
 
@@ -227,7 +227,7 @@ module _ (parts : Parts) (scene : Scene) (old : DriveState) (moves : ℕ) (befor
 -- ---- the end
 
 -- The cells of an empty pipe are those after all that entered.
-pub last_cells : (parts : Parts) (scene : Scene) (s : DriveState) (moves : ℕ) (pipe : PipeParts) → CellsStayFit parts → Laws pipe → StandsAfter parts scene s moves pipe → IsEmpty pipe → pipe.cells ≡ core.after parts (entries scene) s.entered
+pub last_cells : (parts : CoreParts) (scene : Scene) (s : DriveState) (moves : ℕ) (pipe : PipeParts) → CellsStayFit parts → Laws pipe → StandsAfter parts scene s moves pipe → IsEmpty pipe → pipe.cells ≡ core.after parts (entries scene) s.entered
 last_cells parts scene s moves pipe stay laws at empty =
     let p : Progress = progress_at (drive_of parts pipe scene) s.done moves in
     ended parts scene p pipe at.is stay laws (all_passed parts scene p pipe at.is empty) ∙ ap (core.after parts (entries scene)) (sym at.entered)

@@ -14,7 +14,7 @@ use Rattle.lucid_tables.specs.Placed.{stage_of}
 use Rattle.lucid_conf.specs.declared.scene.Scene.{Scene}
 use Rattle.lucid_core.specs.Fits.{event_fits, out_fits}
 use Rattle.lucid_core.specs.Laws.{CellsStayFit, OutsFit}
-use Rattle.lucid_core.specs.Parts.{Parts}
+use Rattle.lucid_core.specs.Parts.{CoreParts}
 use Rattle.lucid_core.specs.Step as core
 use Rattle.lucid_core.specs.Step.{Entry}
 use Rattle.lucid_log.specs.Block.{block_text}
@@ -34,7 +34,7 @@ use Rattle.lucid_drive.proofs.Driving.{all_at}
 use Rattle.lucid_drive.proofs.Moving.{enters_at, leaves_at, moves_at, passed_of, stays_in}
 use Rattle.lucid_drive.proofs.Standing.{Laws, passed_many, stands_in, taken}
 
-module _ (parts : Parts) (scene : Scene) (p : Progress) (pipe : PipeParts) (k : ℕ) where
+module _ (parts : CoreParts) (scene : Scene) (p : Progress) (pipe : PipeParts) (k : ℕ) where
   -- what a step says where it moves or doesn't
   empty_is : is_taken p k ≡ false → goes (drive_of parts pipe scene) p k ≡ stays (line (codes "empty ") k) p
   empty_is e = ap (λ (b : Bool). if not b then stays (line (codes "empty ") k) p else if is_taken p (k + 1) then stays (line (codes "ahead ") k) p
@@ -54,7 +54,7 @@ append_none : (xs : List ℕ) → xs ++ [] ≡ xs
 append_none [] = refl
 append_none (x ∷ xs) = ap (λ (l : List ℕ). x ∷ l) (append_none xs)
 
-module _ (parts : Parts) (scene : Scene) (p : Progress) (pipe new : PipeParts) (k : ℕ) (is : IsAt parts scene p pipe) (laws : Laws pipe) (stay : CellsStayFit parts) (sends : OutsFit parts) where
+module _ (parts : CoreParts) (scene : Scene) (p : Progress) (pipe new : PipeParts) (k : ℕ) (is : IsAt parts scene p pipe) (laws : Laws pipe) (stay : CellsStayFit parts) (sends : OutsFit parts) where
   d : Rattle.lucid_drive.specs.Drive.Drive
   d = drive_of parts pipe scene
 
@@ -160,10 +160,10 @@ map_at f (y ∷ ys) (suc k) x d lt is = map_at f ys k x d (omega (arith, lt)) is
 abbrev pub entry_at : FileEvent → Entry
 entry_at e = record { now = e.at; me = e.switch; event = e.event }
 
-pub file_fits : (parts : Parts) (scene : Scene) (k : ℕ) (e : FileEvent) → IsScene parts scene → k < length scene.events → e ≡ get_or scene.events k e → IsTrue (event_fits parts e.event)
+pub file_fits : (parts : CoreParts) (scene : Scene) (k : ℕ) (e : FileEvent) → IsScene parts scene → k < length scene.events → e ≡ get_or scene.events k e → IsTrue (event_fits parts e.event)
 file_fits parts scene k e is lt this = (all_at (IsFileEvent parts scene.switches) scene.events k e (recursion_from_All (IsFileEvent parts scene.switches) scene.events is.events) lt this).fits
 
-module _ (parts : Parts) (scene : Scene) (p : Progress) (pipe : PipeParts) where
+module _ (parts : CoreParts) (scene : Scene) (p : Progress) (pipe : PipeParts) where
   none_is : length scene.events ≤ p.entered → enters (drive_of parts pipe scene) p ≡ stays (codes "none\n") p
   none_is le = ap (λ (b : Bool). if b then stays (codes "none\n") p else if is_taken p 0 then stays (codes "busy\n") p
       else record { text = line (codes "enter ") p.entered; block = []; progress = record { entered = p.entered + 1; passed = p.passed }; stage = None }) (le-leb (length scene.events) p.entered le)

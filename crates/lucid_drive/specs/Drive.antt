@@ -6,7 +6,7 @@ use Rattle.lucid_base.specs.declared.array.ArrayDef.{ArrayDef}
 use Rattle.lucid_conf.specs.declared.scene.Scene.{Scene}
 use Rattle.lucid_conf.specs.declared.scene.Step.{Step}
 use Rattle.lucid_conf.specs.declared.scene.Step.TheVariants.{Enter, Go, Look}
-use Rattle.lucid_core.specs.Parts.{Parts}
+use Rattle.lucid_core.specs.Parts.{CoreParts}
 use Rattle.lucid_core.specs.Step.{Entry, after, outs}
 use Rattle.lucid_log.specs.Block.{block_text}
 use Rattle.lucid_log.specs.Cells.{cells_text}
@@ -15,7 +15,7 @@ use Rattle.lucid_tables.specs.declared.stage.StageCode.{StageCode}
 
 -- What is driven: a program, the stages of its pipeline, of which only where the arrays stand is asked, and a scenario.
 pub record Drive : Type 0 where
-  pub parts : Parts
+  pub parts : CoreParts
   pub stages : List StageCode
   pub scene : Scene
 

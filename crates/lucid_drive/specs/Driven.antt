@@ -2,7 +2,7 @@
 use Rattle.std.specs.Prelude.{◌≡◌, ℕ, ◌≤◌, List, length, map, take}
 use Rattle.lucid_base.specs.Cells.{zero_cells}
 use Rattle.lucid_base.specs.declared.event.Out.{Out}
-use Rattle.lucid_core.specs.Parts.{Parts}
+use Rattle.lucid_core.specs.Parts.{CoreParts}
 use Rattle.lucid_core.specs.Step as core
 use Rattle.lucid_core.specs.Step.{Entry}
 use Rattle.lucid_pipe_stream.specs.Picture.{IsPicture}
@@ -15,7 +15,7 @@ pub record Gone : Type 0 where
   pub outs : List Out
 
 -- A pass does what the program's step does, from good cells, for entries that fit.
-pub record DoSteps {C P : Type 0} (parts : Parts) (step : Steps C P) (cells : List C) (view : List C → List (List ℕ)) (packet : Entry → P) (sent : P → Gone) (Good : List C → Type 0) (Fits : Entry → Type 0) : Type 0 where
+pub record DoSteps {C P : Type 0} (parts : CoreParts) (step : Steps C P) (cells : List C) (view : List C → List (List ℕ)) (packet : Entry → P) (sent : P → Gone) (Good : List C → Type 0) (Fits : Entry → Type 0) : Type 0 where
   pub start : view cells ≡ zero_cells parts.arrays
   pub good : Good cells
   pub pass : (cs : List C) (e : Entry) → Good cs → Fits e → (let w = whole step cs (packet e) in let s = core.step parts (view cs) e.now e.me e.event in (view w.0 ≡ s.cells) × (sent w.1 ≡ record { entry = e; outs = s.outs }) × Good w.0)

@@ -5,7 +5,7 @@ use Rattle.std.specs.Option.{option_map_or}
 use Rattle.lucid_base.specs.declared.array.ArrayDef.{ArrayDef}
 use Rattle.lucid_conf.specs.declared.scene.Scene.{Scene}
 use Rattle.lucid_core.specs.Fits.{event_fits, out_fits}
-use Rattle.lucid_core.specs.Parts.{Parts}
+use Rattle.lucid_core.specs.Parts.{CoreParts}
 use Rattle.lucid_log.specs.Block.{block_text}
 use Rattle.lucid_pipe.specs.Pipe.{PipeParts}
 use Rattle.lucid_pipe.specs.declared.passed.Busy.{Busy as BusyParts}
@@ -27,14 +27,14 @@ abbrev pub entry_of : ℕ → Result (Unit {0}) BusyParts → Happened
 entry_of number (Ok u) = Entered number
 entry_of number (Err busy) = Busy
 
-abbrev pub passed_text : Parts → Passed → List ℕ
+abbrev pub passed_text : CoreParts → Passed → List ℕ
 passed_text parts p = block_text parts p.now p.me p.event p.outs 0
 
 -- `look NAME[CELL] = VALUE`
 abbrev pub looked_text : ArrayDef → ℕ → ℕ → List ℕ
 looked_text a cell value = codes "look " ++ a.name ++ codes "[" ++ decimal (cell % a.size) ++ codes "] = " ++ decimal value ++ codes "\n"
 
-abbrev pub happened_text : Parts → Happened → List ℕ
+abbrev pub happened_text : CoreParts → Happened → List ℕ
 happened_text parts Nothing = codes "none\n"
 happened_text parts Busy = codes "busy\n"
 happened_text parts (Entered n) = line (codes "enter ") n
@@ -45,17 +45,17 @@ happened_text parts (Left k passed) = line (codes "go ") k ++ passed_text parts 
 happened_text parts (Looked array cell value) = option_map_or (λ (a : ArrayDef). looked_text a cell value) (slice_get parts.arrays array) []
 
 -- What left fits the program.
-pub record PassedFits (parts : Parts) (p : Passed) : Type 0 where
+pub record PassedFits (parts : CoreParts) (p : Passed) : Type 0 where
   pub event : IsTrue (event_fits parts p.event)
   pub outs : All (λ out. IsTrue (out_fits parts out)) p.outs
 
-abbrev pub FitsTo : Parts → Happened → Type 0
+abbrev pub FitsTo : CoreParts → Happened → Type 0
 FitsTo parts (Left k passed) = PassedFits parts passed
 FitsTo parts (Looked array cell value) = array < length parts.arrays
 FitsTo parts _ = Unit {0}
 
 -- Of it the block of what left.
-abbrev pub happened_block : Parts → Happened → List ℕ
+abbrev pub happened_block : CoreParts → Happened → List ℕ
 happened_block parts (Left k passed) = passed_text parts passed
 happened_block parts _ = []
 
@@ -71,7 +71,7 @@ entered_after n (Entered number) = n + 1
 entered_after n _ = n
 
 -- Of a drive in which n events had entered, the step did just this: what happened is its text, and the pipe stands where the drive is then.
-pub record Did (parts : Parts) (scene : Scene) (n : ℕ) (done : Done) (h : Happened) (pipe : PipeParts) : Type 0 where
+pub record Did (parts : CoreParts) (scene : Scene) (n : ℕ) (done : Done) (h : Happened) (pipe : PipeParts) : Type 0 where
   pub text : happened_text parts h ≡ done.text
   pub block : happened_block parts h ≡ done.block
   pub stage : happened_at h ≡ done.stage

@@ -4,7 +4,7 @@ use Rattle.std.specs.List.{AllByRecursion}
 use Rattle.lucid_base.specs.Cells.{row_of, zero_cells}
 use Rattle.lucid_conf.specs.declared.scene.Scene.{Scene}
 use Rattle.lucid_core.specs.Fits.{cells_fit, event_fits}
-use Rattle.lucid_core.specs.Parts.{Parts}
+use Rattle.lucid_core.specs.Parts.{CoreParts}
 use Rattle.lucid_core.specs.Step.{Entry}
 use Rattle.lucid_pipe.specs.Packets.{Packet, entering, sent_by}
 use Rattle.lucid_pipe.specs.Pipe.{PipeParts}
@@ -27,7 +27,7 @@ abbrev pub gone_of : Packet → Gone
 gone_of p = record { entry = record { now = p.now; me = p.me; event = p.event }; outs = sent_by p.outs }
 
 -- The cells by stage are those of cells that fit the program, and an array that stands in no stage holds 0.
-pub record IsGood (placed : PlacedParts) (parts : Parts) (cs : List Cells) : Type 0 where
+pub record IsGood (placed : PlacedParts) (parts : CoreParts) (cs : List Cells) : Type 0 where
   pub all : Cells
   pub fit : IsTrue (cells_fit parts all)
   pub parted : cs ≡ owns placed.stages all
@@ -35,17 +35,17 @@ pub record IsGood (placed : PlacedParts) (parts : Parts) (cs : List Cells) : Typ
   pub rest : (g : ℕ) → stage_of placed.stages g ≡ None → row_of all g ≡ row_of (zero_cells placed.code.arrays) g
 
 -- What is asked of an event that enters.
-pub record Fits (parts : Parts) (e : Entry) : Type 0 where
+pub record Fits (parts : CoreParts) (e : Entry) : Type 0 where
   pub event : IsTrue (event_fits parts e.event)
   pub id : e.event.id < 2 ^ 32
   pub now : e.now < 2 ^ 64
   pub me : e.me < 2 ^ 32
 
-abbrev pub drive_of : Parts → PipeParts → Scene → Drive
+abbrev pub drive_of : CoreParts → PipeParts → Scene → Drive
 drive_of parts pipe scene = record { parts = parts; stages = pipe.placed.stages; scene = scene }
 
 -- The pipe's code stands for the program, and the pipe is what the events that entered and the packets that passed make of an empty one.
-pub record IsAt (parts : Parts) (scene : Scene) (p : Progress) (pipe : PipeParts) : Type 0 where
+pub record IsAt (parts : CoreParts) (scene : Scene) (p : Progress) (pipe : PipeParts) : Type 0 where
   pub stands_for : StandsFor pipe.placed.code parts
   pub arrays : pipe.placed.code.arrays ≡ parts.arrays
   pub long : length pipe.slots ≡ length pipe.placed.stages

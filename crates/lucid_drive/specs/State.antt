@@ -3,7 +3,7 @@ use Rattle.std.specs.Prelude.{◌≡◌, ℕ, suc, ◌-◌, ◌<◌, ◌≤◌, 
 use Rattle.std.specs.Option.{option_map_or}
 use Rattle.lucid_conf.specs.Kept.{IsScene}
 use Rattle.lucid_conf.specs.declared.scene.Scene.{Scene}
-use Rattle.lucid_core.specs.Parts.{Parts}
+use Rattle.lucid_core.specs.Parts.{CoreParts}
 use Rattle.lucid_normal_form.specs.Stands.{StandsFor}
 use Rattle.lucid_pipe.specs.Pipe.{PipeParts, empty_pipe, packet_at}
 use Rattle.lucid_tables.specs.Placed.{PlacedParts}
@@ -39,7 +39,7 @@ moves_after (Some k) moves = suc moves
 
 -- The pipe stands where the steps that are done and so many moves of the oldest packet bring it. The oldest moves only once all steps are
 -- done, and no call failed.
-pub record StandsAfter (parts : Parts) (scene : Scene) (s : DriveState) (moves : ℕ) (pipe : PipeParts) : Type 0 where
+pub record StandsAfter (parts : CoreParts) (scene : Scene) (s : DriveState) (moves : ℕ) (pipe : PipeParts) : Type 0 where
   pub kept : IsScene parts scene
   pub sound : s.failed ≡ false
   pub done : s.done ≤ length scene.steps
@@ -49,7 +49,7 @@ pub record StandsAfter (parts : Parts) (scene : Scene) (s : DriveState) (moves :
   pub is : IsAt parts scene (progress_at (drive_of parts pipe scene) s.done moves) pipe
 
 -- The pipe stands at the state, for some number of moves.
-pub record StandsAt (parts : Parts) (scene : Scene) (s : DriveState) (pipe : PipeParts) : Type 0 where
+pub record StandsAt (parts : CoreParts) (scene : Scene) (s : DriveState) (pipe : PipeParts) : Type 0 where
   pub moves : ℕ
   pub after : StandsAfter parts scene s moves pipe
 
@@ -60,5 +60,5 @@ IsEmpty pipe = (k : ℕ) → packet_at pipe k ≡ None
 -- A pipe without packets in which all cells are 0 stands at a new state, where its code stands for the program and has its arrays.
 abbrev pub NewStands : Type 0
 NewStands =
-    (parts : Parts) (scene : Scene) (placed : PlacedParts) → IsScene parts scene → StandsFor placed.code parts → placed.code.arrays ≡ parts.arrays →
+    (parts : CoreParts) (scene : Scene) (placed : PlacedParts) → IsScene parts scene → StandsFor placed.code parts → placed.code.arrays ≡ parts.arrays →
     StandsAfter parts scene (record { done = 0; flushed = 0; entered = 0; failed = false }) 0 (empty_pipe placed)

@@ -4,7 +4,7 @@ use Rattle.std.proofs.Math.Nat.{mul-le-mul_left}
 use Rattle.lucid_core.specs.declared.body.Stmt.{Stmt}
 use Rattle.lucid_core.specs.declared.defs.FunDef.{FunDef}
 use Rattle.lucid_core.specs.declared.defs.HandlerDef.{HandlerDef}
-use Rattle.lucid_core.specs.Parts.{Parts}
+use Rattle.lucid_core.specs.Parts.{CoreParts}
 use Rattle.lucid_core.specs.Valid.{IsSound}
 use Rattle.lucid_effects_order.specs.Evaluation.{body_walk}
 use Rattle.lucid_effects_order.specs.Size.{fun_nodes, handler_nodes, nodes, size, total}
@@ -35,7 +35,7 @@ spent k start old new before nodes after h one is =
 all_spent : (k start new part whole : ℕ) → new ≤ start + part * k → part ≤ whole → new ≤ start + whole * k
 all_spent k start new part whole h le = let m : k * part ≤ k * whole = mul-le-mul_left k le in omega (arith, h, m)
 
-module _ (parts : Parts) (sound : IsSound parts) (n start old new : ℕ) (ss : List Scheme) (i : ℕ) (counted : length parts.arrays ≡ n) where
+module _ (parts : CoreParts) (sound : IsSound parts) (n start old new : ℕ) (ss : List Scheme) (i : ℕ) (counted : length parts.arrays ≡ n) where
   fast : (funs : List FunDef) (body stmts : List Stmt) → TakesFewSteps (length parts.arrays) funs body → ss ≡ schemes_of funs → stmts ≡ body → new ≤ (body_found stmts ss (begun old)).steps →
       new ≤ old + (1 + body_walk size body) * steps_a_node n
   fast funs body stmts few known is most =
@@ -71,7 +71,7 @@ pub handlers_spent : (k start new i : ℕ) (handlers : List HandlerDef) → new 
 handlers_spent k start new i handlers h = all_spent k start new (handler_nodes (take i handlers)) (handler_nodes handlers) h (total_least (λ (g : HandlerDef). 1 + body_walk size g.body) handlers i)
 
 -- Of a program.
-module _ (parts : Parts) (start mid : ℕ) (funs : List FunDef) (own : parts.funs ≡ funs) (n : ℕ) (counted : length parts.arrays ≡ n) (first : mid ≤ start + fun_nodes funs * steps_a_node n) where
+module _ (parts : CoreParts) (start mid : ℕ) (funs : List FunDef) (own : parts.funs ≡ funs) (n : ℕ) (counted : length parts.arrays ≡ n) (first : mid ≤ start + fun_nodes funs * steps_a_node n) where
   first_here : mid ≤ start + fun_nodes parts.funs * steps_a_node (length parts.arrays)
   first_here = subst (λ (fs : List FunDef). mid ≤ start + fun_nodes fs * steps_a_node (length parts.arrays)) (sym own) (subst (λ m. mid ≤ start + fun_nodes funs * steps_a_node m) (sym counted) first)
 

@@ -1,5 +1,5 @@
 -- What a refusal of the check tells of a program.
-use Rattle.lucid_core.specs.Parts.{Parts}
+use Rattle.lucid_core.specs.Parts.{CoreParts}
 use Rattle.std.specs.Prelude.{length}
 use Rattle.lucid_effects_order.specs.Order.{bodies}
 use Rattle.lucid_effects.specs.First.{IsRefusedFirst}
@@ -7,6 +7,6 @@ use Rattle.lucid_effects.specs.declared.error.OrderError.{OrderError}
 use Rattle.lucid_effects.specs.declared.error.OrderError.TheVariants.{NoOrder, Memory}
 
 -- The first declaration that isn't in order, with a cycle. Want of memory tells nothing.
-abbrev pub Tells : Parts → OrderError → Type 0
+abbrev pub Tells : CoreParts → OrderError → Type 0
 Tells parts (NoOrder decl cycle) = IsRefusedFirst (length parts.arrays) (bodies parts) decl cycle.items
 Tells parts Memory = Unit {0}

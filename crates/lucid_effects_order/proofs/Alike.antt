@@ -5,7 +5,7 @@ use Rattle.std.proofs.lemmas.List.{length-map}
 use Rattle.lucid_base.specs.declared.array.ArrayName.TheVariants.{Global, Param}
 use Rattle.lucid_core.specs.declared.body.Stmt.{Stmt}
 use Rattle.lucid_core.specs.Names.{stmt_names}
-use Rattle.lucid_core.specs.Parts.{Parts}
+use Rattle.lucid_core.specs.Parts.{CoreParts}
 use Rattle.lucid_core.specs.Scope.{Scope, each, handler_scope}
 use Rattle.lucid_core.specs.Valid.{IsSound}
 use Rattle.lucid_core.proofs.WidthLists.{passes_at}
@@ -48,10 +48,10 @@ body_alike s fs all N M agree ss named c =
     same_ends (body_end ss fs N c) (body_end ss fs M c) (body_keeps Same same_max s fs all N M there ss named c c refl) (body_keeps Same same_max s fs all M N back ss named c c refl)
 
 -- It holds of all functions of a program.
-pub funs_alike : (parts : Parts) → IsSound parts → AllTransfer Same (length (map (λ a. a.width) parts.arrays)) (o.ends_of parts.funs)
+pub funs_alike : (parts : CoreParts) → IsSound parts → AllTransfer Same (length (map (λ a. a.width) parts.arrays)) (o.ends_of parts.funs)
 funs_alike parts sound = all_transfer Same same_max parts (and_parts _ _ (and_parts _ _ sound.names).0).0
 
-pub handlers_alike : (parts : Parts) → IsSound parts → EndsTurnOnDeclared parts
+pub handlers_alike : (parts : CoreParts) → IsSound parts → EndsTurnOnDeclared parts
 handlers_alike parts sound k h is N M agree c =
     let bodies = and_parts _ _ (and_parts _ _ sound.names).0 in
     let named = passes_at (λ g. each (map stmt_names g.body) (handler_scope parts g)) parts.handlers k h bodies.1 is in

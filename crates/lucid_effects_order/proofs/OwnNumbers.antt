@@ -5,7 +5,7 @@ use Rattle.std.proofs.lemmas.List.{length-map}
 use Rattle.lucid_base.specs.declared.array.ArrayName.TheVariants.{Global}
 use Rattle.lucid_core.specs.declared.defs.HandlerDef.{HandlerDef}
 use Rattle.lucid_core.specs.Names.{names_are_there, stmt_names}
-use Rattle.lucid_core.specs.Parts.{Parts}
+use Rattle.lucid_core.specs.Parts.{CoreParts}
 use Rattle.lucid_core.specs.Scope.{each, handler_scope}
 use Rattle.lucid_core.specs.Valid.{IsSound}
 use Rattle.lucid_core.proofs.WidthLists.{passes_at}
@@ -39,7 +39,7 @@ module _ (n : ℕ) (N : Numbering) (rises : Rises n N) where
   call_by_number i l c d r le = (r i l le, λ a _ h. behind i a l h)
 
 -- The derivation by own numbers, of a handler that is in order.
-pub by_own_numbers : (parts : Parts) → names_are_there parts ≡ true → (k : ℕ) (h : HandlerDef) → slice_get parts.handlers k ≡ Some h → InOrder (length parts.arrays) parts.funs h.body →
+pub by_own_numbers : (parts : CoreParts) → names_are_there parts ≡ true → (k : ℕ) (h : HandlerDef) → slice_get parts.handlers k ≡ Some h → InOrder (length parts.arrays) parts.funs h.body →
     (end : ℕ) × Derives parts.funs own_numbers 0 h.body end
 by_own_numbers parts names k h is order =
     let n = length parts.arrays in
@@ -52,5 +52,5 @@ by_own_numbers parts names k h is order =
     (record { first = call 0 (omega arith); declared = λ i l. call i (omega arith); given = λ i l. absurd (omega arith) }) h.body named 0 0 (λ a l _. omega arith) order.end order.derived in
     (found.0, found.1)
 
-pub own_numbers_decide : (parts : Parts) → IsSound parts → OwnNumbersDecide parts
+pub own_numbers_decide : (parts : CoreParts) → IsSound parts → OwnNumbersDecide parts
 own_numbers_decide parts sound k h is = (by_own_numbers parts sound.names k h is, λ found. record { numbering = own_numbers; rises = λ a b l _. l; end = found.0; derived = found.1 })

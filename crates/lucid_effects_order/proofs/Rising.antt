@@ -5,7 +5,7 @@ use Rattle.std.proofs.lemmas.List.Elements.{All-contains, Contains-append_right}
 use Rattle.lucid_core.specs.declared.defs.EventDef.{EventDef}
 use Rattle.lucid_core.specs.declared.defs.HandlerDef.{HandlerDef}
 use Rattle.lucid_core.specs.Acts.{array_of, begun_with}
-use Rattle.lucid_core.specs.Parts.{Parts}
+use Rattle.lucid_core.specs.Parts.{CoreParts}
 use Rattle.lucid_core.specs.Step.{handled, started, taken_at, touches}
 use Rattle.lucid_core.specs.Valid.{IsSound}
 use Rattle.lucid_effects_order.specs.Laws.{RisesAlong, TouchesFollowPaths, TouchesRise, own_numbers}
@@ -36,14 +36,14 @@ among f (y ∷ ys) zero x is = let e : y ≡ x = cc in (0, omega arith, ap f e)
 among f (y ∷ ys) (suc k) x is = let rest = among f ys k x is in let within = rest.1 in (suc rest.0, omega arith, rest.2)
 
 -- Of an accepted program each handler is in order.
-pub handler_in_order : (parts : Parts) → IsAccepted parts → (k : ℕ) (h : HandlerDef) → slice_get parts.handlers k ≡ Some h → InOrder (length parts.arrays) parts.funs h.body
+pub handler_in_order : (parts : CoreParts) → IsAccepted parts → (k : ℕ) (h : HandlerDef) → slice_get parts.handlers k ≡ Some h → InOrder (length parts.arrays) parts.funs h.body
 handler_in_order parts accepted k h is =
     let body : HandlerDef → Body = λ g. record { decl = g.decl; funs = parts.funs; body = g.body } in
     All-contains (λ b. InOrder (length parts.arrays) b.funs b.body) (bodies parts) (body h) accepted
     (Contains-append_right (fun_bodies [] parts.funs) (map body parts.handlers) (body h) (among body parts.handlers k h is))
 
 -- A handler that is run calls one of its paths.
-handler_along : (parts : Parts) (h : HandlerDef) (cells : List (List ℕ)) (now me : ℕ) (args : List ℕ) → Member (handled (Some h) parts cells now me args).calls (map (map (array_of [])) (paths parts.funs h.body))
+handler_along : (parts : CoreParts) (h : HandlerDef) (cells : List (List ℕ)) (now me : ℕ) (args : List ℕ) → Member (handled (Some h) parts cells now me args).calls (map (map (array_of [])) (paths parts.funs h.body))
 handler_along parts h cells now me args = runs_along now me [] parts.funs h.body (started cells (begun_with (taken_at h.locals args) h.locals))
 
 pub touches_follow_paths : TouchesFollowPaths
@@ -52,7 +52,7 @@ touches_follow_paths parts cells now me event h is =
     let along = map (map (array_of [])) (paths parts.funs h.body) in
     contains (touches parts cells now me event) along (subst (λ (o : Option HandlerDef). Member (calls o) along) (sym is) (handler_along parts h cells now me event.args))
 
-handler_rises : (parts : Parts) → IsSound parts → (k : ℕ) (h : HandlerDef) → slice_get parts.handlers k ≡ Some h → InOrder (length parts.arrays) parts.funs h.body →
+handler_rises : (parts : CoreParts) → IsSound parts → (k : ℕ) (h : HandlerDef) → slice_get parts.handlers k ≡ Some h → InOrder (length parts.arrays) parts.funs h.body →
     (cells : List (List ℕ)) (now me : ℕ) (args : List ℕ) → AllPairs (λ a b. a < b) (handled (Some h) parts cells now me args).calls
 handler_rises parts sound k h is order cells now me args =
     let ps = paths parts.funs h.body in
@@ -60,7 +60,7 @@ handler_rises parts sound k h is order cells now me args =
     let path = of_map (map (array_of [])) (handled (Some h) parts cells now me args).calls ps (handler_along parts h cells now me args) in
     subst (λ (xs : List ℕ). AllPairs (λ a b. a < b) xs) path.2 (path_rises 0 path.0 (All-contains (RisesAlong own_numbers 0) ps path.0 rises (contains path.0 ps path.1)))
 
-pub touches_rise : (parts : Parts) → IsSound parts → IsAccepted parts → TouchesRise parts
+pub touches_rise : (parts : CoreParts) → IsSound parts → IsAccepted parts → TouchesRise parts
 touches_rise parts sound accepted cells now me event = at (option_and_then (λ (e : EventDef). e.handler) (slice_get parts.events event.id))
   where
     none : AllPairs (λ a b. a < b) []

@@ -9,7 +9,7 @@ use Rattle.lucid_base.specs.declared.array.ArrayName.TheVariants.{Global, Param}
 use Rattle.lucid_core.specs.declared.body.Stmt.{Stmt}
 use Rattle.lucid_core.specs.declared.defs.FunDef.{FunDef}
 use Rattle.lucid_core.specs.Names.{is_array, stmt_names}
-use Rattle.lucid_core.specs.Parts.{Parts}
+use Rattle.lucid_core.specs.Parts.{CoreParts}
 use Rattle.lucid_core.specs.Scope.{Scope, each, fun_scope, funs_pass}
 use Rattle.lucid_effects_order.specs.Ends as o
 use Rattle.lucid_effects_order.specs.Ends.{End, FunEnd, Numbering, ◌⨾◌, larger, body_end, expr_end, stmt_end, touch_end}
@@ -97,13 +97,13 @@ module _ (R : ℕ → ℕ → Type 0) (joins : (c d e f : ℕ) → R c d → R e
     body_keeps = within s o.ends (λ f. Transfers R (f fs N) (f fs M)) still keep_then keep_larger passes_keep (λ k names h. found_keeps names h fs ok k) (λ f h. h)
 
   -- Functions, each behind those before it.
-  abbrev fun_named : Parts → List FunDef → FunDef → Bool
+  abbrev fun_named : CoreParts → List FunDef → FunDef → Bool
   fun_named parts before f = each (map stmt_names f.body) (fun_scope parts before f)
 
-  abbrev width_count : Parts → ℕ
+  abbrev width_count : CoreParts → ℕ
   width_count parts = length (map (λ a. a.width) parts.arrays)
 
-  funs_transfer : (parts : Parts) (before : List FunDef) (ends : List FunEnd) (fs : List FunDef) → AllTransfer R (width_count parts) ends → funs_pass (fun_named parts) before fs ≡ true →
+  funs_transfer : (parts : CoreParts) (before : List FunDef) (ends : List FunEnd) (fs : List FunDef) → AllTransfer R (width_count parts) ends → funs_pass (fun_named parts) before fs ≡ true →
       AllTransfer R (width_count parts) (fold (λ known f. known ++ body_end f.body known ∷ []) ends fs)
   funs_transfer parts before ends [] all h = all
   funs_transfer parts before ends (f ∷ fs) all h =
@@ -111,5 +111,5 @@ module _ (R : ℕ → ℕ → Type 0) (joins : (c d e f : ℕ) → R c d → R e
       let one : FunTransfers R (width_count parts) (body_end f.body ends) = record { is = λ N M related. body_keeps (fun_scope parts before f) ends all N M (related (length f.arrays)) f.body both.0 } in
       funs_transfer parts (before ++ f ∷ []) (ends ++ body_end f.body ends ∷ []) fs (one_more R (width_count parts) ends (body_end f.body ends) all one) both.1
 
-  pub all_transfer : (parts : Parts) → funs_pass (fun_named parts) [] parts.funs ≡ true → AllTransfer R (width_count parts) (o.ends_of parts.funs)
+  pub all_transfer : (parts : CoreParts) → funs_pass (fun_named parts) [] parts.funs ≡ true → AllTransfer R (width_count parts) (o.ends_of parts.funs)
   all_transfer parts h = funs_transfer parts [] [] parts.funs tt h

@@ -7,7 +7,7 @@ use Rattle.lucid_core.specs.declared.body.Stmt.{Stmt}
 use Rattle.lucid_core.specs.declared.defs.FunDef.{FunDef}
 use Rattle.lucid_core.specs.declared.defs.HandlerDef.{HandlerDef}
 use Rattle.lucid_core.specs.Acts.{array_of}
-use Rattle.lucid_core.specs.Parts.{Parts}
+use Rattle.lucid_core.specs.Parts.{CoreParts}
 use Rattle.lucid_core.specs.Step.{handler_of, touches}
 use Rattle.lucid_effects_order.specs.Cycle.{IsCycle}
 use Rattle.lucid_effects_order.specs.Ends.{Numbering, Derives, body_end, ends_of}
@@ -15,7 +15,7 @@ use Rattle.lucid_effects_order.specs.Order.{InOrder}
 use Rattle.lucid_effects_order.specs.Paths.{Path, paths}
 
 -- Every event calls each array at most once, in the order of their declarations.
-abbrev pub TouchesRise : Parts → Type 0
+abbrev pub TouchesRise : CoreParts → Type 0
 TouchesRise parts = (cells : List (List ℕ)) (now me : ℕ) (event : Event) → AllPairs (λ a b. a < b) (touches parts cells now me event)
 
 -- Each declared array has its own number.
@@ -23,7 +23,7 @@ abbrev pub own_numbers : Numbering
 own_numbers = array_of []
 
 -- A handler is in order exactly where its body has a derivation with each array's own number.
-abbrev pub OwnNumbersDecide : Parts → Type 0
+abbrev pub OwnNumbersDecide : CoreParts → Type 0
 OwnNumbersDecide parts = (k : ℕ) (h : HandlerDef) → slice_get parts.handlers k ≡ Some h →
     InOrder (length parts.arrays) parts.funs h.body ↔ ((end : ℕ) × Derives parts.funs own_numbers 0 h.body end)
 
@@ -34,7 +34,7 @@ pub record Agree (arrays params : ℕ) (N M : Numbering) : Type 0 where
   pub given : (i : ℕ) → i < params → N (Param i) ≡ M (Param i)
 
 -- Where a handler ends turns on the numbers of the declared arrays alone.
-abbrev pub EndsTurnOnDeclared : Parts → Type 0
+abbrev pub EndsTurnOnDeclared : CoreParts → Type 0
 EndsTurnOnDeclared parts = (k : ℕ) (h : HandlerDef) → slice_get parts.handlers k ≡ Some h → (N M : Numbering) → Agree (length parts.arrays) 0 N M →
     (c : ℕ) → body_end h.body (ends_of parts.funs) N c ≡ body_end h.body (ends_of parts.funs) M c
 
@@ -63,5 +63,5 @@ CyclesRefuse = (arrays : ℕ) (funs : List FunDef) (body : List Stmt) (first : A
 
 -- What an event calls is one of the paths of its handler.
 abbrev pub TouchesFollowPaths : Type 0
-TouchesFollowPaths = (parts : Parts) (cells : List (List ℕ)) (now me : ℕ) (event : Event) (h : HandlerDef) → handler_of parts event.id ≡ Some h →
+TouchesFollowPaths = (parts : CoreParts) (cells : List (List ℕ)) (now me : ℕ) (event : Event) (h : HandlerDef) → handler_of parts event.id ≡ Some h →
     Contains (map (map (array_of [])) (paths parts.funs h.body)) (touches parts cells now me event)

@@ -4,7 +4,7 @@ use Rattle.lucid_constraints.specs.Cycle.{Rises}
 use Rattle.lucid_core.specs.declared.body.Stmt.{Stmt}
 use Rattle.lucid_core.specs.declared.defs.FunDef.{FunDef}
 use Rattle.lucid_core.specs.declared.defs.HandlerDef.{HandlerDef}
-use Rattle.lucid_core.specs.Parts.{Parts}
+use Rattle.lucid_core.specs.Parts.{CoreParts}
 use Rattle.lucid_effects_order.specs.Ends.{Numbering, Derives}
 
 -- Behind these functions, some numbering that rises along so many declared arrays derives the body from place 0.
@@ -30,9 +30,9 @@ abbrev pub handler_bodies : List FunDef → List HandlerDef → List Body
 handler_bodies funs handlers = map (λ h. record { decl = h.decl; funs = funs; body = h.body }) handlers
 
 -- Of all functions and handlers.
-abbrev pub bodies : Parts → List Body
+abbrev pub bodies : CoreParts → List Body
 bodies parts = fun_bodies [] parts.funs ++ handler_bodies parts.funs parts.handlers
 
 -- All functions and handlers are in order. A function is judged by itself, whether it is called or not.
-abbrev pub IsAccepted : Parts → Type 0
+abbrev pub IsAccepted : CoreParts → Type 0
 IsAccepted parts = All (λ b. InOrder (length parts.arrays) b.funs b.body) (bodies parts)

@@ -1,7 +1,7 @@
 -- What a refusal tells.
 use Rattle.std.specs.Prelude.{ℕ, ◌<◌, ◌≡◌, List, All, Contains, length}
 use Rattle.lucid_base.specs.declared.array.ArrayName.{ArrayName}
-use Rattle.lucid_core.specs.Parts.{Parts}
+use Rattle.lucid_core.specs.Parts.{CoreParts}
 use Rattle.lucid_effects_order.specs.Cycle.{IsCycle}
 use Rattle.lucid_effects_order.specs.Order.{Body, InOrder, bodies}
 use Rattle.lucid_effects_order.specs.Paths.{paths}
@@ -16,5 +16,5 @@ pub record IsFirstOf (arrays : ℕ) (bs : List Body) (decl : ℕ) (first : Array
   pub none_before : All (λ b. b.decl < decl → InOrder arrays b.funs b.body) bs
 
 -- Of a program, so of all its bodies.
-abbrev pub IsFirstRefused : Parts → ℕ → ArrayName → List ArrayName → Type 0
+abbrev pub IsFirstRefused : CoreParts → ℕ → ArrayName → List ArrayName → Type 0
 IsFirstRefused parts decl first others = IsFirstOf (length parts.arrays) (bodies parts) decl first others

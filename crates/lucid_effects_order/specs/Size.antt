@@ -6,7 +6,7 @@ use Rattle.lucid_core.specs.declared.body.Expr.TheFolds.{fold-Stmt}
 use Rattle.lucid_core.specs.declared.defs.FunDef.{FunDef}
 use Rattle.lucid_core.specs.declared.defs.HandlerDef.{HandlerDef}
 use Rattle.lucid_core.specs.Children.{expr_children, stmt_children, touch_children}
-use Rattle.lucid_core.specs.Parts.{Parts}
+use Rattle.lucid_core.specs.Parts.{CoreParts}
 use Rattle.lucid_effects_order.specs.Evaluation.{Walk, body_walk}
 
 abbrev pub total : List ℕ → ℕ
@@ -24,7 +24,7 @@ fun_nodes funs = total (map (λ f. 1 + body_walk size f.body) funs)
 abbrev pub handler_nodes : List HandlerDef → ℕ
 handler_nodes handlers = total (map (λ h. 1 + body_walk size h.body) handlers)
 
-abbrev pub nodes : Parts → ℕ
+abbrev pub nodes : CoreParts → ℕ
 nodes parts = fun_nodes parts.funs + handler_nodes parts.handlers
 
 -- In a flat program only statements and calls with their bodies put in count.
@@ -42,5 +42,5 @@ abbrev pub flat_stmt_size : Stmt → ℕ
 flat_stmt_size = fold-Stmt ℕ ℕ ℕ flat_expr stmt_step flat_touch
 
 -- The size of a flat program: the statements of its handlers and their calls with bodies put in, those within such bodies too.
-abbrev pub flat_size : Parts → ℕ
+abbrev pub flat_size : CoreParts → ℕ
 flat_size parts = total (map (λ h. total (map flat_stmt_size h.body)) parts.handlers)

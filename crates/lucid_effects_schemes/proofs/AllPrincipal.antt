@@ -2,7 +2,7 @@
 use Rattle.std.proofs.Common.{◌≡◌, List, [], ◌∷◌, ◌++◌, fold, refl, sym, ap, subst, ◌∙◌, append-nil, append_assoc}
 use Rattle.lucid_core.specs.declared.defs.FunDef.{FunDef}
 use Rattle.lucid_core.specs.declared.defs.HandlerDef.{HandlerDef}
-use Rattle.lucid_core.specs.Parts.{Parts}
+use Rattle.lucid_core.specs.Parts.{CoreParts}
 use Rattle.lucid_effects_order.specs.Order.{Body, bodies, fun_bodies, handler_bodies}
 use Rattle.lucid_effects_schemes.specs.declared.scheme.Scheme.{Scheme}
 use Rattle.lucid_effects_schemes.specs.Principal.{ArePrincipal}
@@ -42,7 +42,7 @@ both [] cs (s ∷ ss) ts h k = absurd h
 both (b ∷ bs) cs [] ts h k = absurd h
 both (b ∷ bs) cs (s ∷ ss) ts h k = (h.0, both bs cs ss ts h.1 k)
 
-pub all_principal : (parts : Parts) → ArePrincipal (bodies parts) (all_schemes parts)
+pub all_principal : (parts : CoreParts) → ArePrincipal (bodies parts) (all_schemes parts)
 all_principal parts =
     let funs = parts.funs in
     both (fun_bodies [] funs) (handler_bodies funs parts.handlers) (schemes_of funs) (handler_schemes (schemes_of funs) parts.handlers)

@@ -11,7 +11,7 @@ use Rattle.lucid_core.specs.declared.body.Stmt.{Stmt}
 use Rattle.lucid_core.specs.Names.{is_array, stmt_names}
 use Rattle.lucid_core.specs.declared.defs.FunDef.{FunDef}
 use Rattle.lucid_core.specs.declared.defs.HandlerDef.{HandlerDef}
-use Rattle.lucid_core.specs.Parts.{Parts}
+use Rattle.lucid_core.specs.Parts.{CoreParts}
 use Rattle.lucid_core.specs.Scope.{Scope, each, fun_scope, funs_pass, handler_scope}
 use Rattle.lucid_core.specs.Valid.{IsSound}
 use Rattle.lucid_core.proofs.Static.{funs_pass-at}
@@ -181,16 +181,16 @@ module _ (n : ℕ) (fs : List Scheme) (known : Each (SchemeIn n) fs) (s : Scope)
       let some = enough n in
       omega (arith, most, both, some)
 
-abbrev fun_named : Parts → List FunDef → FunDef → Bool
+abbrev fun_named : CoreParts → List FunDef → FunDef → Bool
 fun_named parts before f = each (map stmt_names f.body) (fun_scope parts before f)
 
 abbrev few_params : FunDef → Bool
 few_params f = nat_le (length f.arrays) 8 && nat_le f.params 8
 
-counted : (parts : Parts) → length (map (λ a. a.width) parts.arrays) ≤ length parts.arrays
+counted : (parts : CoreParts) → length (map (λ a. a.width) parts.arrays) ≤ length parts.arrays
 counted parts = let e : length (map (λ a. a.width) parts.arrays) ≡ length parts.arrays = length-map parts.arrays (λ a. a.width) in omega arith
 
-funs_in : (parts : Parts) (before : List FunDef) (done : List Scheme) (fs : List FunDef) (i : ℕ) → Each (SchemeIn (length parts.arrays)) done → funs_pass (fun_named parts) before fs ≡ true → list_all few_params fs ≡ true →
+funs_in : (parts : CoreParts) (before : List FunDef) (done : List Scheme) (fs : List FunDef) (i : ℕ) → Each (SchemeIn (length parts.arrays)) done → funs_pass (fun_named parts) before fs ≡ true → list_all few_params fs ≡ true →
     Each (SchemeIn (length parts.arrays)) (fold (λ ss f. ss ++ scheme_of ss f.body ∷ []) done (take i fs))
 funs_in parts before done [] zero known named few = known
 funs_in parts before done [] (suc i) known named few = known
@@ -207,16 +207,16 @@ funs_in parts before done (f ∷ fs) (suc i) known named few =
     each_push (x ∷ ss) s h last = (h.0, each_push ss s h.1 last)
 
 -- What the rules say of the names in bodies, and of the array parameters.
-names_of : (parts : Parts) → IsSound parts → (funs_pass (fun_named parts) [] parts.funs ≡ true) × (list_all (λ (g : HandlerDef). each (map stmt_names g.body) (handler_scope parts g)) parts.handlers ≡ true)
+names_of : (parts : CoreParts) → IsSound parts → (funs_pass (fun_named parts) [] parts.funs ≡ true) × (list_all (λ (g : HandlerDef). each (map stmt_names g.body) (handler_scope parts g)) parts.handlers ≡ true)
 names_of parts sound = and_parts _ _ (and_parts _ _ sound.names).0
 
-params_of : (parts : Parts) → IsSound parts → list_all few_params parts.funs ≡ true
+params_of : (parts : CoreParts) → IsSound parts → list_all few_params parts.funs ≡ true
 params_of parts sound = (and_parts _ _ sound.declarations).1
 
-behind : (parts : Parts) → IsSound parts → (k : ℕ) → Each (SchemeIn (length parts.arrays)) (schemes_of (take k parts.funs))
+behind : (parts : CoreParts) → IsSound parts → (k : ℕ) → Each (SchemeIn (length parts.arrays)) (schemes_of (take k parts.funs))
 behind parts sound k = funs_in parts [] [] parts.funs k tt (names_of parts sound).0 (params_of parts sound)
 
-pub walks_are_short : (parts : Parts) → IsSound parts → WalksAreShort parts
+pub walks_are_short : (parts : CoreParts) → IsSound parts → WalksAreShort parts
 walks_are_short parts sound = record {
   functions = λ k f is.
       let params = leb-true (length f.arrays) 8 (and_parts _ _ (passes_at few_params parts.funs k f (params_of parts sound) is)).0 in

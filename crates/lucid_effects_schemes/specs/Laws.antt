@@ -4,7 +4,7 @@ use Rattle.lucid_base.specs.declared.array.ArrayName.{ArrayName}
 use Rattle.lucid_core.specs.declared.body.Stmt.{Stmt}
 use Rattle.lucid_core.specs.declared.defs.FunDef.{FunDef}
 use Rattle.lucid_core.specs.declared.defs.HandlerDef.{HandlerDef}
-use Rattle.lucid_core.specs.Parts.{Parts}
+use Rattle.lucid_core.specs.Parts.{CoreParts}
 use Rattle.lucid_constraints.specs.Cycle.{HasNumbering, Needed}
 use Rattle.lucid_constraints.specs.Cycle as c
 use Rattle.lucid_effects_order.specs.Cycle.{IsCycle}
@@ -17,7 +17,7 @@ use Rattle.lucid_effects_schemes.specs.Schemes.{all_schemes, begun, body_found, 
 
 -- The scheme of each function and handler is principal.
 abbrev pub SchemesArePrincipal : Type 0
-SchemesArePrincipal = (parts : Parts) → ArePrincipal (bodies parts) (all_schemes parts)
+SchemesArePrincipal = (parts : CoreParts) → ArePrincipal (bodies parts) (all_schemes parts)
 
 -- Where the pairs of a scheme have a numbering its body is in order, and a cycle of the pairs is a cycle of the body's paths.
 abbrev pub CyclesTell : Type 0
@@ -36,6 +36,6 @@ TakesFewSteps arrays funs body = (steps : ℕ) →
     (body_found body (schemes_of funs) (begun steps)).steps ≤ steps + (1 + body_walk size body) * steps_a_node arrays
 
 -- So it is of all functions and handlers, though their derivations may be exponentially large.
-pub record WalksAreShort (parts : Parts) : Type 0 where
+pub record WalksAreShort (parts : CoreParts) : Type 0 where
   pub functions : (k : ℕ) (f : FunDef) → slice_get parts.funs k ≡ Some f → TakesFewSteps (length parts.arrays) (take k parts.funs) f.body
   pub handlers : (k : ℕ) (h : HandlerDef) → slice_get parts.handlers k ≡ Some h → TakesFewSteps (length parts.arrays) parts.funs h.body

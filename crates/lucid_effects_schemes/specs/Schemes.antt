@@ -6,7 +6,7 @@ use Rattle.lucid_core.specs.declared.body.Stmt.{Stmt}
 use Rattle.lucid_core.specs.declared.body.Touch.{Touch}
 use Rattle.lucid_core.specs.declared.defs.FunDef.{FunDef}
 use Rattle.lucid_core.specs.declared.defs.HandlerDef.{HandlerDef}
-use Rattle.lucid_core.specs.Parts.{Parts}
+use Rattle.lucid_core.specs.Parts.{CoreParts}
 use Rattle.lucid_constraints.specs.declared.pair.Atom.{Atom}
 use Rattle.lucid_constraints.specs.declared.pair.Atom.TheVariants.{Start, After}
 use Rattle.lucid_constraints.specs.declared.pair.Pair.{Pair}
@@ -98,5 +98,5 @@ abbrev pub handler_schemes : List Scheme → List HandlerDef → List Scheme
 handler_schemes fs handlers = map (λ h. scheme_of fs h.body) handlers
 
 -- Of all functions, and then of all handlers.
-abbrev pub all_schemes : Parts → List Scheme
+abbrev pub all_schemes : CoreParts → List Scheme
 all_schemes parts = schemes_of parts.funs ++ handler_schemes (schemes_of parts.funs) parts.handlers

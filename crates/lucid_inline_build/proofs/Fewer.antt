@@ -18,7 +18,7 @@ use Rattle.lucid_core.specs.Names.{expr_names, stmt_names, touch_names}
 use Rattle.lucid_core.specs.Scope.{Scope, Test, each}
 use Rattle.lucid_core.proofs.Fine.{both_pass}
 use Rattle.lucid_inline_form.specs.Flat as f
-use Rattle.lucid_inline_form.specs.Flat.{Flatten, Made, PutIn, Site, flat_expr, flat_stmt, flat_touch, put_of, puts_of, width_in}
+use Rattle.lucid_inline_form.specs.Flat.{Flatten, Flattened, PutIn, Site, flat_expr, flat_stmt, flat_touch, put_of, puts_of, width_in}
 use Rattle.lucid_inline_form.proofs.Grows.{AllGrow, expr_grows, exprs_grow, put_grows, stmts_grow}
 use Rattle.lucid_inline_form.proofs.LengthLaw.{grow_puts}
 use Rattle.lucid_inline_form.proofs.Locals.{begins_length}
@@ -28,7 +28,7 @@ use Rattle.lucid_inline_build.specs.declared.site.Site as code
 use Rattle.lucid_inline_build.proofs.Puts.{each_last, flat_of-delayed, flat_of-multi, grouped, puts_of-at}
 
 -- A part that is made before the end, and is named where the whole is.
-few_part : {A B : Type 0} {test : A → Test} {other : B → Test} {whole : Made A} {part : Made B} → length part.locals ≤ length whole.locals →
+few_part : {A B : Type 0} {test : A → Test} {other : B → Test} {whole : Flattened A} {part : Flattened B} → length part.locals ≤ length whole.locals →
     ((scope : Scope) → test whole.value scope ≡ true → other part.value scope ≡ true) → Few A test whole → Few B other part
 few_part shorter named few = let a = few.few in let b = few.locals in record { scope = few.scope; few = a; locals = omega (arith, shorter, b); names = named few.scope few.names }
 
@@ -46,10 +46,10 @@ node_names y = n.expr_step (map-Expr Expr Stmt Touch Test Test Test expr_names s
 abbrev step_names : Step → Test
 step_names y = n.stmt_step (map-Stmt Expr Stmt Touch Test Test Test expr_names stmt_names touch_names y)
 
-abbrev FewNode : Made Node → Type 0
+abbrev FewNode : Flattened Node → Type 0
 FewNode = Few Node node_names
 
-abbrev FewSteps : Made (List Step) → Type 0
+abbrev FewSteps : Flattened (List Step) → Type 0
 FewSteps = Few (List Step) (λ ys. each (map step_names ys))
 
 names_roll : (y : Node) → expr_names (roll-Expr y) ≡ node_names y
@@ -390,8 +390,8 @@ module _ (site : code.Site) where
   delayed_group event m xs d last members ws mid after first held many v l x y h few =
       let made = f.each (map flat_expr xs) p ws in
       let whole = each_last (map flat_expr xs) (flat_expr d) p ws in
-      let value : held ≡ (f.each (map flat_expr xs ++ flat_expr d ∷ []) p ws).value = h ∙ rw (x, v, l) (sym (ap (λ (q : Made (List Expr)). q.value) whole)) in
-      let locals : after ≡ (f.each (map flat_expr xs ++ flat_expr d ∷ []) p ws).locals = y ∙ rw l (sym (ap (λ (q : Made (List Expr)). q.locals) whole)) in
+      let value : held ≡ (f.each (map flat_expr xs ++ flat_expr d ∷ []) p ws).value = h ∙ rw (x, v, l) (sym (ap (λ (q : Flattened (List Expr)). q.value) whole)) in
+      let locals : after ≡ (f.each (map flat_expr xs ++ flat_expr d ∷ []) p ws).locals = y ∙ rw l (sym (ap (λ (q : Flattened (List Expr)). q.locals) whole)) in
       let room = group_room event (length (map flat_expr xs)) true members (map flat_expr xs ++ flat_expr d ∷ []) ws (delayed_few event xs d members ws few) in
       let a : length after + length held ≤ most = rw (value, locals) room in
       let long = each-length xs p ws in

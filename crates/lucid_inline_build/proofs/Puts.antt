@@ -19,7 +19,7 @@ use Rattle.lucid_core.specs.ExamplePrograms.{local}
 use Rattle.std.proofs.lemmas.List.{length-map, map-append}
 use Rattle.lucid_core.specs.declared.body.Stmt.TheVariants as s
 use Rattle.lucid_inline_build.specs.Sites.{assigned, sent}
-use Rattle.lucid_inline_form.specs.Flat.{locals_from, to_member, width_in, Flatten, Made, Site, both, each, optional, expr_step, stmt_step, touch_step, flat_expr, put_in, put_of, puts_of, flat_stmt, block}
+use Rattle.lucid_inline_form.specs.Flat.{locals_from, to_member, width_in, Flatten, Flattened, Site, both, each, optional, expr_step, stmt_step, touch_step, flat_expr, put_in, put_of, puts_of, flat_stmt, block}
 
 pub puts_of-at : (fs : List FunDef) (k : ℕ) → slice_get (puts_of fs) k ≡ option_map (λ f. put_of (puts_of (take k fs)) f) (slice_get fs k)
 puts_of-at fs k = let z : 0 + k ≡ k = omega arith in rw z at (grow-at put_of [] fs k)
@@ -82,7 +82,7 @@ none_locals fs k arrays args ws is = rw (puts_of-at fs k, is) refl
 pub each_last : (ts : List (Flatten Expr)) (t : Flatten Expr) (p : Site) (ws : List ℕ) → each (ts ++ t ∷ []) p ws ≡
     (let one = each ts p ws in let last = t p one.locals in record { value = one.value ++ last.value ∷ []; locals = last.locals })
 each_last [] t p ws = refl
-each_last (x ∷ ts) t p ws = let first = x p ws in ap (λ (m : Made (List Expr)). record { value = first.value ∷ m.value; locals = m.locals }) (each_last ts t p first.locals)
+each_last (x ∷ ts) t p ws = let first = x p ws in ap (λ (m : Flattened (List Expr)). record { value = first.value ∷ m.value; locals = m.locals }) (each_last ts t p first.locals)
 
 map-map : {A B C : Type 0} (g : A → B) (h : B → C) (xs : List A) → map h (map g xs) ≡ map (λ x. h (g x)) xs
 map-map g h [] = refl
@@ -126,8 +126,8 @@ pub delayed_is : (event n : ℕ) (xs : List Expr) (d last : Expr) (members mid a
     Grouped r us event held after n true members → IfOk r (λ ss. ss ≡ (flat_stmt (s.Multi event xs (Some d) members) p ws).value) × OnOk r (us ≡ (flat_stmt (s.Multi event xs (Some d) members) p ws).locals)
 delayed_is event n xs d last members mid after us p ws first held r many v l x y h made =
     let whole = each_last (map flat_expr xs) (flat_expr d) p ws in
-    let value : held ≡ (each (map flat_expr xs ++ flat_expr d ∷ []) p ws).value = h ∙ rw (x, v, l) (sym (ap (λ (m : Made (List Expr)). m.value) whole)) in
-    let locals : after ≡ (each (map flat_expr xs ++ flat_expr d ∷ []) p ws).locals = y ∙ rw l (sym (ap (λ (m : Made (List Expr)). m.locals) whole)) in
+    let value : held ≡ (each (map flat_expr xs ++ flat_expr d ∷ []) p ws).value = h ∙ rw (x, v, l) (sym (ap (λ (m : Flattened (List Expr)). m.value) whole)) in
+    let locals : after ≡ (each (map flat_expr xs ++ flat_expr d ∷ []) p ws).locals = y ∙ rw l (sym (ap (λ (m : Flattened (List Expr)). m.locals) whole)) in
     let is = group_is event n (length (map flat_expr xs)) true members after (map flat_expr xs ++ flat_expr d ∷ []) p ws held (many ∙ sym (length-map xs flat_expr)) value locals in
     rw (flat_of-delayed event xs d members, ← is.0, ← is.1) made
 

@@ -6,7 +6,7 @@ use Rattle.std.proofs.lemmas.List.Sums.{sum-map, sum_by-cons}
 use Rattle.std.proofs.lemmas.Option.{slice_get-map}
 use Rattle.lucid_core.specs.declared.defs.HandlerDef.{HandlerDef}
 use Rattle.lucid_core.specs.Names.{stmt_names}
-use Rattle.lucid_core.specs.Parts.{Parts}
+use Rattle.lucid_core.specs.Parts.{CoreParts}
 use Rattle.lucid_core.specs.Scope.{each, handler_scope}
 use Rattle.lucid_core.specs.Valid.{IsValidFlat}
 use Rattle.lucid_core.proofs.WidthLists.{passes_at}
@@ -15,7 +15,7 @@ use Rattle.lucid_inline_form.specs.Flat.{flat_body, flat_handler, flat_of}
 use Rattle.lucid_inline_form.specs.Laws.{HasFewLocals}
 use Rattle.lucid_inline_build.specs.Numbers.{FewStmts, most_size}
 
-module _ (core : Parts) (valid : IsValidFlat (flat_of core)) (few : HasFewLocals core) (small : sum (handler_sizes core) ≤ most_size) where
+module _ (core : CoreParts) (valid : IsValidFlat (flat_of core)) (few : HasFewLocals core) (small : sum (handler_sizes core) ≤ most_size) where
   abbrev size : HandlerDef → ℕ
   size h = body_size h.body (fun_sizes [] core.funs)
 

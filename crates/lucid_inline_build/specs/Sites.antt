@@ -6,14 +6,14 @@ use Rattle.lucid_core.specs.declared.body.Stmt.{Stmt}
 use Rattle.lucid_core.specs.declared.body.Expr.TheOpen.{Stmt-F}
 use Rattle.lucid_core.specs.declared.body.Expr.TheViews.{roll-Expr, roll-Stmt}
 use Rattle.lucid_inline_form.specs.Flat as f
-use Rattle.lucid_inline_form.specs.Flat.{Made, PutIn, put_in, puts_of, to_member}
+use Rattle.lucid_inline_form.specs.Flat.{Flattened, PutIn, put_in, puts_of, to_member}
 use Rattle.lucid_inline_build.specs.declared.site.Site.{Site}
 
 abbrev pub place : Site → f.Site
 place site = record { arrays = site.arrays.now; first = site.first; funs = puts_of site.funs.now }
 
 -- A call of this function, with these arrays and arguments, behind these locals.
-abbrev pub called : Option PutIn → List ℕ → List Expr → List ℕ → Made Expr
+abbrev pub called : Option PutIn → List ℕ → List Expr → List ℕ → Flattened Expr
 called f arrays args ws = let made = put_in f arrays args ws in record { value = roll-Expr made.value; locals = made.locals }
 
 -- An assignment of each to the next local, from b on.

@@ -24,7 +24,7 @@ use Rattle.lucid_inline_form.specs.Counts as z
 use Rattle.lucid_inline_form.specs.Counts.{expr_size, stmt_size, touch_size}
 use Rattle.lucid_inline_count.specs.declared.counts.Counts.{Counts}
 use Rattle.lucid_inline_count.specs.Found as t
-use Rattle.lucid_inline_count.specs.Found.{Found, Round, Tally, expr_found, group, held_with, joined, names_of, one_more, ops, stmt_tally, total, touch_found}
+use Rattle.lucid_inline_count.specs.Found.{ExprTally, Round, Tally, expr_found, group, held_with, joined, names_of, one_more, ops, stmt_tally, total, touch_found}
 use Rattle.lucid_inline_count.specs.Counts.{capped, counted, counts_at, plus}
 use Rattle.lucid_inline_count.proofs.Joining.{count_alike}
 
@@ -42,9 +42,9 @@ pub record Alike (r : Round) (a : Around) (sizes : List ℕ) : Type 0 where
   pub locals : a.locals ≡ length r.held
   pub held : (i : ℕ) → i < length r.held → slice_index_or r.held i false ≡ a.held i
 
-pub record Agrees (x : Found) (m : Measure) (size : Count) : Type 0 where
+pub record Agrees (x : ExprTally) (m : Measure) (size : Count) : Type 0 where
   pub counts : (funs : List Counts) (a : Around) (sizes : List ℕ) → Known funs a.funs sizes → x.counts funs ≡ both (m.ops a) (size sizes)
-  pub plain : x.plain ≡ m.plain
+  pub needs_move : x.needs_move ≡ m.needs_move
 
 abbrev sets_it : Option ℕ → ℕ → Bool
 sets_it None k = false
@@ -57,7 +57,7 @@ pub record Tallies (x : Tally) (m : Piece) (size : Count) : Type 0 where
   pub returns : x.returns ≡ m.returns
   pub value : x.value ≡ m.value
 
-abbrev ExprAgrees : Found → Measure → Count → Bool → Type 0
+abbrev ExprAgrees : ExprTally → Measure → Count → Bool → Type 0
 ExprAgrees x m size core = core ≡ true → Agrees x m size
 
 abbrev StmtAgrees : Tally → Piece → Count → Bool → Type 0
@@ -134,19 +134,19 @@ abbrev stmt_tree : Stmt-F E S T → Stmt-F Expr Stmt Touch
 stmt_tree = map-Stmt E S T Expr Stmt Touch (λ e. e.0) (λ e. e.0) (λ e. e.0)
 
 abbrev ExprLevel : Expr-F Expr Stmt Touch → Type 0
-ExprLevel y = ExprAgrees (t.expr_step (map-Expr Expr Stmt Touch Found Tally Found expr_found stmt_tally touch_found y))
+ExprLevel y = ExprAgrees (t.expr_step (map-Expr Expr Stmt Touch ExprTally Tally ExprTally expr_found stmt_tally touch_found y))
     (l.expr_step (map-Expr Expr Stmt Touch Measure Piece Measure expr_measure stmt_piece touch_measure y))
     (z.expr_step (map-Expr Expr Stmt Touch Count Count Count expr_size stmt_size touch_size y))
     (c.not_inlined (map-Expr Expr Stmt Touch Bool Bool Bool is_core_expr is_core_stmt is_core_touch y))
 
 abbrev StmtLevel : Stmt-F Expr Stmt Touch → Type 0
-StmtLevel y = StmtAgrees (t.stmt_step (map-Stmt Expr Stmt Touch Found Tally Found expr_found stmt_tally touch_found y))
+StmtLevel y = StmtAgrees (t.stmt_step (map-Stmt Expr Stmt Touch ExprTally Tally ExprTally expr_found stmt_tally touch_found y))
     (l.stmt_step (map-Stmt Expr Stmt Touch Measure Piece Measure expr_measure stmt_piece touch_measure y))
     (z.stmt_step (map-Stmt Expr Stmt Touch Count Count Count expr_size stmt_size touch_size y))
     (c.any_stmt (map-Stmt Expr Stmt Touch Bool Bool Bool is_core_expr is_core_stmt is_core_touch y))
 
 abbrev TouchLevel : Touch-F Expr Stmt Touch → Type 0
-TouchLevel y = ExprAgrees (t.touch_step (map-Touch Expr Stmt Touch Found Tally Found expr_found stmt_tally touch_found y))
+TouchLevel y = ExprAgrees (t.touch_step (map-Touch Expr Stmt Touch ExprTally Tally ExprTally expr_found stmt_tally touch_found y))
     (l.touch_step (map-Touch Expr Stmt Touch Measure Piece Measure expr_measure stmt_piece touch_measure y))
     (z.touch_step (map-Touch Expr Stmt Touch Count Count Count expr_size stmt_size touch_size y))
     (c.touch_step (map-Touch Expr Stmt Touch Bool Bool Bool is_core_expr is_core_stmt is_core_touch y))
@@ -159,23 +159,23 @@ two_operands : (e g : E) → is_core_expr e.0 ≡ true → is_core_expr g.0 ≡ 
     plus (plus ((expr_found e.0).counts funs) ((expr_found g.0).counts funs)) (counted 1 0) ≡ both ((expr_measure e.0).ops a + (expr_measure g.0).ops a + 1) (expr_size e.0 sizes + (expr_size g.0 sizes + 0))
 two_operands e g core core2 funs a sizes known = same _ _ _ _ (more _ _ 1 0 (behind _ _ _ _ ((e.1 core).counts funs a sizes known) ((g.1 core2).counts funs a sizes known))) refl (omega arith)
 
-leaf : (m : Measure) (plain : Bool) (size : Count) → ((a : Around) → m.ops a ≡ 0) → ((sizes : List ℕ) → size sizes ≡ 0) → plain ≡ m.plain → Agrees (t.found plain (λ funs. counted 0 0)) m size
-leaf m plain size no_ops no_size e = record { counts = λ funs a sizes known. same _ _ _ _ none (sym (no_ops a)) (sym (no_size sizes)); plain = e }
+leaf : (m : Measure) (needs_move : Bool) (size : Count) → ((a : Around) → m.ops a ≡ 0) → ((sizes : List ℕ) → size sizes ≡ 0) → needs_move ≡ m.needs_move → Agrees (t.found needs_move (λ funs. counted 0 0)) m size
+leaf m needs_move size no_ops no_size e = record { counts = λ funs a sizes known. same _ _ _ _ none (sym (no_ops a)) (sym (no_size sizes)); needs_move = e }
 
 expr_level : (y : Expr-F E S T) → ExprLevel (expr_tree y)
 expr_level (Expr-F.Fixed n) core = leaf _ true _ (λ a. refl) (λ ns. refl) refl
 expr_level (Expr-F.Local i) core = leaf _ true _ (λ a. refl) (λ ns. refl) refl
 expr_level Expr-F.Now core = leaf _ true _ (λ a. refl) (λ ns. refl) refl
 expr_level Expr-F.Me core = leaf _ true _ (λ a. refl) (λ ns. refl) refl
-expr_level (Expr-F.Un op e) core = record { counts = one_operand e (and_parts _ _ core).0; plain = refl }
-expr_level (Expr-F.Bin op e g) core = let x = and_parts _ _ core in record { counts = two_operands e g x.0 (and_parts _ _ x.1).0; plain = refl }
-expr_level (Expr-F.Cmp op e g) core = let x = and_parts _ _ core in record { counts = two_operands e g x.0 (and_parts _ _ x.1).0; plain = refl }
-expr_level (Expr-F.Cast w e) core = record { counts = one_operand e (and_parts _ _ core).0; plain = refl }
-expr_level (Expr-F.Hash w es) core = record { counts = λ funs a sizes known. same _ _ _ _ (more _ _ 1 0 (total_is es core funs a sizes known)) refl (omega arith); plain = refl }
-expr_level (Expr-F.Array e) core = record { counts = λ funs a sizes known. same _ _ _ _ ((e.1 (and_parts _ _ core).0).counts funs a sizes known) refl (omega arith); plain = refl }
+expr_level (Expr-F.Un op e) core = record { counts = one_operand e (and_parts _ _ core).0; needs_move = refl }
+expr_level (Expr-F.Bin op e g) core = let x = and_parts _ _ core in record { counts = two_operands e g x.0 (and_parts _ _ x.1).0; needs_move = refl }
+expr_level (Expr-F.Cmp op e g) core = let x = and_parts _ _ core in record { counts = two_operands e g x.0 (and_parts _ _ x.1).0; needs_move = refl }
+expr_level (Expr-F.Cast w e) core = record { counts = one_operand e (and_parts _ _ core).0; needs_move = refl }
+expr_level (Expr-F.Hash w es) core = record { counts = λ funs a sizes known. same _ _ _ _ (more _ _ 1 0 (total_is es core funs a sizes known)) refl (omega arith); needs_move = refl }
+expr_level (Expr-F.Array e) core = record { counts = λ funs a sizes known. same _ _ _ _ ((e.1 (and_parts _ _ core).0).counts funs a sizes known) refl (omega arith); needs_move = refl }
 expr_level (Expr-F.Fun k names es) core = record {
   counts = λ funs a sizes known. same _ _ _ _ (more _ _ 0 1 (behind _ _ _ _ (total_is es core funs a sizes known) (known.at k))) (omega arith) (omega arith);
-  plain = refl;
+  needs_move = refl;
 }
 expr_level (Expr-F.Inlined given es) core = absurd (cc)
 
@@ -186,7 +186,7 @@ touch_level y core =
     let v = and_parts _ _ u.1 in record {
       counts = λ funs a sizes known.
           same _ _ _ _ (more _ _ 1 0 (behind _ _ _ _ (behind _ _ _ _ ((y.index.1 x.0).counts funs a sizes known) ((y.get_arg.1 u.0).counts funs a sizes known)) ((y.set_arg.1 v.0).counts funs a sizes known))) refl (omega arith);
-      plain = refl;
+      needs_move = refl;
     }
 
 optional_is : (o : Option E) → all_hold (option_to_list (option_map (λ (e : E). is_core_expr e.0) o)) ≡ true → (funs : List Counts) (a : Around) (sizes : List ℕ) → Known funs a.funs sizes →
@@ -330,10 +330,10 @@ if_level e es gs core =
     record {
       counts = λ r a sizes alike.
           let s = total-append (map stmt_size (stmts es)) (map stmt_size (stmts gs)) sizes in
-          let condition = more _ _ (if (expr_found e.0).plain then 1 else 0) 1 (own.counts r.funs a sizes alike.funs) in
+          let condition = more _ _ (if (expr_found e.0).needs_move then 1 else 0) 1 (own.counts r.funs a sizes alike.funs) in
           let branches = behind _ _ _ _ (behind _ _ _ _ condition (block_is es parts.0 r a sizes alike)) (block_is gs parts.1 r a sizes alike) in
           same _ _ _ _ (behind _ _ _ _ branches (joins_are es gs parts.0 parts.1 r a sizes alike))
-          (ap (λ (b : Bool). (expr_measure e.0).ops a + (if b then 1 else 0) + block_ops_of es a + block_ops_of gs a + l.joins (map stmt_piece (stmts es)) (map stmt_piece (stmts gs)) a) own.plain)
+          (ap (λ (b : Bool). (expr_measure e.0).ops a + (if b then 1 else 0) + block_ops_of es a + block_ops_of gs a + l.joins (map stmt_piece (stmts es)) (map stmt_piece (stmts gs)) a) own.needs_move)
           (omega (arith, s));
       names = λ i. list_any-append (nat_eq i) (names_of (map stmt_tally (stmts es))) (names_of (map stmt_tally (stmts gs))) ∙ ap₂ (λ (x y : Bool). x || y) (names_are es parts.0 i) (names_are gs parts.1 i);
       sets = λ i. refl;
@@ -380,15 +380,15 @@ abbrev OfTouch : Touch → Type 0
 OfTouch u = ExprAgrees (touch_found u) (touch_measure u) (touch_size u) (is_core_touch u)
 
 of_expr : (y : Expr-F E S T) → OfExpr (roll-Expr (expr_tree y))
-of_expr y = opened ExprAgrees (fold-roll-Expr Found Tally Found t.expr_step t.stmt_step t.touch_step (expr_tree y)) (fold-roll-Expr Measure Piece Measure l.expr_step l.stmt_step l.touch_step (expr_tree y))
+of_expr y = opened ExprAgrees (fold-roll-Expr ExprTally Tally ExprTally t.expr_step t.stmt_step t.touch_step (expr_tree y)) (fold-roll-Expr Measure Piece Measure l.expr_step l.stmt_step l.touch_step (expr_tree y))
     (fold-roll-Expr Count Count Count z.expr_step z.stmt_step z.touch_step (expr_tree y)) (fold-roll-Expr Bool Bool Bool c.not_inlined c.any_stmt c.touch_step (expr_tree y)) (expr_level y)
 
 of_stmt : (y : Stmt-F E S T) → OfStmt (roll-Stmt (stmt_tree y))
-of_stmt y = opened StmtAgrees (fold-roll-Stmt Found Tally Found t.expr_step t.stmt_step t.touch_step (stmt_tree y)) (fold-roll-Stmt Measure Piece Measure l.expr_step l.stmt_step l.touch_step (stmt_tree y))
+of_stmt y = opened StmtAgrees (fold-roll-Stmt ExprTally Tally ExprTally t.expr_step t.stmt_step t.touch_step (stmt_tree y)) (fold-roll-Stmt Measure Piece Measure l.expr_step l.stmt_step l.touch_step (stmt_tree y))
     (fold-roll-Stmt Count Count Count z.expr_step z.stmt_step z.touch_step (stmt_tree y)) (fold-roll-Stmt Bool Bool Bool c.not_inlined c.any_stmt c.touch_step (stmt_tree y)) (stmt_level y)
 
 of_touch : (y : Touch-F E S T) → OfTouch (roll-Touch (touch_tree y))
-of_touch y = opened ExprAgrees (fold-roll-Touch Found Tally Found t.expr_step t.stmt_step t.touch_step (touch_tree y)) (fold-roll-Touch Measure Piece Measure l.expr_step l.stmt_step l.touch_step (touch_tree y))
+of_touch y = opened ExprAgrees (fold-roll-Touch ExprTally Tally ExprTally t.expr_step t.stmt_step t.touch_step (touch_tree y)) (fold-roll-Touch Measure Piece Measure l.expr_step l.stmt_step l.touch_step (touch_tree y))
     (fold-roll-Touch Count Count Count z.expr_step z.stmt_step z.touch_step (touch_tree y)) (fold-roll-Touch Bool Bool Bool c.not_inlined c.any_stmt c.touch_step (touch_tree y)) (touch_level y)
 
 stmt_agrees : (s : Stmt) → OfStmt s

@@ -9,7 +9,7 @@ use Rattle.lucid_core.specs.declared.defs.HandlerDef.{HandlerDef}
 use Rattle.lucid_core.specs.Events.{event_params}
 use Rattle.lucid_core.specs.Length.{body_length, fun_lengths, handler_length}
 use Rattle.lucid_core.specs.Numbers.{all_hold}
-use Rattle.lucid_core.specs.Parts.{Parts}
+use Rattle.lucid_core.specs.Parts.{CoreParts}
 use Rattle.lucid_core.specs.Syntax.{is_core_stmt}
 use Rattle.lucid_core.specs.Valid.{IsValid}
 use Rattle.lucid_inline_form.specs.Counts.{body_size, fun_sizes, handler_lengths, handler_sizes}
@@ -78,7 +78,7 @@ funs_agree found lengths sizes is (f ∷ fs) core =
     funs_agree (found ++ fun_found found f ∷ []) (lengths ++ body_length lengths f.params (length f.locals) f.body ∷ []) (sizes ++ body_size f.body sizes ∷ [])
     (one_more found lengths sizes (fun_found found f) (body_length lengths f.params (length f.locals) f.body) (body_size f.body sizes) is own) fs parts.1
 
-handlers_agree : (core : Parts) (found : List Counts) → Listed found (fun_lengths [] core.funs) (fun_sizes [] core.funs) → (hs : List HandlerDef) → list_all (λ h. list_all is_core_stmt h.body) hs ≡ true →
+handlers_agree : (core : CoreParts) (found : List Counts) → Listed found (fun_lengths [] core.funs) (fun_sizes [] core.funs) → (hs : List HandlerDef) → list_all (λ h. list_all is_core_stmt h.body) hs ≡ true →
     Listed (handlers_found core.events found hs) (map (handler_length core (fun_lengths [] core.funs)) hs) (map (λ h. body_size h.body (fun_sizes [] core.funs)) hs)
 unfolding both
 handlers_agree core found is [] all = record { lengths = refl; sizes = refl }
@@ -91,14 +91,14 @@ handlers_agree core found is (h ∷ hs) all =
       sizes = ap₂ (λ (n : ℕ) (ns : List ℕ). n ∷ ns) (ap (λ (c : Counts). c.size) own) rest.sizes;
     }
 
-counts_agree : (core : Parts) → IsValid core → Listed (handlers_found core.events (funs_found core.funs) core.handlers) (handler_lengths core) (handler_sizes core)
+counts_agree : (core : CoreParts) → IsValid core → Listed (handlers_found core.events (funs_found core.funs) core.handlers) (handler_lengths core) (handler_sizes core)
 counts_agree core valid =
     let forms = and_parts _ _ valid.syntax in
     let all = handlers_agree core (funs_found core.funs) (funs_agree [] [] [] (record { lengths = refl; sizes = refl }) core.funs forms.0) core.handlers forms.1 in
     record { lengths = all.lengths; sizes = all.sizes }
 
-pub lengths_agree : (core : Parts) → IsValid core → map (λ (c : Counts). c.length) (handlers_found core.events (funs_found core.funs) core.handlers) ≡ map capped (handler_lengths core)
+pub lengths_agree : (core : CoreParts) → IsValid core → map (λ (c : Counts). c.length) (handlers_found core.events (funs_found core.funs) core.handlers) ≡ map capped (handler_lengths core)
 lengths_agree core valid = (counts_agree core valid).lengths
 
-pub sizes_agree : (core : Parts) → IsValid core → map (λ (c : Counts). c.size) (handlers_found core.events (funs_found core.funs) core.handlers) ≡ map capped (handler_sizes core)
+pub sizes_agree : (core : CoreParts) → IsValid core → map (λ (c : Counts). c.size) (handlers_found core.events (funs_found core.funs) core.handlers) ≡ map capped (handler_sizes core)
 sizes_agree core valid = (counts_agree core valid).sizes

@@ -16,9 +16,9 @@ use Rattle.lucid_inline_count.specs.declared.body.Part.{Part}
 use Rattle.lucid_inline_count.specs.Counts.{capped, counted, counts_at, plus}
 
 -- An expression: what it counts, given the functions before, and whether a condition that is this one needs a move.
-pub record Found : Type 0 where
+pub record ExprTally : Type 0 where
   pub counts : List Counts → Counts
-  pub plain : Bool
+  pub needs_move : Bool
 
 -- What the functions before count, and which locals are held.
 pub record Round : Type 0 where
@@ -40,10 +40,10 @@ abbrev pub without_returns : Counts → Part
 without_returns counts = record { counts = counts; sets = None; returns = false; value = false }
 
 -- All of these.
-abbrev pub total : List Found → List Counts → Counts
+abbrev pub total : List ExprTally → List Counts → Counts
 total xs funs = fold (λ so_far x. plus so_far (x.counts funs)) (counted 0 0) xs
 
-abbrev pub optional : Option Found → List Counts → Counts
+abbrev pub optional : Option ExprTally → List Counts → Counts
 optional None funs = counted 0 0
 optional (Some x) funs = x.counts funs
 
@@ -85,10 +85,10 @@ joined held names = count_below (length held) (λ i. slice_index_or held i false
 abbrev pub joins : Bool → Bool → List Bool → List ℕ → ℕ
 joins returns value held names = if returns then (if value then 2 else 0) else capped (2 * joined held names)
 
-abbrev pub found : Bool → (List Counts → Counts) → Found
-found plain counts = record { counts = counts; plain = plain }
+abbrev pub found : Bool → (List Counts → Counts) → ExprTally
+found needs_move counts = record { counts = counts; needs_move = needs_move }
 
-abbrev pub expr_step : Expr-F Found Tally Found → Found
+abbrev pub expr_step : Expr-F ExprTally Tally ExprTally → ExprTally
 expr_step (Expr-F.Fixed n) = found true (λ funs. counted 0 0)
 expr_step (Expr-F.Local i) = found true (λ funs. counted 0 0)
 expr_step Expr-F.Now = found true (λ funs. counted 0 0)
@@ -102,19 +102,19 @@ expr_step (Expr-F.Array t) = found false t.counts
 expr_step (Expr-F.Fun k names xs) = found true (λ funs. plus (plus (total xs funs) (counts_at funs k)) (counted 0 1))
 expr_step (Expr-F.Inlined given ss) = found true (λ funs. counted 0 0)
 
-abbrev pub touch_step : Touch-F Found Tally Found → Found
+abbrev pub touch_step : Touch-F ExprTally Tally ExprTally → ExprTally
 touch_step t = found false (λ funs. plus (plus (plus (t.index.counts funs) (t.get_arg.counts funs)) (t.set_arg.counts funs)) (counted 1 0))
 
 -- What neither assigns nor returns.
 abbrev pub plainly : (List Counts → Counts) → Tally
 plainly counts = record { counts = λ r. counts r.funs; sets = None; names = []; returns = false; value = false }
 
--- An if without its branches: its condition, with a move where that is plain, and the statement itself.
-abbrev pub condition : Found → List Counts → Counts
-condition x funs = plus (x.counts funs) (counted (if x.plain then 1 else 0) 1)
+-- An if without its branches: its condition, with a move where it needs one, and the statement itself.
+abbrev pub condition : ExprTally → List Counts → Counts
+condition x funs = plus (x.counts funs) (counted (if x.needs_move then 1 else 0) 1)
 
 -- With its branches, and what they join.
-abbrev pub either : Found → List Tally → List Tally → Round → Counts
+abbrev pub either : ExprTally → List Tally → List Tally → Round → Counts
 either x ss ts r =
     let joined = joins (any_returns ss || any_returns ts) (any_value ss && any_value ts) r.held (names_of ss ++ names_of ts) in
     plus (plus (plus (condition x r.funs) (block_counts ss r)) (block_counts ts r)) (counted joined 0)
@@ -124,12 +124,12 @@ abbrev pub ops : ℕ → Counts
 ops n = counted n n
 
 -- A group takes an assignment of each argument and of its delay, and an event to each member.
-abbrev pub group : List Found → Option Found → List ℕ → List Counts → Counts
+abbrev pub group : List ExprTally → Option ExprTally → List ℕ → List Counts → Counts
 group xs delay members funs =
     let calls = plus (total xs funs) (optional delay funs) in
     plus (plus (plus calls (ops (length xs))) (ops (if is_some delay then 1 else 0))) (ops (length members))
 
-abbrev pub stmt_step : Stmt-F Found Tally Found → Tally
+abbrev pub stmt_step : Stmt-F ExprTally Tally ExprTally → Tally
 stmt_step (Stmt-F.Assign i x) = record {
   counts = λ r. plus (x.counts r.funs) (counted 1 1);
   sets = Some i;
@@ -157,11 +157,11 @@ stmt_step (Stmt-F.Return x) = record {
   value = is_some x;
 }
 
-abbrev pub expr_found : Expr → Found
-expr_found = fold-Expr Found Tally Found expr_step stmt_step touch_step
+abbrev pub expr_found : Expr → ExprTally
+expr_found = fold-Expr ExprTally Tally ExprTally expr_step stmt_step touch_step
 
 abbrev pub stmt_tally : Stmt → Tally
-stmt_tally = fold-Stmt Found Tally Found expr_step stmt_step touch_step
+stmt_tally = fold-Stmt ExprTally Tally ExprTally expr_step stmt_step touch_step
 
-abbrev pub touch_found : Touch → Found
-touch_found = fold-Touch Found Tally Found expr_step stmt_step touch_step
+abbrev pub touch_found : Touch → ExprTally
+touch_found = fold-Touch ExprTally Tally ExprTally expr_step stmt_step touch_step

@@ -17,7 +17,7 @@ use Rattle.lucid_core.specs.Acts.{array_of}
 use Rattle.lucid_core.specs.Events.{event_params, events_and_handlers_agree}
 use Rattle.lucid_core.specs.Numbers.{are_in, is_in, places}
 use Rattle.lucid_core.specs.OutCount.{Count, total}
-use Rattle.lucid_core.specs.Parts.{Parts}
+use Rattle.lucid_core.specs.Parts.{CoreParts}
 use Rattle.lucid_core.specs.Uses as u
 use Rattle.lucid_core.specs.Uses.{Uses, all_uses, assigns_its_locals, body_uses, expr_uses, stmt_uses, times_in, touch_uses}
 use Rattle.lucid_core.specs.Valid.{IsValid}
@@ -388,7 +388,7 @@ funs_few cs rooms puts (d ∷ ds) all fit assigned small =
     funs_few (cs ++ body_size d.body cs ∷ []) (rooms ++ d.params ∷ []) (puts ++ f.put_of puts d ∷ []) ds
     (one_more cs puts (body_size d.body cs) (f.put_of puts d) all (fun_few cs rooms puts d all (and_parts _ _ fits.0).1 (leb-true _ _ (and_parts _ _ few.0).1) own.0)) fits.1 own.1 few.1
 
-module _ (core : Parts) (valid : IsValid core) where
+module _ (core : CoreParts) (valid : IsValid core) where
   limits : (list_all (λ (e : EventDef). nat_le (length e.params) 8) core.events ≡ true) × (list_all (λ (d : FunDef). nat_le (length d.arrays) 8 && nat_le d.params 8) core.funs ≡ true)
   limits =
       let first = and_parts _ _ valid.sound.declarations in

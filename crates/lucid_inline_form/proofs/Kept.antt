@@ -31,7 +31,7 @@ use Rattle.lucid_core_laws.specs.Keeps.{KeepsAll, KeepsBlock, KeepsExpr, KeepsSt
 use Rattle.lucid_core_laws.specs.Place.{Place}
 use Rattle.lucid_core_laws.proofs.Statements.{stmt_nodes}
 use Rattle.lucid_inline_form.specs.Flat as f
-use Rattle.lucid_inline_form.specs.Flat.{Flatten, Made, PutIn, Site, flat_expr, flat_stmt, flat_touch}
+use Rattle.lucid_inline_form.specs.Flat.{Flatten, Flattened, PutIn, Site, flat_expr, flat_stmt, flat_touch}
 use Rattle.lucid_inline_form.proofs.Grows.{AllGrow, expr_grows, exprs_grow, stmt_grows, stmts_grow}
 use Rattle.lucid_inline_form.proofs.Locals.{Begins, begins_then}
 use Rattle.lucid_inline_form.proofs.Numbered.{in_either, in_first, in_second, slice_begins}

@@ -20,7 +20,7 @@ use Rattle.lucid_core.specs.Limits.{body_keeps_limits, stmt_limits}
 use Rattle.lucid_core.specs.Names as names
 use Rattle.lucid_core.specs.Names.{stmt_names}
 use Rattle.lucid_core.specs.Numbers.{all_hold, is_in, places}
-use Rattle.lucid_core.specs.Parts.{Parts}
+use Rattle.lucid_core.specs.Parts.{CoreParts}
 use Rattle.lucid_core.specs.Returns as returns
 use Rattle.lucid_core.specs.Returns.{Returns, block_returns, body_returns, stmt_returns}
 use Rattle.lucid_core.specs.Scope.{Scope, Test, each, fun_scope, funs_pass, handler_scope}
@@ -149,7 +149,7 @@ answers : (given : Bool) (always : Bool) → (not given || always) ≡ true → 
 answers true always h e = h
 answers false always h e = absurd (cc)
 
-module _ (core : Parts) where
+module _ (core : CoreParts) where
   abbrev A : List ℕ
   A = map (λ a. a.width) core.arrays
 

@@ -47,7 +47,7 @@ use Rattle.lucid_core_laws.specs.Place.{Place}
 use Rattle.lucid_core_laws.proofs.Expressions.{expr_nodes}
 use Rattle.lucid_core_laws.proofs.Statements.{stmt_nodes}
 use Rattle.lucid_inline_form.specs.Flat as f
-use Rattle.lucid_inline_form.specs.Flat.{Flatten, Made, PutIn, Site, flat_expr, flat_stmt, flat_touch}
+use Rattle.lucid_inline_form.specs.Flat.{Flatten, Flattened, PutIn, Site, flat_expr, flat_stmt, flat_touch}
 use Rattle.lucid_inline_form.proofs.Grows.{AllGrow, expr_grows, exprs_grow, put_grows, stmts_grow}
 use Rattle.lucid_inline_form.proofs.Kept.{PutKeeps, Stand, flat_place, found}
 use Rattle.lucid_inline_form.proofs.Kept as kept

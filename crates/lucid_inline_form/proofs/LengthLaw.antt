@@ -6,7 +6,7 @@ use Rattle.lucid_core.specs.declared.defs.FunDef.{FunDef}
 use Rattle.lucid_core.specs.declared.defs.HandlerDef.{HandlerDef}
 use Rattle.lucid_core.specs.Events.{event_params, is_handled_by}
 use Rattle.lucid_core.specs.Length.{body_length, fun_lengths, handler_length}
-use Rattle.lucid_core.specs.Parts.{Parts}
+use Rattle.lucid_core.specs.Parts.{CoreParts}
 use Rattle.lucid_core.specs.Valid.{IsValid}
 use Rattle.lucid_inline_form.specs.Flat as f
 use Rattle.lucid_inline_form.specs.Flat.{PutIn, flat_stmt}
@@ -67,7 +67,7 @@ module _ (N : ℕ) where
       (one_more cs rooms puts count d.params (f.put_of puts d) all (fun_long cs rooms puts d all grow (leb-true _ _ own.0) own.1))
       (grow_more puts (f.put_of puts d) grow (put_grows puts d grow)) fits.1
 
-handler_long : (core : Parts) → funs_fit [] core.funs ≡ true → (h : HandlerDef) → r.each (map stmt_fit h.body) (length h.locals) (rooms_from [] core.funs) ≡ true →
+handler_long : (core : CoreParts) → funs_fit [] core.funs ≡ true → (h : HandlerDef) → r.each (map stmt_fit h.body) (length h.locals) (rooms_from [] core.funs) ≡ true →
     length (event_params core.events h.event) ≤ length h.locals → handler_length (f.flat_of core) [] (f.flat_handler core.funs h) ≡ handler_length core (fun_lengths [] core.funs) h
 handler_long core fits h fit small =
     let made = f.flat_body core.funs h in
@@ -80,7 +80,7 @@ handler_long core fits h fit small =
     (record { funs = refl; locals = refl; all_locals = refl; own = λ i k. let z : 0 + i ≡ i = omega arith in ap (λ (j : ℕ). nat_lt j params) z; rest = λ k l u. le-ltb k params (omega arith) })
 
 -- A handler's first locals are its event's parameters.
-handlers_begin : (core : Parts) (b : ℕ) (hs : List HandlerDef) → list_all (λ (p : ℕ × HandlerDef). is_handled_by core.events p.0 p.1.event && starts_with nat_eq p.1.locals (event_params core.events p.1.event)) (enumerate_from b hs) ≡ true →
+handlers_begin : (core : CoreParts) (b : ℕ) (hs : List HandlerDef) → list_all (λ (p : ℕ × HandlerDef). is_handled_by core.events p.0 p.1.event && starts_with nat_eq p.1.locals (event_params core.events p.1.event)) (enumerate_from b hs) ≡ true →
     list_all (λ h. r.each (map stmt_fit h.body) (length h.locals) (rooms_from [] core.funs)) hs ≡ true → funs_fit [] core.funs ≡ true →
     map (handler_length (f.flat_of core) []) (map (f.flat_handler core.funs) hs) ≡ map (handler_length core (fun_lengths [] core.funs)) hs
 handlers_begin core b [] agree fit fits = refl
@@ -90,12 +90,12 @@ handlers_begin core b (h ∷ hs) agree fit fits =
     let small = starts-length h.locals (event_params core.events h.event) (and_parts _ _ here.0).1 in
     ap₂ (λ (x : ℕ) (xs : List ℕ). x ∷ xs) (handler_long core fits h own.0 small) (handlers_begin core (b + 1) hs here.1 own.1 fits)
 
-pub lengths_kept : (core : Parts) → IsValid core → handler_lengths (f.flat_of core) ≡ handler_lengths core
+pub lengths_kept : (core : CoreParts) → IsValid core → handler_lengths (f.flat_of core) ≡ handler_lengths core
 lengths_kept core valid =
     let fits = and_parts _ _ (valid_fits core valid) in
     handlers_begin core 0 core.handlers (and_parts _ _ valid.sound.events).1 fits.1 fits.0
 
-pub sizes_kept : (core : Parts) → IsValid core → map flat_handler_size (f.flat_of core).handlers ≡ handler_sizes core
+pub sizes_kept : (core : CoreParts) → IsValid core → map flat_handler_size (f.flat_of core).handlers ≡ handler_sizes core
 sizes_kept core valid = let fits = and_parts _ _ (valid_fits core valid) in at fits.0 core.handlers fits.1
   where
     at : funs_fit [] core.funs ≡ true → (hs : List HandlerDef) → list_all (λ h. r.each (map stmt_fit h.body) (length h.locals) (rooms_from [] core.funs)) hs ≡ true →

@@ -16,7 +16,7 @@ use Rattle.lucid_core.specs.ExamplePrograms.{local}
 use Rattle.lucid_core.specs.Numbers.{is_in}
 use Rattle.lucid_core.proofs.Fine.{both_pass}
 use Rattle.lucid_inline_form.specs.Flat as f
-use Rattle.lucid_inline_form.specs.Flat.{Flatten, Made, Site, PutIn, flat_expr, flat_stmt, flat_touch}
+use Rattle.lucid_inline_form.specs.Flat.{Flatten, Flattened, Site, PutIn, flat_expr, flat_stmt, flat_touch}
 use Rattle.lucid_core.specs.Length as l
 use Rattle.lucid_core.specs.Length.{Around, Measure, Piece, total_ops, with_held, block_ops, any_changes, any_returns, any_value, count_below, expr_measure, stmt_piece, touch_measure, joins}
 use Rattle.lucid_inline_form.proofs.Fit as r
@@ -162,7 +162,7 @@ module _ (N : ℕ) (p : Site) (counts rooms : List ℕ) (all : AllCounts N count
   pub record ExprLong (t : Flatten Expr) (core : Measure) (fit : Bool) : Type 0 where
     pub ops : fit ≡ true → (ws : List ℕ) → p.first + n ≤ length ws → (top : ℕ) → length (t p ws).locals ≤ top → length (t p ws).locals ≤ N → (a b : Around) → NearHere (length ws) top a b →
         (expr_measure (t p ws).value).ops b ≡ core.ops a
-    pub plain : (ws : List ℕ) → (expr_measure (t p ws).value).plain ≡ core.plain
+    pub needs_move : (ws : List ℕ) → (expr_measure (t p ws).value).needs_move ≡ core.needs_move
 
   abbrev pub E : Type 0
   E = (e : Expr) × ExprLong (flat_expr e) (expr_measure e) (expr_fit e n rooms)
@@ -387,7 +387,7 @@ module _ (N : ℕ) (p : Site) (counts rooms : List ℕ) (all : AllCounts N count
       each_long (h ∷ hs) us = ap suc (each_long hs (flat_expr h.0 p us).locals)
   expr_level (Expr-F.Inlined given es) = record { ops = λ fit ws bound top under within a b near. absurd (cc) }
 
-  plain_level : (y : Expr-F E S T) (ws : List ℕ) → (expr_of (node_e (expr_tree y) p ws).value).plain ≡ (expr_of (expr_tree y)).plain
+  plain_level : (y : Expr-F E S T) (ws : List ℕ) → (expr_of (node_e (expr_tree y) p ws).value).needs_move ≡ (expr_of (expr_tree y)).needs_move
   plain_level (Expr-F.Fixed i) ws = refl
   plain_level (Expr-F.Local i) ws = refl
   plain_level Expr-F.Now ws = refl
@@ -400,7 +400,7 @@ module _ (N : ℕ) (p : Site) (counts rooms : List ℕ) (all : AllCounts N count
   plain_level (Expr-F.Array e) ws = refl
   plain_level (Expr-F.Fun k names es) ws = at (slice_get p.funs k)
     where
-      at : (o : Option PutIn) → (expr_of (f.put_in o (map (array_of p.arrays) names) (f.each (map flat_expr (exprs es)) p ws).value (f.each (map flat_expr (exprs es)) p ws).locals).value).plain ≡ true
+      at : (o : Option PutIn) → (expr_of (f.put_in o (map (array_of p.arrays) names) (f.each (map flat_expr (exprs es)) p ws).value (f.each (map flat_expr (exprs es)) p ws).locals).value).needs_move ≡ true
       at None = refl
       at (Some put) = refl
   plain_level (Expr-F.Inlined given es) ws = refl
@@ -474,7 +474,7 @@ module _ (N : ℕ) (p : Site) (counts rooms : List ℕ) (all : AllCounts N count
       let near2 = near_later (length first.locals) (length (us ws).locals) top a b y near1 in
       ap₂ (λ (i j : ℕ). i + j) (ap₂ (λ (i j : ℕ). i + j)
       (ap₂ (λ (i j : ℕ). i + j)
-      (ap₂ (λ (i : ℕ) (t : Bool). i + (if t then 1 else 0)) (e.1.ops fit1.0 ws bound top (omega arith) (omega arith) a b near) (e.1.plain ws))
+      (ap₂ (λ (i : ℕ) (t : Bool). i + (if t then 1 else 0)) (e.1.ops fit1.0 ws bound top (omega arith) (omega arith) a b near) (e.1.needs_move ws))
       (those es fit2.0 first.locals (omega arith) top (omega arith) (omega arith) a b near1))
       (those gs fit2.1 (us ws).locals (omega arith) top under within a b near2))
       (joins_alike es gs fit2.0 fit2.1 first.locals (us ws).locals (omega arith) refl (length first.locals) top (omega arith) (omega arith) under within a b near1))
@@ -492,10 +492,10 @@ module _ (N : ℕ) (p : Site) (counts rooms : List ℕ) (all : AllCounts N count
       (λ ws. ap₂ (λ (c d : Bool). c || d) (those_return es (flat_expr e.0 p ws).locals) (those_return gs (us ws).locals))
       (λ ws. ap₂ (λ (c d : Bool). c && d) (those_value es (flat_expr e.0 p ws).locals) (those_value gs (us ws).locals))
     where
-      us : List ℕ → Made (List Stmt)
+      us : List ℕ → Flattened (List Stmt)
       us ws = f.block (map flat_stmt (stmts es)) p (flat_expr e.0 p ws).locals
 
-      vs : List ℕ → Made (List Stmt)
+      vs : List ℕ → Flattened (List Stmt)
       vs ws = f.block (map flat_stmt (stmts gs)) p (us ws).locals
 
       l1 : (ws : List ℕ) → length ws ≤ length (flat_expr e.0 p ws).locals
@@ -588,10 +588,10 @@ module _ (N : ℕ) (p : Site) (counts rooms : List ℕ) (all : AllCounts N count
       let e5 = two.0 in let e6 = two.1 in
       omega arith)
     where
-      first : List ℕ → Made (List Expr)
+      first : List ℕ → Flattened (List Expr)
       first ws = f.each (map flat_expr (exprs es)) p ws
 
-      second : List ℕ → Made (Option Expr × Option Expr)
+      second : List ℕ → Flattened (Option Expr × Option Expr)
       second ws = f.both b0 (f.optional (option_map (λ (e : E). flat_expr e.0) d)) (f.optional (option_map (λ (e : E). flat_expr e.0) t)) p (first ws).locals
 
       l1 : (ws : List ℕ) → length ws ≤ length (first ws).locals
@@ -760,7 +760,7 @@ module _ (N : ℕ) (p : Site) (counts rooms : List ℕ) (all : AllCounts N count
     value = λ ws. ap any_value (split ws) ∙ value-append (one ws) (two ws) ∙ ap₂ (λ (c d : Bool). c || d) (assigned_value (first ws).value (length (first ws).locals)) (sent_value event (length (first ws).locals) m delayed members);
   })
     where
-      first : List ℕ → Made (List Expr)
+      first : List ℕ → Flattened (List Expr)
       first ws = f.each (map flat_expr (exprs hs)) p ws
 
       whole : List ℕ → List ℕ
@@ -864,7 +864,7 @@ module _ (N : ℕ) (p : Site) (counts rooms : List ℕ) (all : AllCounts N count
       (fold-roll-Expr Fit Fit Fit r.expr_step r.stmt_step r.touch_step tree)
       (record {
         ops = λ fit ws bound top under within a b near. ap (λ (m : Measure). m.ops b) (at (node_e tree p ws).value) ∙ (expr_level y).ops fit ws bound top under within a b near;
-        plain = λ ws. ap (λ (m : Measure). m.plain) (at (node_e tree p ws).value) ∙ plain_level y ws;
+        needs_move = λ ws. ap (λ (m : Measure). m.needs_move) (at (node_e tree p ws).value) ∙ plain_level y ws;
       })
     where
       at : (x : Expr-F Expr Stmt Touch) → expr_measure (roll-Expr x) ≡ expr_of x

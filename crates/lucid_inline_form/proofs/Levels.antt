@@ -24,7 +24,7 @@ use Rattle.lucid_base.specs.Cells.{cell_at, with_cell}
 use Rattle.lucid_core.specs.Values.{nothing, numbers, unary, binary, comparison, hashed, memop}
 use Rattle.lucid_core.proofs.Fine.{both_pass}
 use Rattle.lucid_inline_form.specs.Flat as f
-use Rattle.lucid_inline_form.specs.Flat.{Flatten, Made, Site, PutIn, flat_expr, flat_stmt, flat_touch}
+use Rattle.lucid_inline_form.specs.Flat.{Flatten, Flattened, Site, PutIn, flat_expr, flat_stmt, flat_touch}
 use Rattle.lucid_inline_form.proofs.Fit as r
 use Rattle.lucid_inline_form.proofs.Fit.{Fit, expr_fit, stmt_fit, touch_fit}
 use Rattle.lucid_inline_form.proofs.Locals.{Begins, begins_self, begins_append, begins_then, begins_length, local_at}

@@ -20,7 +20,7 @@ use Rattle.lucid_inline_form.proofs.Fit.{Fit, expr_fit, stmt_fit, touch_fit}
 use Rattle.lucid_inline_form.proofs.Runs.{funs_fit, puts_from, rooms_from}
 use Rattle.lucid_core.specs.declared.defs.HandlerDef.{HandlerDef}
 use Rattle.lucid_inline_form.specs.Flat as f
-use Rattle.lucid_inline_form.specs.Flat.{Flatten, Made, Site, PutIn, flat_expr, flat_stmt, flat_touch, locals_from, to_member}
+use Rattle.lucid_inline_form.specs.Flat.{Flatten, Flattened, Site, PutIn, flat_expr, flat_stmt, flat_touch, locals_from, to_member}
 use Rattle.lucid_core.specs.ExamplePrograms.{local}
 
 pub total-append : (xs ys : List Count) (fs : List ℕ) → total (xs ++ ys) fs ≡ total xs fs + total ys fs

@@ -17,7 +17,7 @@ use Rattle.lucid_core.proofs.Fine.{both_pass}
 use Rattle.lucid_core_laws.specs.InlinedNodes.{Owns, joined, nothing_named}
 use Rattle.lucid_core_laws.proofs.Owning.{inlined_nodes}
 use Rattle.lucid_inline_form.specs.Flat as f
-use Rattle.lucid_inline_form.specs.Flat.{Flatten, Made, PutIn, Site, flat_expr, flat_stmt, flat_touch, to_member}
+use Rattle.lucid_inline_form.specs.Flat.{Flatten, Flattened, PutIn, Site, flat_expr, flat_stmt, flat_touch, to_member}
 use Rattle.lucid_inline_form.proofs.Fit as r
 use Rattle.lucid_inline_form.proofs.Fit.{Fit, expr_fit, stmt_fit, touch_fit}
 use Rattle.lucid_inline_form.proofs.Grows.{AllGrow, expr_grows, exprs_grow, stmt_grows, stmts_grow}
@@ -176,13 +176,13 @@ module _ (p : Site) (rooms : List ℕ) (all : AllOwn rooms p.funs) (grow : AllGr
   abbrev uses_t : Touch-F Expr Stmt Touch → Uses
   uses_t y = u.touch_step (map-Touch Expr Stmt Touch Uses Uses Uses expr_uses stmt_uses touch_uses y)
 
-  abbrev node_e : Expr-F Expr Stmt Touch → List ℕ → Made (Expr-F Expr Stmt Touch)
+  abbrev node_e : Expr-F Expr Stmt Touch → List ℕ → Flattened (Expr-F Expr Stmt Touch)
   node_e y ws = f.expr_node (map-Expr Expr Stmt Touch (Flatten Expr) (Flatten (List Stmt)) (Flatten Touch) flat_expr flat_stmt flat_touch y) p ws
 
-  abbrev node_s : Stmt-F Expr Stmt Touch → List ℕ → Made (List (Stmt-F Expr Stmt Touch))
+  abbrev node_s : Stmt-F Expr Stmt Touch → List ℕ → Flattened (List (Stmt-F Expr Stmt Touch))
   node_s y ws = f.stmt_node (map-Stmt Expr Stmt Touch (Flatten Expr) (Flatten (List Stmt)) (Flatten Touch) flat_expr flat_stmt flat_touch y) p ws
 
-  abbrev node_t : Touch-F Expr Stmt Touch → List ℕ → Made (Touch-F Expr Stmt Touch)
+  abbrev node_t : Touch-F Expr Stmt Touch → List ℕ → Flattened (Touch-F Expr Stmt Touch)
   node_t y ws = f.touch_node (map-Touch Expr Stmt Touch (Flatten Expr) (Flatten (List Stmt)) (Flatten Touch) flat_expr flat_stmt flat_touch y) p ws
 
   each-length : (hs : List E) (ws : List ℕ) → length (f.each (map flat_expr (exprs hs)) p ws).value ≡ length hs

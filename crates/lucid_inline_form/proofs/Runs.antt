@@ -16,7 +16,7 @@ use Rattle.lucid_core.specs.Acts.{Act, Effect, Fun, State, Ran, block, begun_wit
 use Rattle.lucid_core.specs.Meaning as m
 use Rattle.lucid_core.specs.Meaning.{effect_of, fun_of, holding, touch_of, value_of}
 use Rattle.lucid_core.specs.Meaning.{funs_of}
-use Rattle.lucid_core.specs.Parts.{Parts}
+use Rattle.lucid_core.specs.Parts.{CoreParts}
 use Rattle.lucid_core.specs.Step.{handled, handler_of, ran, started, taken_at}
 use Rattle.lucid_core.specs.Values.{nothing}
 use Rattle.lucid_core.proofs.Funs.{funs_from}
@@ -26,7 +26,7 @@ use Rattle.lucid_base.specs.declared.event.Event.{Event}
 use Rattle.std.proofs.lemmas.Option.{slice_get-map}
 use Rattle.std.proofs.Common.{option_map, option_and_then}
 use Rattle.lucid_inline_form.specs.Flat as f
-use Rattle.lucid_inline_form.specs.Flat.{Flatten, Made, Site, PutIn, flat_expr, flat_stmt, flat_touch}
+use Rattle.lucid_inline_form.specs.Flat.{Flatten, Flattened, Site, PutIn, flat_expr, flat_stmt, flat_touch}
 use Rattle.lucid_inline_form.proofs.Fit as r
 use Rattle.lucid_inline_form.proofs.Fit.{Fit, expr_fit, stmt_fit, touch_fit}
 use Rattle.lucid_inline_form.proofs.Locals.{Begins, begins_self, begins_then, begins_append, begins_length, begun-length, begun_first, begun_past, zeros_part, held-length, held_there, held_above, local_at, zeros}
@@ -118,7 +118,7 @@ abbrev pub funs_fit : List ℕ → List FunDef → Bool
 funs_fit rooms [] = true
 funs_fit rooms (d ∷ ds) = (nat_le d.params (length d.locals) && r.each (map stmt_fit d.body) (length d.locals) rooms) && funs_fit (rooms ++ d.params ∷ []) ds
 
-abbrev pub program_fits : Parts → Bool
+abbrev pub program_fits : CoreParts → Bool
 program_fits core = funs_fit [] core.funs && list_all (λ h. r.each (map stmt_fit h.body) (length h.locals) (rooms_from [] core.funs)) core.handlers
 
 abbrev pub puts_from : List PutIn → List FunDef → List PutIn
@@ -214,7 +214,7 @@ pub record RunsAlike (r q : Ran (Unit {0})) : Type 0 where
   pub outs : q.after.outs ≡ r.after.outs
   pub calls : q.calls ≡ r.calls
 
-module _ (core : Parts) (cells : List (List ℕ)) (now me : ℕ) (args : List ℕ) where
+module _ (core : CoreParts) (cells : List (List ℕ)) (now me : ℕ) (args : List ℕ) where
   begun : (own more : List ℕ) → length args ≤ length own →
       Same (own ++ more) now me 0 (length own) (length own) (length (own ++ more)) (started cells (begun_with (taken_at own args) own)) (started cells (begun_with (taken_at (own ++ more) args) (own ++ more)))
   begun own more few =
@@ -256,7 +256,7 @@ module _ (core : Parts) (cells : List (List ℕ)) (now me : ℕ) (args : List �
       record { cells = did.after.cells; outs = did.after.outs; calls = did.calls }
 
 -- The flat form does what the core does, at each event with no more arguments than its handler has locals.
-pub flat_runs : (core : Parts) → program_fits core ≡ true → (cells : List (List ℕ)) (now me : ℕ) (event : Event) → ((h : HandlerDef) → handler_of core event.id ≡ Some h → length event.args ≤ length h.locals) →
+pub flat_runs : (core : CoreParts) → program_fits core ≡ true → (cells : List (List ℕ)) (now me : ℕ) (event : Event) → ((h : HandlerDef) → handler_of core event.id ≡ Some h → length event.args ≤ length h.locals) →
     RunsAlike (ran core cells now me event) (ran (f.flat_of core) cells now me event)
 flat_runs core fit cells now me event few = at (option_and_then (λ (e : EventDef). e.handler) (slice_get core.events event.id)) few
   where

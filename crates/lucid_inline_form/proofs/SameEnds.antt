@@ -23,7 +23,7 @@ use Rattle.lucid_effects_order.specs.Ends.{FunEnd, Numbering, End, ◌⨾◌, la
 use Rattle.lucid_effects_order.specs.Evaluation as walk
 use Rattle.lucid_core.proofs.Fine.{both_pass}
 use Rattle.lucid_inline_form.specs.Flat as f
-use Rattle.lucid_inline_form.specs.Flat.{Flatten, Made, Site, PutIn, flat_expr, flat_stmt, flat_touch}
+use Rattle.lucid_inline_form.specs.Flat.{Flatten, Flattened, Site, PutIn, flat_expr, flat_stmt, flat_touch}
 use Rattle.lucid_inline_form.proofs.Fit as r
 use Rattle.lucid_inline_form.proofs.Fit.{Fit, expr_fit, stmt_fit, touch_fit}
 use Rattle.lucid_inline_form.proofs.Runs.{funs_fit, rooms_from}

@@ -3,7 +3,7 @@ use Rattle.std.proofs.Common.{◌≡◌, ℕ, [], Some, length, map, sym, ◌∙
 use Rattle.std.proofs.lemmas.Bool.{and_parts}
 use Rattle.lucid_core.specs.declared.defs.HandlerDef.{HandlerDef}
 use Rattle.lucid_effects_order.specs.Order.{InOrder}
-use Rattle.lucid_core.specs.Parts.{Parts}
+use Rattle.lucid_core.specs.Parts.{CoreParts}
 use Rattle.lucid_core.specs.Valid.{IsValid}
 use Rattle.lucid_core.proofs.WidthLists.{passes_at}
 use Rattle.lucid_effects_order.proofs.Alike.{handlers_alike}
@@ -15,7 +15,7 @@ use Rattle.lucid_inline_form.proofs.Steps.{valid_fits}
 use Rattle.lucid_inline_form.proofs.Runs.{rooms_from}
 use Rattle.lucid_inline_form.proofs.SameEnds.{handler_turns, through}
 
-module _ (core : Parts) (valid : IsValid core) (k : ℕ) (h : HandlerDef) (is : slice_get core.handlers k ≡ Some h) where
+module _ (core : CoreParts) (valid : IsValid core) (k : ℕ) (h : HandlerDef) (is : slice_get core.handlers k ≡ Some h) where
   abbrev declared_arrays : ℕ
   declared_arrays = length core.arrays
 
@@ -42,5 +42,5 @@ module _ (core : Parts) (valid : IsValid core) (k : ℕ) (h : HandlerDef) (is : 
         derived = handler_turns order.numbering core.funs h fits.0 here 0 ∙ sym moved ∙ order.derived;
       }
 
-pub handlers_keep_order : (core : Parts) → IsValid core → KeepsOrder core
+pub handlers_keep_order : (core : CoreParts) → IsValid core → KeepsOrder core
 handlers_keep_order core valid k h is = (to_flat core valid k h is, to_core core valid k h is)

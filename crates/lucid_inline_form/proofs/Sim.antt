@@ -6,7 +6,7 @@ use Rattle.lucid_core.specs.declared.body.Expr.{Expr}
 use Rattle.lucid_core.specs.Acts.{Act, Effect, Frame, Fun, State, Ran, all, block, called}
 use Rattle.lucid_core.specs.Meaning.{all_given, holding, effect_of, value_of}
 use Rattle.lucid_inline_form.specs.Flat as f
-use Rattle.lucid_inline_form.specs.Flat.{Flatten, Made, Site, PutIn}
+use Rattle.lucid_inline_form.specs.Flat.{Flatten, Flattened, Site, PutIn}
 use Rattle.lucid_inline_form.proofs.Fit.{Fit}
 use Rattle.lucid_inline_form.proofs.Locals.{Begins, begins_self, local_at, zeros}
 
@@ -99,14 +99,14 @@ module _ (W : List ℕ) (now me : ℕ) where
   AllGood _ _ _ = ⊥
 
   -- The functions of this number.
-  pub record Found (room : ℕ) (put : Option PutIn) (g : Option Fun) : Type 0 where
+  pub record PutInFor (room : ℕ) (put : Option PutIn) (g : Option Fun) : Type 0 where
     pub a_put : PutIn
     pub a_fun : Fun
     pub put_is : put ≡ Some a_put
     pub fun_is : g ≡ Some a_fun
     pub good : Good room a_put a_fun
 
-  pub found : (rs : List ℕ) (ps : List PutIn) (gs : List Fun) → AllGood rs ps gs → (k room : ℕ) → slice_get rs k ≡ Some room → Found room (slice_get ps k) (slice_get gs k)
+  pub found : (rs : List ℕ) (ps : List PutIn) (gs : List Fun) → AllGood rs ps gs → (k room : ℕ) → slice_get rs k ≡ Some room → PutInFor room (slice_get ps k) (slice_get gs k)
   found [] [] [] all k room h = absurd (cc)
   found (r ∷ rs) (p ∷ ps) (g ∷ gs) all zero room h =
       let e : r ≡ room = cc in

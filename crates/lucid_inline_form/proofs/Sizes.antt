@@ -21,7 +21,7 @@ use Rattle.lucid_effects_order.specs.Size.{flat_stmt_size}
 use Rattle.lucid_inline_form.specs.Counts as o
 use Rattle.lucid_inline_form.specs.Counts.{body_size, expr_size, fun_sizes, stmt_size, touch_size}
 use Rattle.lucid_inline_form.specs.Flat as f
-use Rattle.lucid_inline_form.specs.Flat.{Flatten, Made, PutIn, Site, flat_expr, flat_stmt, flat_touch, locals_from, to_member}
+use Rattle.lucid_inline_form.specs.Flat.{Flatten, Flattened, PutIn, Site, flat_expr, flat_stmt, flat_touch, locals_from, to_member}
 use Rattle.lucid_inline_form.proofs.Fit as r
 use Rattle.lucid_inline_form.proofs.Fit.{Fit, expr_fit, stmt_fit, touch_fit}
 use Rattle.lucid_inline_form.proofs.Outs.{total-append}

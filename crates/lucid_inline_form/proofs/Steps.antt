@@ -14,7 +14,7 @@ use Rattle.lucid_core.specs.Fits.{args_fit, event_fits}
 use Rattle.lucid_core.specs.Syntax.{is_core_stmt}
 use Rattle.lucid_core.specs.Limits.{body_keeps_limits}
 use Rattle.lucid_core.specs.Names.{stmt_names}
-use Rattle.lucid_core.specs.Parts.{Parts}
+use Rattle.lucid_core.specs.Parts.{CoreParts}
 use Rattle.lucid_core.specs.Scope.{each, fun_scope, handler_scope, funs_pass}
 use Rattle.lucid_core.specs.Step.{handler_of, ran}
 use Rattle.lucid_core.specs.Typing.{returns_of, body_gives_only}
@@ -32,7 +32,7 @@ rooms_from-is : (rooms : List ℕ) (ds : List FunDef) → rooms_from rooms ds �
 rooms_from-is rooms [] = sym (append-nil rooms)
 rooms_from-is rooms (d ∷ ds) = rooms_from-is (rooms ++ d.params ∷ []) ds ∙ append_assoc rooms (d.params ∷ []) (rooms_of ds)
 
-valid_funs_fit : (core : Parts) (before ds : List FunDef) → list_all (λ d. nat_le d.params (length d.locals)) before ≡ true → list_all (λ d. nat_le d.params (length d.locals)) ds ≡ true → funs_pass (λ earlier d. each (map stmt_names d.body) (fun_scope core earlier d)) before ds ≡ true →
+valid_funs_fit : (core : CoreParts) (before ds : List FunDef) → list_all (λ d. nat_le d.params (length d.locals)) before ≡ true → list_all (λ d. nat_le d.params (length d.locals)) ds ≡ true → funs_pass (λ earlier d. each (map stmt_names d.body) (fun_scope core earlier d)) before ds ≡ true →
     funs_pass (λ earlier d. body_gives_only d.answer d.body (fun_scope core earlier d)) before ds ≡ true → list_all (λ d. list_all is_core_stmt d.body) ds ≡ true →
     list_all (λ d. body_keeps_limits d.body) ds ≡ true → funs_fit (rooms_of before) ds ≡ true
 valid_funs_fit core before [] known small names widths forms limits = refl
@@ -48,7 +48,7 @@ valid_funs_fit core before (d ∷ ds) known small names widths forms limits =
     let more = valid_funs_fit core (before ++ d ∷ []) ds known2 smalls.1 name.1 width.1 form.1 limit.1 in
     and_from _ _ (and_from _ _ smalls.0 one) (subst (λ (rooms : List ℕ). funs_fit rooms ds ≡ true) (map-append (λ (g : FunDef). g.params) before (d ∷ [])) more)
 
-valid_handlers_fit : (core : Parts) → list_all (λ d. nat_le d.params (length d.locals)) core.funs ≡ true → (hs : List HandlerDef) → list_all (λ h. each (map stmt_names h.body) (handler_scope core h)) hs ≡ true → list_all (λ h. body_gives_only None h.body (handler_scope core h)) hs ≡ true →
+valid_handlers_fit : (core : CoreParts) → list_all (λ d. nat_le d.params (length d.locals)) core.funs ≡ true → (hs : List HandlerDef) → list_all (λ h. each (map stmt_names h.body) (handler_scope core h)) hs ≡ true → list_all (λ h. body_gives_only None h.body (handler_scope core h)) hs ≡ true →
     list_all (λ h. list_all is_core_stmt h.body) hs ≡ true → list_all (λ h. body_keeps_limits h.body) hs ≡ true →
     list_all (λ h. r.each (map stmt_fit h.body) (length h.locals) (rooms_of core.funs)) hs ≡ true
 valid_handlers_fit core small [] names widths forms limits = refl
@@ -60,7 +60,7 @@ valid_handlers_fit core small (h ∷ hs) names widths forms limits =
     let rule = body_rule (handler_scope core h) None (map returns_of h.body) width.0 in
     and_from _ _ (body_fits (handler_scope core h) small h.body name.0 rule.0 rule.1 form.0 limit.0) (valid_handlers_fit core small hs name.1 width.1 form.1 limit.1)
 
-pub valid_fits : (core : Parts) → IsValid core → program_fits core ≡ true
+pub valid_fits : (core : CoreParts) → IsValid core → program_fits core ≡ true
 valid_fits core valid =
     let all_names = and_parts _ _ valid.sound.names in
     let small = all_names.1 in
@@ -85,7 +85,7 @@ args-length [] (a ∷ args) h = absurd (cc)
 args-length (w ∷ ws) [] h = absurd (cc)
 args-length (w ∷ ws) (a ∷ args) h = ap suc (args-length ws args (and_parts _ _ h).1)
 
-pub few_arguments : (core : Parts) → IsValid core → (event : Event) → event_fits core event ≡ true → (h : HandlerDef) → handler_of core event.id ≡ Some h → length event.args ≤ length h.locals
+pub few_arguments : (core : CoreParts) → IsValid core → (event : Event) → event_fits core event ≡ true → (h : HandlerDef) → handler_of core event.id ≡ Some h → length event.args ≤ length h.locals
 few_arguments core valid event fits h is = at (option_and_then (λ e. e.handler) (slice_get core.events event.id)) refl is
   where
     agree : events_and_handlers_agree core ≡ true
@@ -103,7 +103,7 @@ few_arguments core valid event fits h is = at (option_and_then (λ e. e.handler)
         let l2 = starts-length h.locals d.event.params d.begins in
         omega arith
 
-pub flat_steps : (core : Parts) → IsValid core → KeepsSteps core
+pub flat_steps : (core : CoreParts) → IsValid core → KeepsSteps core
 flat_steps core valid = record {
   step = λ cells now me event fits. let same = runs cells now me event fits in ap₂ (λ c o. record { cells = c; outs = o }) same.cells same.outs;
   touches = λ cells now me event fits. (runs cells now me event fits).calls;

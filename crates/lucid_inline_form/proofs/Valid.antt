@@ -11,7 +11,7 @@ use Rattle.lucid_core.specs.Events.{event_params, events_and_handlers_agree, han
 use Rattle.lucid_core.specs.Numbered.{rising}
 use Rattle.lucid_core.specs.Numbers.{is_in}
 use Rattle.lucid_core.specs.OutCount.{body_outs, funs_outs}
-use Rattle.lucid_core.specs.Parts.{Parts}
+use Rattle.lucid_core.specs.Parts.{CoreParts}
 use Rattle.lucid_core.specs.Uses.{all_keep_to_themselves, assigns_its_locals, body_uses, times_in}
 use Rattle.lucid_core.specs.Valid.{IsValid, IsValidFlat}
 use Rattle.lucid_core.proofs.Handlers.{declared, numbered_at}
@@ -83,7 +83,7 @@ mapped {A = A} g xs k y h = at (slice_get xs k) refl (sym (slice_get-map g xs k)
     at None is e = absurd (cc)
     at (Some x) is e = (x, is, cc)
 
-module _ (core : Parts) (valid : IsValid core) where
+module _ (core : CoreParts) (valid : IsValid core) where
   abbrev flat : HandlerDef → HandlerDef
   flat = f.flat_handler core.funs
 

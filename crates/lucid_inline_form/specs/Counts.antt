@@ -10,11 +10,11 @@ use Rattle.lucid_core.specs.declared.defs.HandlerDef.{HandlerDef}
 use Rattle.lucid_core.specs.Children.{expr_children, stmt_children, touch_children}
 use Rattle.lucid_core.specs.Length.{fun_lengths, handler_length}
 use Rattle.lucid_core.specs.OutCount.{Count, total}
-use Rattle.lucid_core.specs.Parts.{Parts}
+use Rattle.lucid_core.specs.Parts.{CoreParts}
 use Rattle.lucid_effects_order.specs.Size.{flat_stmt_size, total as sum_of}
 
 -- How long the normal form of each handler is. It reads a core and a flat core alike.
-abbrev pub handler_lengths : Parts → List ℕ
+abbrev pub handler_lengths : CoreParts → List ℕ
 handler_lengths parts = map (handler_length parts (fun_lengths [] parts.funs)) parts.handlers
 
 -- The size of the flat form, from the sizes of the functions before: each statement counts, each call with its function's size,
@@ -48,7 +48,7 @@ abbrev pub fun_sizes : List ℕ → List FunDef → List ℕ
 fun_sizes before fs = fold (λ so_far f. so_far ++ body_size f.body so_far ∷ []) before fs
 
 -- How large the flat form of each handler is.
-abbrev pub handler_sizes : Parts → List ℕ
+abbrev pub handler_sizes : CoreParts → List ℕ
 handler_sizes parts = map (λ h. body_size h.body (fun_sizes [] parts.funs)) parts.handlers
 
 -- How large a flat handler is.

@@ -8,7 +8,7 @@ use Rattle.lucid_core.specs.declared.body.Stmt.{Stmt}
 use Rattle.lucid_core.specs.declared.defs.FunDef.{FunDef}
 use Rattle.lucid_core.specs.ExamplePrograms.{assign, bump, bumps, call, choose, drop_value, generate, handler, inlined, less, local, number, one}
 use Rattle.lucid_core.specs.ExamplePrograms.{plus, program, return, small, to_each_after, update, yes, generate_with}
-use Rattle.lucid_core.specs.Parts.{Parts}
+use Rattle.lucid_core.specs.Parts.{CoreParts}
 use Rattle.lucid_inline_form.specs.Counts.{handler_lengths, handler_sizes}
 use Rattle.lucid_inline_form.specs.Flat.{flat_of}
 
@@ -17,14 +17,14 @@ abbrev pub bump_at : Expr → Expr
 bump_at x = call 0 (Global 0 ∷ []) (x ∷ [])
 
 -- The handler with this body.
-abbrev pub doing : List Stmt → Parts
+abbrev pub doing : List Stmt → CoreParts
 doing ss = program bumps ss
 
 -- `bump` with this body, called once and twice.
-abbrev pub called_once : List Stmt → Parts
+abbrev pub called_once : List Stmt → CoreParts
 called_once body = program body (drop_value (bump_at (local 0)) ∷ [])
 
-abbrev pub called_twice : List Stmt → Parts
+abbrev pub called_twice : List Stmt → CoreParts
 called_twice body = program body (drop_value (bump_at (local 0)) ∷ drop_value (bump_at (local 0)) ∷ [])
 
 -- A parameter and a local of its own, each assigned in a branch.
@@ -39,7 +39,7 @@ abbrev pub above : ℕ → FunDef
 above k = bump (return (Some (less (call k (Param 0 ∷ []) (local 0 ∷ [])) (call k (Param 0 ∷ []) (local 0 ∷ [])))) ∷ [])
 
 -- Three of them, one above the other; the handler sends out what the last gives.
-abbrev pub tower : Parts
+abbrev pub tower : CoreParts
 tower = record small {
   funs = bottom ∷ above 0 ∷ above 1 ∷ [];
   handlers = handler (generate 0 (local 0 ∷ call 2 (Global 0 ∷ []) (local 0 ∷ []) ∷ []) ∷ []) ∷ [];
@@ -54,7 +54,7 @@ abbrev pub bump_in : ℕ → Expr → Expr
 bump_in b x = inlined ((b, x) ∷ []) (assign (b + 1) (update (Global 0) (local b) plus) ∷ return (Some (local (b + 1))) ∷ [])
 
 -- The flat handler with this body, and so many more locals of 32 bits.
-abbrev pub flat_with : List ℕ → List Stmt → Parts
+abbrev pub flat_with : List ℕ → List Stmt → CoreParts
 flat_with more ss = record small { funs = []; handlers = record (handler ss) { locals = 32 ∷ 32 ∷ 32 ∷ more } ∷ [] }
 
 abbrev pub four_more : List ℕ
@@ -80,7 +80,7 @@ pub record FlatExamples : Type 0 where
       ≡ flat_with (32 ∷ four_more) (assign 5 (local 0) ∷ assign 6 (bump_in 3 (local 0)) ∷ assign 7 one ∷ to_one 4 ∷ to_one 2 ∷ [])
 
 -- Of a program with one handler: the length of the normal form, and the size of the flat form.
-abbrev pub Counted : Parts → ℕ → ℕ → Type 0
+abbrev pub Counted : CoreParts → ℕ → ℕ → Type 0
 Counted core length size = (handler_lengths core ≡ length ∷ []) × (handler_sizes core ≡ size ∷ [])
 
 -- if (i < 1) { return 1; } else { return 2; }

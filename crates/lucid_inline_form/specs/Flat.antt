@@ -15,17 +15,17 @@ use Rattle.lucid_core.specs.declared.defs.FunDef.{FunDef}
 use Rattle.lucid_core.specs.declared.defs.HandlerDef.{HandlerDef}
 use Rattle.lucid_core.specs.Acts.{array_of}
 use Rattle.lucid_core.specs.ExamplePrograms.{local}
-use Rattle.lucid_core.specs.Parts.{Parts}
+use Rattle.lucid_core.specs.Parts.{CoreParts}
 use Rattle.lucid_core.specs.Width.{expr_width}
 
 -- What a part becomes, and the widths of the handler's locals behind it.
-pub record Made (A : Type 0) : Type 0 where
+pub record Flattened (A : Type 0) : Type 0 where
   pub value : A
   pub locals : List ℕ
 
 -- What a function's body becomes, given the arrays that its array parameters stand for, and the widths of the handler's locals so far.
 abbrev pub PutIn : Type 0
-PutIn = List ℕ → List ℕ → Made (List Stmt)
+PutIn = List ℕ → List ℕ → Flattened (List Stmt)
 
 -- Where a body is put in: the arrays that its array parameters stand for, the number of its first local, and the functions before it.
 pub record Site : Type 0 where
@@ -35,7 +35,7 @@ pub record Site : Type 0 where
 
 -- What a part becomes at a site, behind these locals.
 abbrev pub Flatten : Type 0 → Type 0
-Flatten A = Site → List ℕ → Made A
+Flatten A = Site → List ℕ → Flattened A
 
 abbrev pub done : {A : Type 0} → A → Flatten A
 done x = λ p ws. record { value = x; locals = ws }
@@ -63,7 +63,7 @@ both true t u = do x ← t; y ← u; done (x, y)
 both false t u = do y ← u; x ← t; done (x, y)
 
 -- A call of this function, with these arrays and arguments: its locals get the next numbers, and the first of them hold the arguments.
-abbrev pub put_in : Option PutIn → List ℕ → List Expr → List ℕ → Made (Expr-F Expr Stmt Touch)
+abbrev pub put_in : Option PutIn → List ℕ → List Expr → List ℕ → Flattened (Expr-F Expr Stmt Touch)
 put_in None arrays args ws = record { value = Expr-F.Inlined (enumerate_from (length ws) args) []; locals = ws }
 put_in (Some f) arrays args ws =
     let body = f arrays ws in record { value = Expr-F.Inlined (enumerate_from (length ws) args) body.value; locals = body.locals }
@@ -160,12 +160,12 @@ put_of before f = λ arrays ws. block (map flat_stmt f.body) (record { arrays = 
 abbrev pub puts_of : List FunDef → List PutIn
 puts_of fs = fold (λ before f. before ++ put_of before f ∷ []) [] fs
 
-abbrev pub flat_body : List FunDef → HandlerDef → Made (List Stmt)
+abbrev pub flat_body : List FunDef → HandlerDef → Flattened (List Stmt)
 flat_body funs h = block (map flat_stmt h.body) (record { arrays = []; first = 0; funs = puts_of funs }) h.locals
 
 abbrev pub flat_handler : List FunDef → HandlerDef → HandlerDef
 flat_handler funs h = let made = flat_body funs h in record h { locals = made.locals; body = made.value }
 
 -- The flat form of a program.
-abbrev pub flat_of : Parts → Parts
+abbrev pub flat_of : CoreParts → CoreParts
 flat_of core = record core { funs = []; handlers = map (flat_handler core.funs) core.handlers }

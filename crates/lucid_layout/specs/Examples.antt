@@ -8,7 +8,7 @@ use Rattle.lucid_code.specs.declared.op.Literal.{Literal}
 use Rattle.lucid_code.specs.declared.op.Op.{Op}
 use Rattle.lucid_code.specs.Examples.{is, fixed, field, op, same, one_argument, move}
 use Rattle.lucid_code.specs.Nodes.{nodes_follow_writes}
-use Rattle.lucid_code.specs.Parts.{Parts}
+use Rattle.lucid_code.specs.Parts.{CodeParts}
 use Rattle.lucid_code.specs.Valid.{IsValid}
 use Rattle.lucid_tables.specs.declared.stage.StageCode.{StageCode}
 use Rattle.lucid_tables.specs.Examples.{row, stage_of}
@@ -53,7 +53,7 @@ branching =
 abbrev pub cells : ArrayDef
 cells = record { name = []; width = 32; size = 2 }
 
-abbrev pub branches : Parts
+abbrev pub branches : CodeParts
 branches = record { fields = 32 ∷ 32 ∷ 32 ∷ 32 ∷ 32 ∷ 1 ∷ 32 ∷ 32 ∷ 32 ∷ 32 ∷ 32 ∷ []; inputs = one_argument; arrays = cells ∷ []; ops = branching }
 
 abbrev pub at : ℕ → ℕ → Pair

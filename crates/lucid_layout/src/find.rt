@@ -3,7 +3,7 @@ ghost use Rattle.std.specs.Prelude.{◌≡◌, ◌<◌, ◌≤◌, ℕ, true, No
 ghost use Rattle.lucid_tables.specs.Rows.{table as table_of_rows};
 ghost use Rattle.lucid_merge.specs.Product.{product};
 ghost use Rattle.lucid_layout.specs.Fit.{rows_at, TableFits, StageFits, Least};
-ghost use Rattle.lucid_layout.specs.Search.{Found, Fits, TableAt};
+ghost use Rattle.lucid_layout.specs.Search.{LeastTable, Fits, TableAt};
 
 use crate::growing::{Known, grown};
 use crate::stage::{Pair, Stage};
@@ -56,7 +56,7 @@ fn find_table(
     limits: &Limits,
 ) -> Result<Option<(u32, Table)>, Memory>
     ensures none { result ≡ Ok None → (t : ℕ) → TableFits limits.now stage.now more.now.rows t → ⊥ }
-    ensures some { IfOk result (λ o. IfSome o (λ x. Found limits.now stage.now more.now.rows x.0 x.1)) }
+    ensures some { IfOk result (λ o. IfSome o (λ x. LeastTable limits.now stage.now more.now.rows x.0 x.1)) }
 {
     for t in 0..limits.tables {
         if t as usize > stage.tables.len() {
@@ -82,7 +82,7 @@ fn find_in(
 ) -> Result<Option<(u32, Table)>, Memory>
     ensures none { result ≡ Ok None → (t : ℕ) → StageFits limits.now stage.now array more.now.rows t → ⊥ }
     ensures room { IfOk result (λ o. IsSome o → array ≡ true → stage.now.arrays < limits.now.arrays) }
-    ensures some { IfOk result (λ o. IfSome o (λ x. Found limits.now stage.now more.now.rows x.0 x.1)) }
+    ensures some { IfOk result (λ o. IfSome o (λ x. LeastTable limits.now stage.now more.now.rows x.0 x.1)) }
 {
     if array && stage.arrays >= limits.arrays {
         return Ok(None);

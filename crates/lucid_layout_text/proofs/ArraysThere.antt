@@ -4,7 +4,7 @@ use Rattle.std.specs.List.{list_all, flat_map, enumerate_from, All, AllByRecursi
 use Rattle.std.specs.Option.{option_map_or, option_to_list}
 use Rattle.std.proofs.lemmas.Bool.{and_parts, or_cases, eqb-true, true≢false, ltb-true}
 use Rattle.lucid_code.specs.declared.op.Op.{Op}
-use Rattle.lucid_code.specs.Parts.{Parts}
+use Rattle.lucid_code.specs.Parts.{CodeParts}
 use Rattle.lucid_code.specs.Uses.{called_by}
 use Rattle.lucid_code.specs.Valid.{IsValid, op_is_sound, names_are_there, inputs_stay, widths_agree, act_keeps_limits, literal_fits}
 use Rattle.lucid_tables.specs.declared.stage.StageCode.{StageCode}
@@ -25,7 +25,7 @@ all_of P [] h k d l = absurd (omega (arith, l))
 all_of P (x ∷ xs) h zero d l = h.0
 all_of P (x ∷ xs) h (suc k) d l = all_of P xs h.1 k d (omega (arith, l))
 
-module _ (code : Parts) (valid : IsValid code) where
+module _ (code : CodeParts) (valid : IsValid code) where
   call_there : (i : ℕ) (o : Op) → slice_get code.ops i ≡ Some o → Within (length code.arrays) (option_to_list (called_by o.act))
   call_there i o e =
       let sound = sound_at (op_is_sound code.fields code.inputs code.arrays) code.ops i o valid.ops e in
@@ -75,5 +75,5 @@ module _ (code : Parts) (valid : IsValid code) where
   stages_there n (s ∷ stages) =
       lines_join (lines_in code.ops n s.tables) (flat_map (λ (s : ℕ × StageCode). lines_in code.ops s.0 s.1.tables) (enumerate_from (n + 1) stages)) (tables_there n 0 s.tables) (stages_there (n + 1) stages)
 
-pub lines_are_there : (code : Parts) (stages : List StageCode) → IsValid code → ArraysAreThere (length code.arrays) (lines code.ops stages)
+pub lines_are_there : (code : CodeParts) (stages : List StageCode) → IsValid code → ArraysAreThere (length code.arrays) (lines code.ops stages)
 lines_are_there code stages valid = all_of (Fits code valid) (lines code.ops stages) (stages_there code valid 0 stages)

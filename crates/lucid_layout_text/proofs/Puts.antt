@@ -3,7 +3,7 @@ use Rattle.std.proofs.Common.{◌≡◌, ◌≢◌, ℕ, ◌+◌, ◌<◌, ◌�
 use Rattle.std.specs.List.{flat_map}
 use Rattle.lucid_base.specs.declared.array.ArrayDef.{ArrayDef}
 use Rattle.lucid_code.specs.declared.op.Op.{Op}
-use Rattle.lucid_code.specs.Parts.{Parts}
+use Rattle.lucid_code.specs.Parts.{CodeParts}
 use Rattle.lucid_layout_text.specs.declared.table_line.TableLine.{TableLine}
 use Rattle.lucid_layout_text.specs.Lines.{arrays_text, name_text, counts_text, line_text, text_of}
 
@@ -25,6 +25,6 @@ arrays_some arrays [] some = absurd (some refl)
 arrays_some arrays (g ∷ gs) some = refl
 
 -- the counts, and then the lines
-pub whole : {text : List ℕ} (code : Parts) (bits nodes : ℕ) (lines : List TableLine) (ops : List Op) (arrays : List ArrayDef) (seen : List TableLine) →
+pub whole : {text : List ℕ} (code : CodeParts) (bits nodes : ℕ) (lines : List TableLine) (ops : List Op) (arrays : List ArrayDef) (seen : List TableLine) →
     text_of code bits nodes lines ≡ text → ops ≡ code.ops → arrays ≡ code.arrays → seen ≡ lines → text ≡ counts_text (length ops) bits nodes ++ flat_map (line_text arrays) seen
 whole code bits nodes lines ops arrays seen is ops_are arrays_are lines_are = rw (ops_are, arrays_are, lines_are) (sym is)

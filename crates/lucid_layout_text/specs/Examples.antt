@@ -4,7 +4,7 @@ use Rattle.lucid_base.specs.declared.array.ArrayDef.{ArrayDef}
 use Rattle.lucid_code.specs.declared.op.Act.TheVariants as act
 use Rattle.lucid_code.specs.declared.op.Op.{Op}
 use Rattle.lucid_code.specs.Examples.{is, fixed, op, same, one_argument}
-use Rattle.lucid_code.specs.Parts.{Parts}
+use Rattle.lucid_code.specs.Parts.{CodeParts}
 use Rattle.lucid_tables.specs.declared.table.Row.{Row}
 use Rattle.lucid_tables.specs.Examples.{row, stage_of}
 use Rattle.lucid_tables.specs.Placed.{placed_of}
@@ -22,7 +22,7 @@ touching =
     ∷ op [] 0 (act.Gen 0 0 [] (fixed 0) None)
     ∷ []
 
-abbrev pub touch : Parts
+abbrev pub touch : CodeParts
 touch = record {
   fields = 32 ∷ 32 ∷ 32 ∷ 32 ∷ [];
   inputs = one_argument;

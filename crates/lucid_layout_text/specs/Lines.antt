@@ -3,7 +3,7 @@ use Rattle.std.specs.Prelude.{ℕ, ◌<◌, List, [], ◌∷◌, ◌++◌, lengt
 use Rattle.std.specs.List.{flat_map, All}
 use Rattle.std.specs.Option.{option_map_or}
 use Rattle.lucid_base.specs.declared.array.ArrayDef.{ArrayDef}
-use Rattle.lucid_code.specs.Parts.{Parts}
+use Rattle.lucid_code.specs.Parts.{CodeParts}
 use Rattle.lucid_layout_text.specs.declared.table_line.TableLine.{TableLine}
 
 -- `ops N bits N nodes N`
@@ -33,7 +33,7 @@ abbrev pub line_text : List ArrayDef → TableLine → List ℕ
 line_text arrays l = line_head l ++ (arrays_text arrays l.arrays ++ codes "\n")
 
 -- Code of so many bits and nodes, with these lines.
-abbrev pub text_of : Parts → ℕ → ℕ → List TableLine → List ℕ
+abbrev pub text_of : CodeParts → ℕ → ℕ → List TableLine → List ℕ
 text_of code bits nodes lines = counts_text (length code.ops) bits nodes ++ flat_map (line_text code.arrays) lines
 
 -- Every array of the lines is one of so many.

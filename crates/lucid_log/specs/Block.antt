@@ -7,16 +7,16 @@ use Rattle.lucid_base.specs.declared.event.Target.{Target}
 use Rattle.lucid_base.specs.declared.event.Target.TheVariants.{Here, At}
 use Rattle.lucid_base.specs.declared.event.Out.{Out}
 use Rattle.lucid_base.specs.declared.event.Out.TheVariants.{Gen, Say}
-use Rattle.lucid_core.specs.Parts.{Parts}
+use Rattle.lucid_core.specs.Parts.{CoreParts}
 use Rattle.lucid_log.specs.Filled.{filled}
 use Rattle.lucid_log.specs.Pieces.{numbers_text}
 
 -- The name of an event; none where there is no such event.
-abbrev pub event_name : Parts → ℕ → List ℕ
+abbrev pub event_name : CoreParts → ℕ → List ℕ
 event_name core id = option_map_or (λ e. e.name) (slice_get core.events id) []
 
 -- The text of a print; none where there is no such text.
-abbrev pub form_of : Parts → ℕ → List ℕ
+abbrev pub form_of : CoreParts → ℕ → List ℕ
 form_of core form = unwrap_or (slice_get core.forms form) []
 
 -- `[T] sS NAME(ARGS)`
@@ -44,7 +44,7 @@ generate_text name args delay to is_lost = sent_text name args delay ++ target_t
 abbrev pub say_text : List ℕ → List ℕ → List ℕ
 say_text text numbers = codes "  say " ++ filled text numbers ++ codes "\n"
 
-abbrev pub out_text : Parts → Out → Bool → List ℕ
+abbrev pub out_text : CoreParts → Out → Bool → List ℕ
 out_text core (Gen event delay to) is_lost = generate_text (event_name core event.id) event.args delay to is_lost
 out_text core (Say form numbers) is_lost = say_text (form_of core form) numbers
 
@@ -53,9 +53,9 @@ abbrev pub is_marked : ℕ → ℕ → Bool
 is_marked marks i = nat_eq (bit_at marks i) 1
 
 -- The outs from number `i` on, a line each; bit `i` of `lost` marks out `i`.
-abbrev pub outs_text : Parts → ℕ → ℕ → List Out → List ℕ
+abbrev pub outs_text : CoreParts → ℕ → ℕ → List Out → List ℕ
 outs_text core lost i [] = []
 outs_text core lost i (out ∷ outs) = out_text core out (is_marked lost i) ++ outs_text core lost (i + 1) outs
 
-abbrev pub block_text : Parts → ℕ → ℕ → Event → List Out → ℕ → List ℕ
+abbrev pub block_text : CoreParts → ℕ → ℕ → Event → List Out → ℕ → List ℕ
 block_text core tick switch event outs lost = head_text tick switch (event_name core event.id) event.args ++ outs_text core lost 0 outs

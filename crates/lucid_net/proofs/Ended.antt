@@ -4,7 +4,7 @@ use Rattle.std.proofs.lemmas.Bool.Decides.{nat_tests}
 use Rattle.std.proofs.lemmas.List.{length-map}
 use Rattle.std.specs.List.{AllByRecursion, list_all}
 use Rattle.lucid_base.specs.declared.array.ArrayDef.{ArrayDef}
-use Rattle.lucid_core.specs.Parts.{Parts}
+use Rattle.lucid_core.specs.Parts.{CoreParts}
 use Rattle.lucid_io.proofs.Leaves.{Leaves-after, Leaves-whole, PutsAll-last, PutsPart-last}
 use Rattle.lucid_io.specs.Puts.{Leaves, PutsAll, PutsPart}
 use Rattle.lucid_log.specs.Cells.{cells_text}
@@ -37,12 +37,12 @@ use Rattle.lucid_net.proofs.Running.{all_cells-next, all_cells-none}
 use Rattle.lucid_net.proofs.Went.{empty_of, rows_empty}
 
 -- the cells of one more pipe
-pub pipes-next : (parts : Parts) (arrays : List ArrayDef) (all : List PipeParts) (i : ℕ) (p : PipeParts) → i < length all → p ≡ get_or all i p → arrays ≡ parts.arrays →
+pub pipes-next : (parts : CoreParts) (arrays : List ArrayDef) (all : List PipeParts) (i : ℕ) (p : PipeParts) → i < length all → p ≡ get_or all i p → arrays ≡ parts.arrays →
     all_cells parts i (drop i (map held all)) ≡ cells_text i arrays (held p) ++ all_cells parts (i + 1) (drop (i + 1) (map held all))
 pipes-next parts arrays all i p lt is same =
     all_cells-next parts arrays (map held all) i (held p) (subst (λ (n : ℕ). i < n) (sym (length-map all held)) lt) (sym (map_get held all i p (held p) lt is)) same
 
-pub pipes-none : (parts : Parts) (all : List PipeParts) (i : ℕ) → length all ≤ i → all_cells parts i (drop i (map held all)) ≡ []
+pub pipes-none : (parts : CoreParts) (all : List PipeParts) (i : ℕ) → length all ≤ i → all_cells parts i (drop i (map held all)) ≡ []
 pipes-none parts all i le = all_cells-none parts (map held all) i (subst (λ (n : ℕ). n ≤ i) (sym (length-map all held)) le)
 
 -- lists that are the same at each place

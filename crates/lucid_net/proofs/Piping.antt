@@ -5,7 +5,7 @@ use Rattle.std.proofs.lemmas.Bool.Decides.{nat_tests}
 use Rattle.std.proofs.lemmas.List.{length-map}
 use Rattle.std.specs.List.{AllByRecursion, find, list_all}
 use Rattle.lucid_code.specs.Inputs.{IsInput}
-use Rattle.lucid_core.specs.Parts.{Parts}
+use Rattle.lucid_core.specs.Parts.{CoreParts}
 use Rattle.lucid_net_flight.proofs.Behind.{stays_behind}
 use Rattle.lucid_net_flight.proofs.Bounds.{most_entered, most_lost}
 use Rattle.lucid_net_flight.proofs.Fitting.{all_fit}

@@ -11,7 +11,7 @@ use Rattle.lucid_conf.specs.declared.scene.FileEvent.{FileEvent}
 use Rattle.lucid_conf.specs.declared.scene.Link.{Link}
 use Rattle.lucid_conf.specs.declared.scene.Scene.{Scene}
 use Rattle.lucid_core.specs.Laws.{OutsFit}
-use Rattle.lucid_core.specs.Parts.{Parts}
+use Rattle.lucid_core.specs.Parts.{CoreParts}
 use Rattle.lucid_net_flight.proofs.Fitting.{all_fit}
 use Rattle.lucid_net_flight.specs.Fitting.{FileFits, SendsFit, fits}
 use Rattle.lucid_net_flight.specs.Stages.{DoAs}
@@ -28,7 +28,7 @@ links_take : (n : ℕ) (ls : List Link) → AllByRecursion (IsLink n) ls → All
 links_take n [] all = tt
 links_take n (l ∷ ls) all = (all.0.latency.0, links_take n ls all.1)
 
-events_fit : (parts : Parts) (n : ℕ) (es : List FileEvent) → AllByRecursion (IsFileEvent parts n) es → AllByRecursion (λ e. fits parts e.event) es
+events_fit : (parts : CoreParts) (n : ℕ) (es : List FileEvent) → AllByRecursion (IsFileEvent parts n) es → AllByRecursion (λ e. fits parts e.event) es
 events_fit parts n [] all = tt
 events_fit parts n (e ∷ es) all = (all.0.fits, events_fit parts n es all.1)
 
@@ -39,7 +39,7 @@ few_ticks stop n most some few = let whole : 1 + (n - 1) ≡ n = omega (arith, s
     more : (a b : ℕ) → a * (1 + b) ≡ a + a * b
     more a b = grind arith
 
-pub ready : (parts : Parts) (scene : Scene) (limits : Limits) (placed : PlacedParts) → IsScene parts scene → IsBetween 1 32 limits.stages → length placed.stages ≡ limits.stages → OutsFit parts →
+pub ready : (parts : CoreParts) (scene : Scene) (limits : Limits) (placed : PlacedParts) → IsScene parts scene → IsBetween 1 32 limits.stages → length placed.stages ≡ limits.stages → OutsFit parts →
     length scene.events ≤ 2 ^ 32 → DoAs (whole parts scene limits) (stages_of placed) (IsGood placed parts) (fits parts) →
     ((switch : ℕ) (event : Event) → switch < 2 ^ 32 → fits parts event → IsInput placed.code switch event) → IsReady (whole parts scene limits) placed
 ready parts scene limits placed kept stages long outs few does takes = record {
@@ -75,7 +75,7 @@ ready parts scene limits placed kept stages long outs few does takes = record {
     sends = λ cells tick switch event. outs.each cells tick switch event
 
 -- the same of code that stands for the program
-pub ready_placed : (parts : Parts) (scene : Scene) (limits : Limits) (placed : PlacedParts) → IsScene parts scene → IsBetween 1 32 limits.stages → length placed.stages ≡ limits.stages → OutsFit parts →
+pub ready_placed : (parts : CoreParts) (scene : Scene) (limits : Limits) (placed : PlacedParts) → IsScene parts scene → IsBetween 1 32 limits.stages → length placed.stages ≡ limits.stages → OutsFit parts →
     length scene.events ≤ 2 ^ 32 → length parts.events ≤ 2 ^ 32 → StandsFor placed.code parts → placed.code.arrays ≡ parts.arrays → PassDoesAs parts placed → TakesAll parts placed → IsReady (whole parts scene limits) placed
 ready_placed parts scene limits placed kept stages long outs few many stands arrays does takes =
     let short : scene.stop ≤ 131072 = few_ticks scene.stop scene.switches 131072 kept.switches.0 kept.stop in

@@ -3,7 +3,7 @@ use Rattle.std.proofs.Common.{zero, suc, append_assoc, arith, ◌≡◌, ℕ, �
 use Rattle.lucid_base.specs.declared.array.ArrayDef.{ArrayDef}
 use Rattle.lucid_conf.specs.declared.limits.Limits.{Limits}
 use Rattle.lucid_conf.specs.declared.scene.Scene.{Scene}
-use Rattle.lucid_core.specs.Parts.{Parts}
+use Rattle.lucid_core.specs.Parts.{CoreParts}
 use Rattle.lucid_io.proofs.Leaves.{Leaves-whole, Leaves-after, Leaves-nothing}
 use Rattle.lucid_io.specs.Puts.{Leaves, PutsAll}
 use Rattle.lucid_log.specs.Cells.{cells_text}
@@ -21,7 +21,7 @@ use Rattle.lucid_net.specs.Wanting.{SomeMade}
 
 pub same_network : (old new : Seen) → AreSame old new → network new ≡ network old
 same_network old new same =
-    ap (λ (p : Parts). whole p new.scene new.limits) same.parts ∙ ap (λ (s : Scene). whole old.parts s new.limits) same.scene ∙ ap (λ (l : Limits). whole old.parts old.scene l) same.limits
+    ap (λ (p : CoreParts). whole p new.scene new.limits) same.parts ∙ ap (λ (s : Scene). whole old.parts s new.limits) same.scene ∙ ap (λ (l : Limits). whole old.parts old.scene l) same.limits
 
 -- ---- sights
 
@@ -124,14 +124,14 @@ so_far net late at =
     next = omega arith
 
 -- the cells of one more switch
-pub all_cells-next : (parts : Parts) (arrays : List ArrayDef) (all : List (List (List ℕ))) (i : ℕ) (cells : List (List ℕ)) → i < length all → cells ≡ get_or all i cells → arrays ≡ parts.arrays →
+pub all_cells-next : (parts : CoreParts) (arrays : List ArrayDef) (all : List (List (List ℕ))) (i : ℕ) (cells : List (List ℕ)) → i < length all → cells ≡ get_or all i cells → arrays ≡ parts.arrays →
     all_cells parts i (drop i all) ≡ cells_text i arrays cells ++ all_cells parts (i + 1) (drop (i + 1) all)
 all_cells-next parts arrays all i cells lt is same =
     let step : drop i all ≡ get_or all i cells ∷ drop (i + 1) all = rw add-one (drop-cons all i cells lt) in
     ap (all_cells parts i) (step ∙ ap (λ (c : List (List ℕ)). c ∷ drop (i + 1) all) (sym is))
     ∙ ap (λ (declared : List ArrayDef). cells_text i declared cells ++ all_cells parts (i + 1) (drop (i + 1) all)) (sym same)
 
-pub all_cells-none : (parts : Parts) (all : List (List (List ℕ))) (i : ℕ) → length all ≤ i → all_cells parts i (drop i all) ≡ []
+pub all_cells-none : (parts : CoreParts) (all : List (List (List ℕ))) (i : ℕ) → length all ≤ i → all_cells parts i (drop i all) ≡ []
 all_cells-none parts all i le = ap (all_cells parts i) (drop_of_length-le all le)
 
 pub same_last : (old new : Seen) → AreSame old new → last_text (network new) (lag new) ≡ last_text (network old) (lag old)

@@ -1,6 +1,6 @@
 -- A network stays what it is asked to be.
 use Rattle.std.proofs.Common.{◌≡◌, ◌≢◌, ℕ, ◌+◌, ◌-◌, ◌<◌, ◌≤◌, List, [], ◌++◌, true, false, sym, ◌∙◌, ap, subst, arith}
-use Rattle.lucid_core.specs.Parts.{Parts}
+use Rattle.lucid_core.specs.Parts.{CoreParts}
 use Rattle.lucid_net_flight.specs.Runs.{late_text}
 use Rattle.lucid_net_log.proofs.Telling.{tick_untold}
 use Rattle.lucid_net_log.specs.Log.{State, ticks, turns}

@@ -2,7 +2,7 @@
 use Rattle.std.proofs.Common.{◌≡◌, ℕ, ◌+◌, ◌-◌, ◌*◌, ◌<◌, ◌≤◌, List, [], ◌++◌, Option, None, Some, true, length, length-set, set, sym, ◌∙◌, ap, subst, add-one, arith}
 use Rattle.std.specs.List.{find, list_all}
 use Rattle.lucid_core.specs.Fits.{event_fits}
-use Rattle.lucid_core.specs.Parts.{Parts}
+use Rattle.lucid_core.specs.Parts.{CoreParts}
 use Rattle.lucid_io.proofs.Leaves.{Leaves-whole, Leaves-after, Leaves-nothing}
 use Rattle.lucid_io.specs.Puts.{Leaves, PutsAll}
 use Rattle.lucid_net_log.proofs.Passing.{first_of, without_passes}
@@ -36,7 +36,7 @@ turn_after net tick switch now p is = ap (λ (o : Option Pending). untold (enter
 pub turn_passes : (net : Network) (tick switch : ℕ) (now : State) → find (is_ready switch tick) now.pending ≡ None → turn net tick switch now ≡ now
 turn_passes net tick switch now is = ap (enters net tick switch now) is
 
-pub popped_kept : (parts : Parts) (switches tick switch : ℕ) (now : State) → IsKept parts switches tick switch now → IsKept parts switches tick switch (popped tick switch now)
+pub popped_kept : (parts : CoreParts) (switches tick switch : ℕ) (now : State) → IsKept parts switches tick switch now → IsKept parts switches tick switch (popped tick switch now)
 popped_kept parts switches tick switch now kept = record {
   pending = without_passes (is_kept parts tick switch 0) (is_ready switch tick) now.pending kept.pending;
   cells = kept.cells;
@@ -44,14 +44,14 @@ popped_kept parts switches tick switch now kept = record {
   lost = kept.lost;
 }
 
-pub popped_fits : (parts : Parts) (switches tick switch : ℕ) (now : State) (p : Pending) → IsKept parts switches tick switch now → find (is_ready switch tick) now.pending ≡ Some p → event_fits parts p.event ≡ true
+pub popped_fits : (parts : CoreParts) (switches tick switch : ℕ) (now : State) (p : Pending) → IsKept parts switches tick switch now → find (is_ready switch tick) now.pending ≡ Some p → event_fits parts p.event ≡ true
 popped_fits parts switches tick switch now p kept is =
     first_of (event_fits parts p.event) (is_older tick switch 0 p.key) (found_passes (is_kept parts tick switch 0) (is_ready switch tick) now.pending p is kept.pending)
 
 pub unfound_pending : (tick switch : ℕ) (ps : List Pending) → find (is_ready switch tick) ps ≡ None → without_first (is_ready switch tick) ps ≡ ps
 unfound_pending tick switch ps is = unfound (is_ready switch tick) ps is
 
-pub passed_kept : (parts : Parts) (switches tick switch : ℕ) (now : State) → IsKept parts switches tick switch now → IsKept parts switches tick (switch + 1) now
+pub passed_kept : (parts : CoreParts) (switches tick switch : ℕ) (now : State) → IsKept parts switches tick switch now → IsKept parts switches tick (switch + 1) now
 passed_kept parts switches tick switch now kept = record {
   pending = kept_switch parts tick switch 0 now.pending kept.pending;
   cells = kept.cells;
@@ -59,7 +59,7 @@ passed_kept parts switches tick switch now kept = record {
   lost = omega (arith, kept.lost);
 }
 
-pub entered_kept : (parts : Parts) (switches tick switch : ℕ) (now new : State) (cells : List (List ℕ)) (n : ℕ) → IsKept parts switches tick switch now →
+pub entered_kept : (parts : CoreParts) (switches tick switch : ℕ) (now new : State) (cells : List (List ℕ)) (n : ℕ) → IsKept parts switches tick switch now →
     new.cells ≡ set now.cells switch cells → list_all (is_kept parts tick (switch + 1) 0) new.pending ≡ true → new.entered ≡ now.entered + 1 → new.lost ≡ now.lost + n → n ≤ 8 →
     IsKept parts switches tick (switch + 1) new
 entered_kept parts switches tick switch now new cells n kept same all counted lost few = record {
@@ -109,7 +109,7 @@ pub turning_all : {T : Type 0} {written : T → Option (List ℕ)} {faults : T �
     Turning written faults old sink net tick begun now switch → PutsAll written faults old sink (turns net tick net.scene.switches begun).text
 turning_all net tick begun now switch le so = Leaves-nothing so.text (pieces-none (turn_text net tick begun) switch net.scene.switches le)
 
-pub ticked_kept : (parts : Parts) (switches tick : ℕ) (now : State) → IsKept parts switches tick switches now → IsKept parts switches (tick + 1) 0 now
+pub ticked_kept : (parts : CoreParts) (switches tick : ℕ) (now : State) → IsKept parts switches tick switches now → IsKept parts switches (tick + 1) 0 now
 ticked_kept parts switches tick now kept = record {
   pending = kept_tick parts tick switches now.pending kept.pending;
   cells = kept.cells;

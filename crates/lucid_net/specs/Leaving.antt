@@ -3,7 +3,7 @@ use Rattle.std.specs.Prelude.{◌≡◌, ◌+◌, List, Option, None, IsTrue, tr
 use Rattle.std.specs.List.{list_all}
 use Rattle.std.specs.Option.{option_map}
 use Rattle.lucid_core.specs.Fits.{event_fits, out_fits}
-use Rattle.lucid_core.specs.Parts.{Parts}
+use Rattle.lucid_core.specs.Parts.{CoreParts}
 use Rattle.lucid_net_flight.specs.Runs.{made_by}
 use Rattle.lucid_net_log.specs.Log.{put_all}
 use Rattle.lucid_net_log.specs.Ways.{Network, Run}
@@ -26,12 +26,12 @@ abbrev pub waits : Network → PlacedParts → Rows → List Pending → List Pe
 waits net placed rows queue = put_all (made_by net (left placed rows)) queue
 
 -- The run is of an event that fits, and so is all that it sends out.
-pub record Fits (parts : Parts) (run : Run) : Type 0 where
+pub record Fits (parts : CoreParts) (run : Run) : Type 0 where
   pub event : IsTrue (event_fits parts run.event)
   pub outs : All (λ out. IsTrue (out_fits parts out)) run.outs
 
-abbrev pub KeptBefore : Parts → Run → List Pending → Type 0
+abbrev pub KeptBefore : CoreParts → Run → List Pending → Type 0
 KeptBefore parts run queue = list_all (is_kept parts run.tick run.switch 0) queue ≡ true
 
-abbrev pub KeptAfter : Parts → Run → List Pending → Type 0
+abbrev pub KeptAfter : CoreParts → Run → List Pending → Type 0
 KeptAfter parts run queue = list_all (is_kept parts run.tick (run.switch + 1) 0) queue ≡ true

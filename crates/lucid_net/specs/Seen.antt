@@ -2,7 +2,7 @@
 use Rattle.std.specs.Prelude.{◌≡◌, ℕ, ◌+◌, List, ◌++◌, Option, None, Some, Bool, false}
 use Rattle.lucid_conf.specs.declared.limits.Limits.{Limits}
 use Rattle.lucid_conf.specs.declared.scene.Scene.{Scene}
-use Rattle.lucid_core.specs.Parts.{Parts}
+use Rattle.lucid_core.specs.Parts.{CoreParts}
 use Rattle.lucid_net_flight.specs.Runs.{late_text}
 use Rattle.lucid_net_log.specs.Log.{end_text, ticks, whole}
 use Rattle.lucid_net_log.specs.Pieces.{pieces}
@@ -14,7 +14,7 @@ use Rattle.lucid_net.specs.declared.world.World.{World}
 
 -- What it runs, the placed code of its pipes, where it has pipes, how many ticks are done, and whether one failed.
 pub record Seen : Type 0 where
-  pub parts : Parts
+  pub parts : CoreParts
   pub scene : Scene
   pub limits : Limits
   pub placed : Option PlacedParts
@@ -43,7 +43,7 @@ pub record AreSame (old new : Seen) : Type 0 where
   pub placed : new.placed ≡ old.placed
 
 -- It runs these, and no tick is done.
-pub record IsStart (program : Parts) (scenario : Scene) (target : Limits) (code : Option PlacedParts) (net : Seen) : Type 0 where
+pub record IsStart (program : CoreParts) (scenario : Scene) (target : Limits) (code : Option PlacedParts) (net : Seen) : Type 0 where
   pub parts : net.parts ≡ program
   pub scene : net.scene ≡ scenario
   pub limits : net.limits ≡ target

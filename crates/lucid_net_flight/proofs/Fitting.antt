@@ -8,7 +8,7 @@ use Rattle.lucid_base.specs.declared.event.Out.TheVariants.{Gen, Say}
 use Rattle.lucid_base.specs.declared.event.Out.{Out}
 use Rattle.lucid_conf.specs.declared.scene.FileEvent.{FileEvent}
 use Rattle.lucid_core.specs.Fits.{event_fits, out_fits}
-use Rattle.lucid_core.specs.Parts.{Parts}
+use Rattle.lucid_core.specs.Parts.{CoreParts}
 use Rattle.lucid_net_log.specs.Log.{State, enters, file_events, made, put_all, run_at, ticks, turns}
 use Rattle.lucid_net_log.specs.Ways.{Arrival, Network, Run, arrival, departure, pending_out, pending_outs}
 use Rattle.lucid_queue.specs.Order.{is_before}
@@ -17,10 +17,10 @@ use Rattle.lucid_queue.specs.declared.pending.Pending.{Pending}
 use Rattle.lucid_net_flight.specs.Entering.{AllFit}
 use Rattle.lucid_net_flight.specs.Fitting.{FileFits, SendsFit, fits}
 
-abbrev Fit : Parts → List Pending → Type 0
+abbrev Fit : CoreParts → List Pending → Type 0
 Fit parts ps = AllByRecursion (λ p. fits parts p.event) ps
 
-put_fit : (parts : Parts) (p : Pending) (ps : List Pending) → fits parts p.event → Fit parts ps → Fit parts (put_in is_before p ps)
+put_fit : (parts : CoreParts) (p : Pending) (ps : List Pending) → fits parts p.event → Fit parts ps → Fit parts (put_in is_before p ps)
 put_fit parts p [] here all = (here, tt)
 put_fit parts p (q ∷ qs) here all = at (is_before p q) (put_fit parts p qs here all.1)
   where
@@ -28,11 +28,11 @@ put_fit parts p (q ∷ qs) here all = at (is_before p q) (put_fit parts p qs her
     at true rest = (here, all)
     at false rest = (all.0, rest)
 
-all_put : (parts : Parts) (xs ps : List Pending) → Fit parts xs → Fit parts ps → Fit parts (put_all xs ps)
+all_put : (parts : CoreParts) (xs ps : List Pending) → Fit parts xs → Fit parts ps → Fit parts (put_all xs ps)
 all_put parts [] ps new all = all
 all_put parts (x ∷ xs) ps new all = all_put parts xs (put_in is_before x ps) new.1 (put_fit parts x ps new.0 all)
 
-without_fit : (parts : Parts) (may : Pending → Bool) (ps : List Pending) → Fit parts ps → Fit parts (without_first may ps)
+without_fit : (parts : CoreParts) (may : Pending → Bool) (ps : List Pending) → Fit parts ps → Fit parts (without_first may ps)
 without_fit parts may [] all = tt
 without_fit parts may (p ∷ ps) all = at (may p) (without_fit parts may ps all.1)
   where
@@ -40,7 +40,7 @@ without_fit parts may (p ∷ ps) all = at (may p) (without_fit parts may ps all.
     at true rest = all.1
     at false rest = (all.0, rest)
 
-found_fits : (parts : Parts) (may : Pending → Bool) (ps : List Pending) → Fit parts ps → IfSome (find may ps) (λ p. fits parts p.event)
+found_fits : (parts : CoreParts) (may : Pending → Bool) (ps : List Pending) → Fit parts ps → IfSome (find may ps) (λ p. fits parts p.event)
 found_fits parts may [] all = tt
 found_fits parts may (p ∷ ps) all = at (may p) (found_fits parts may ps all.1)
   where
@@ -69,7 +69,7 @@ turns_fit : (net : Network) (t s : ℕ) (w : State) → SendsFit net → Fit net
 turns_fit net t zero w sends all = all
 turns_fit net t (suc s) w sends all = enters_fit net t s (turns net t s w) (find (is_ready s t) (turns net t s w).pending) sends (turns_fit net t s w sends all)
 
-file_fits : (parts : Parts) (index : ℕ) (es : List FileEvent) → AllByRecursion (λ e. fits parts e.event) es → Fit parts (file_events index es)
+file_fits : (parts : CoreParts) (index : ℕ) (es : List FileEvent) → AllByRecursion (λ e. fits parts e.event) es → Fit parts (file_events index es)
 file_fits parts index [] all = tt
 file_fits parts index (e ∷ es) all = (all.0, file_fits parts (index + 1) es all.1)
 

@@ -3,10 +3,10 @@ use Rattle.std.specs.Prelude.{ℕ, List, All, IsTrue}
 use Rattle.std.specs.List.{AllByRecursion}
 use Rattle.lucid_base.specs.declared.event.Event.{Event}
 use Rattle.lucid_core.specs.Fits.{event_fits, out_fits}
-use Rattle.lucid_core.specs.Parts.{Parts}
+use Rattle.lucid_core.specs.Parts.{CoreParts}
 use Rattle.lucid_net_log.specs.Ways.{Network}
 
-abbrev pub fits : Parts → Event → Type 0
+abbrev pub fits : CoreParts → Event → Type 0
 fits parts event = IsTrue (event_fits parts event)
 
 -- The events of the file fit, and so does what any event sends out.

@@ -11,7 +11,7 @@ use Rattle.lucid_conf.specs.declared.scene.Down.{Down}
 use Rattle.lucid_conf.specs.declared.scene.FileEvent.{FileEvent}
 use Rattle.lucid_conf.specs.declared.scene.Link.{Link}
 use Rattle.lucid_conf.specs.declared.scene.Scene.{Scene}
-use Rattle.lucid_core.specs.Parts.{Parts, made_of}
+use Rattle.lucid_core.specs.Parts.{CoreParts, made_of}
 use Rattle.lucid_core.specs.Step.{Stepped}
 use Rattle.lucid_core.specs.declared.defs.EventDef.{EventDef}
 use Rattle.lucid_net_log.specs.Log.{log, whole}
@@ -26,7 +26,7 @@ hits = record { name = codes "hits"; width = 32; size = 2 }
 abbrev names : List (List ℕ)
 names = codes "note" ∷ codes "send" ∷ codes "again" ∷ codes "cast" ∷ codes "hit" ∷ codes "wait" ∷ codes "tell" ∷ []
 
-abbrev parts : Parts
+abbrev parts : CoreParts
 parts = made_of (hits ∷ []) [] (map named names) [] [] (codes "it is %d" ∷ [])
 
 abbrev link : ℕ → ℕ → ℕ → Link

@@ -6,7 +6,7 @@ use Rattle.lucid_base.specs.declared.event.Event.{Event}
 use Rattle.lucid_conf.specs.declared.limits.Limits.{Limits}
 use Rattle.lucid_conf.specs.declared.scene.FileEvent.{FileEvent}
 use Rattle.lucid_conf.specs.declared.scene.Scene.{Scene}
-use Rattle.lucid_core.specs.Parts.{Parts}
+use Rattle.lucid_core.specs.Parts.{CoreParts}
 use Rattle.lucid_core.specs.Step.{Stepped, step}
 use Rattle.lucid_log.specs.Block.{block_text}
 use Rattle.lucid_log.specs.Cells.{cells_text}
@@ -17,7 +17,7 @@ use Rattle.lucid_queue.specs.Waiting.{put_in, without_first, is_ready}
 use Rattle.lucid_queue.specs.declared.pending.Pending.{Pending}
 
 -- The network whose switches run the handlers of a program whole.
-abbrev pub whole : Parts → Scene → Limits → Network
+abbrev pub whole : CoreParts → Scene → Limits → Network
 whole parts scene limits = record { parts = parts; scene = scene; limits = limits; does = step parts }
 
 -- The cells of each switch, what waits in the order of switches and keys, what is written, and how many events entered and were lost.
@@ -96,7 +96,7 @@ ticks net zero = start net
 ticks net (suc tick) = turns net tick net.scene.switches (ticks net tick)
 
 -- The cells of the switches from this number on.
-abbrev pub all_cells : Parts → ℕ → List (List (List ℕ)) → List ℕ
+abbrev pub all_cells : CoreParts → ℕ → List (List (List ℕ)) → List ℕ
 all_cells parts switch [] = []
 all_cells parts switch (cells ∷ others) = cells_text switch parts.arrays cells ++ all_cells parts (switch + 1) others
 

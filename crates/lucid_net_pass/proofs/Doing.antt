@@ -11,7 +11,7 @@ use Rattle.lucid_conf.specs.declared.limits.Limits.{Limits}
 use Rattle.lucid_conf.specs.declared.scene.Scene.{Scene}
 use Rattle.lucid_core.specs.Fits.{cells_fit}
 use Rattle.lucid_core.specs.Laws.{CellsStayFit}
-use Rattle.lucid_core.specs.Parts.{Parts}
+use Rattle.lucid_core.specs.Parts.{CoreParts}
 use Rattle.lucid_core.specs.Step.{step}
 use Rattle.lucid_net_flight.specs.Fitting.{fits}
 use Rattle.lucid_net_log.specs.Ways.{Run}
@@ -32,7 +32,7 @@ use Rattle.lucid_net_pass.proofs.Inputs.{takes_all}
 abbrev PassIs : PlacedParts → Type 0
 PassIs placed = (cells : List (List ℕ)) (now me : ℕ) (event : Event) → IsInput placed.code me event → pass placed.code placed.stages cells now me event ≡ run_code placed.code cells now me event
 
-pub steps_as : (parts : Parts) (placed : PlacedParts) → CellsStayFit parts → PassIs placed → MovesAsRows placed → PassStepsAs parts placed
+pub steps_as : (parts : CoreParts) (placed : PlacedParts) → CellsStayFit parts → PassIs placed → MovesAsRows placed → PassStepsAs parts placed
 unfolding step_of first_cells cells_of
 steps_as parts placed stay passes law stands_for arrays few = record {
   start = law.view zeros (zeros_long placed.code.arrays) (λ g is. refl) ∙ ap zero_cells arrays;
@@ -88,7 +88,7 @@ steps_as parts placed stay passes law stands_for arrays few = record {
         rest : (g : ℕ) → stage_of placed.stages g ≡ None → row_of m.cells g ≡ row_of zeros g
         rest g is = law.idle good.all begins g is ∙ good.rest g is
 
-pub does_as : (parts : Parts) (placed : PlacedParts) → PassStepsAs parts placed → PassDoesAs parts placed
+pub does_as : (parts : CoreParts) (placed : PlacedParts) → PassStepsAs parts placed → PassDoesAs parts placed
 does_as parts placed steps stands_for arrays few scene limits early small =
     let all = steps stands_for arrays few in
     record { start = all.start; good = all.good; pass = λ tick switch cs event before within good fit. all.pass tick switch cs event (omega (arith, before, early)) (omega (arith, within, small)) good fit }

@@ -11,17 +11,17 @@ use lucid_code::Operand;
 use lucid_core::{Expr, Stmt, Touch};
 use lucid_normal_form::{Env, Typed};
 use lucid_normal_steps::{
-    Site, Work, answer, answer_nothing, assign, begin, binary, bit, call_array, cast, compare,
-    enter, hash, held_at, input, is_plain, join, leave, needed, say, send, turn, unary, within,
+    Context, Work, answer, answer_nothing, assign, begin, binary, bit, call_array, cast, compare,
+    enter, hash, held_at, input, join, leave, needed, needs_move, say, send, turn, unary, within,
 };
 
 /// What holds the value of the expression, if it gives one.
 #[cycle(walk)]
 #[tactic(auto, using(lucid_normal_steps::proofs::Adding::adding, std::proofs::lemmas::Grind::common_steps))]
-fn expr(site: Site, work: &mut Work, env: &mut Env, e: &Expr) -> Result<Option<Typed>, Memory>
+fn expr(context: Context, work: &mut Work, env: &mut Env, e: &Expr) -> Result<Option<Typed>, Memory>
     ensures value { IfOk result (λ t. t ≡ ((expr_code e.now).made env.old).value) }
     ensures env { OnOk result (env.new ≡ ((expr_code e.now).made env.old).env) }
-    ensures ops { OnOk result (work.new.ops.items ≡ added site.entry.guard.now work.old.ops.items ((expr_code e.now).made env.old).ops) }
+    ensures ops { OnOk result (work.new.ops.items ≡ added context.entry.guard.now work.old.ops.items ((expr_code e.now).made env.old).ops) }
     ensures back { OnOk result (before work.new.notes.items env.new.held ≡ before work.old.notes.items env.old.held) }
 {
     match e {
@@ -33,33 +33,33 @@ fn expr(site: Site, work: &mut Work, env: &mut Env, e: &Expr) -> Result<Option<T
         Expr::Now => Ok(input(1)),
         Expr::Me => Ok(input(2)),
         Expr::Un(op, x) => {
-            let x = needed(expr(site, work, env, x.get())?);
-            unary(site, &mut work.ops, env, *op, x)
+            let x = needed(expr(context, work, env, x.get())?);
+            unary(context, &mut work.ops, env, *op, x)
         }
         Expr::Bin(op, x, y) => {
-            let x = needed(expr(site, work, env, x.get())?);
-            let y = needed(expr(site, work, env, y.get())?);
-            binary(site, &mut work.ops, env, *op, x, y)
+            let x = needed(expr(context, work, env, x.get())?);
+            let y = needed(expr(context, work, env, y.get())?);
+            binary(context, &mut work.ops, env, *op, x, y)
         }
         Expr::Cmp(op, x, y) => {
-            let x = needed(expr(site, work, env, x.get())?);
-            let y = needed(expr(site, work, env, y.get())?);
-            compare(site, &mut work.ops, env, *op, x, y)
+            let x = needed(expr(context, work, env, x.get())?);
+            let y = needed(expr(context, work, env, y.get())?);
+            compare(context, &mut work.ops, env, *op, x, y)
         }
         Expr::Cast(width, x) => {
-            let x = needed(expr(site, work, env, x.get())?);
-            cast(site, &mut work.ops, env, *width, x)
+            let x = needed(expr(context, work, env, x.get())?);
+            cast(context, &mut work.ops, env, *width, x)
         }
         Expr::Hash(width, xs) => {
-            let xs = operands(site, work, env, xs.as_slice())?;
-            hash(site, &mut work.ops, env, *width, xs)
+            let xs = operands(context, work, env, xs.as_slice())?;
+            hash(context, &mut work.ops, env, *width, xs)
         }
-        Expr::Array(t) => touch(site, work, env, t.get()),
+        Expr::Array(t) => touch(context, work, env, t.get()),
         Expr::Fun(_, _, _) => Ok(None),
         Expr::Inlined(given, body) => {
-            let given = arguments(site, work, env, given.as_slice())?;
-            let caller = enter(site.alloc, work, env, given)?;
-            block(site, work, env, body.as_slice())?;
+            let given = arguments(context, work, env, given.as_slice())?;
+            let caller = enter(context.alloc, work, env, given)?;
+            block(context, work, env, body.as_slice())?;
             Ok(leave(work, env, caller))
         }
     }
@@ -67,23 +67,28 @@ fn expr(site: Site, work: &mut Work, env: &mut Env, e: &Expr) -> Result<Option<T
 
 #[cycle(walk)]
 #[tactic(auto, using(lucid_normal_steps::proofs::Adding::adding, std::proofs::lemmas::Grind::common_steps))]
-fn touch(site: Site, work: &mut Work, env: &mut Env, t: &Touch) -> Result<Option<Typed>, Memory>
+fn touch(
+    context: Context,
+    work: &mut Work,
+    env: &mut Env,
+    t: &Touch,
+) -> Result<Option<Typed>, Memory>
     ensures value { IfOk result (λ x. x ≡ ((touch_code t.now).made env.old).value) }
     ensures env { OnOk result (env.new ≡ ((touch_code t.now).made env.old).env) }
-    ensures ops { OnOk result (work.new.ops.items ≡ added site.entry.guard.now work.old.ops.items ((touch_code t.now).made env.old).ops) }
+    ensures ops { OnOk result (work.new.ops.items ≡ added context.entry.guard.now work.old.ops.items ((touch_code t.now).made env.old).ops) }
     ensures back { OnOk result (before work.new.notes.items env.new.held ≡ before work.old.notes.items env.old.held) }
 {
-    let index = needed(expr(site, work, env, &t.index)?);
-    let get_arg = needed(expr(site, work, env, &t.get_arg)?);
-    let set_arg = needed(expr(site, work, env, &t.set_arg)?);
-    call_array(site, &mut work.ops, env, t, index, get_arg, set_arg)
+    let index = needed(expr(context, work, env, &t.index)?);
+    let get_arg = needed(expr(context, work, env, &t.get_arg)?);
+    let set_arg = needed(expr(context, work, env, &t.set_arg)?);
+    call_array(context, &mut work.ops, env, t, index, get_arg, set_arg)
 }
 
 /// The operands of these, from left to right.
 #[cycle(walk)]
 #[tactic(auto, using(lucid_normal_steps::proofs::Adding::adding, std::proofs::lemmas::Grind::common_steps))]
 fn operands(
-    site: Site,
+    context: Context,
     work: &mut Work,
     env: &mut Env,
     es: &[Expr],
@@ -91,12 +96,12 @@ fn operands(
     ensures value { IfOk result (λ xs. xs ≡ operands_of (each_made (map expr_code es.now) env.old).value) }
     ensures env { OnOk result (env.new ≡ (each_made (map expr_code es.now) env.old).env) }
     ensures ops { OnOk result (work.new.ops.items
-        ≡ added site.entry.guard.now work.old.ops.items (each_made (map expr_code es.now) env.old).ops) }
+        ≡ added context.entry.guard.now work.old.ops.items (each_made (map expr_code es.now) env.old).ops) }
     ensures back { OnOk result (before work.new.notes.items env.new.held ≡ before work.old.notes.items env.old.held) }
 {
-    let mut xs = Items::new(site.alloc);
+    let mut xs = Items::new(context.alloc);
     for e in es {
-        let t = needed(expr(site, work, env, e)?);
+        let t = needed(expr(context, work, env, e)?);
         xs.push(t.operand)?;
     }
     Ok(xs)
@@ -106,7 +111,7 @@ fn operands(
 #[cycle(walk)]
 #[tactic(auto, using(lucid_normal_steps::proofs::Adding::adding, std::proofs::lemmas::Grind::common_steps))]
 fn arguments(
-    site: Site,
+    context: Context,
     work: &mut Work,
     env: &mut Env,
     given: &[(u32, Expr)],
@@ -114,12 +119,12 @@ fn arguments(
     ensures value { IfOk result (λ ts. ts ≡ (given_made (given_codes given.now) env.old).value) }
     ensures env { OnOk result (env.new ≡ (given_made (given_codes given.now) env.old).env) }
     ensures ops { OnOk result (work.new.ops.items
-        ≡ added site.entry.guard.now work.old.ops.items (given_made (given_codes given.now) env.old).ops) }
+        ≡ added context.entry.guard.now work.old.ops.items (given_made (given_codes given.now) env.old).ops) }
     ensures back { OnOk result (before work.new.notes.items env.new.held ≡ before work.old.notes.items env.old.held) }
 {
-    let mut ts = Items::new(site.alloc);
+    let mut ts = Items::new(context.alloc);
     for (i, e) in given {
-        let t = needed(expr(site, work, env, e)?);
+        let t = needed(expr(context, work, env, e)?);
         ts.push((*i, t))?;
     }
     Ok(ts)
@@ -128,23 +133,28 @@ fn arguments(
 /// A delay, or none, which is 0.
 #[cycle(walk)]
 #[tactic(auto, using(lucid_normal_steps::proofs::Adding::adding, std::proofs::lemmas::Grind::common_steps))]
-fn delay(site: Site, work: &mut Work, env: &mut Env, e: &Option<Expr>) -> Result<Operand, Memory>
+fn delay(
+    context: Context,
+    work: &mut Work,
+    env: &mut Env,
+    e: &Option<Expr>,
+) -> Result<Operand, Memory>
     ensures value { IfOk result (λ o. o ≡ (delay_made (option_map expr_code e.now) env.old).value) }
     ensures env { OnOk result (env.new ≡ (delay_made (option_map expr_code e.now) env.old).env) }
     ensures ops { OnOk result (work.new.ops.items
-        ≡ added site.entry.guard.now work.old.ops.items (delay_made (option_map expr_code e.now) env.old).ops) }
+        ≡ added context.entry.guard.now work.old.ops.items (delay_made (option_map expr_code e.now) env.old).ops) }
     ensures back { OnOk result (before work.new.notes.items env.new.held ≡ before work.old.notes.items env.old.held) }
 {
     match e {
         None => Ok(Operand::Fixed(0)),
-        Some(e) => Ok(needed(expr(site, work, env, e)?).operand),
+        Some(e) => Ok(needed(expr(context, work, env, e)?).operand),
     }
 }
 
 #[cycle(walk)]
 #[tactic(auto, using(lucid_normal_steps::proofs::Adding::adding, std::proofs::lemmas::Grind::common_steps))]
 fn target(
-    site: Site,
+    context: Context,
     work: &mut Work,
     env: &mut Env,
     e: &Option<Expr>,
@@ -152,12 +162,12 @@ fn target(
     ensures value { IfOk result (λ o. o ≡ (target_made (option_map expr_code e.now) env.old).value) }
     ensures env { OnOk result (env.new ≡ (target_made (option_map expr_code e.now) env.old).env) }
     ensures ops { OnOk result (work.new.ops.items
-        ≡ added site.entry.guard.now work.old.ops.items (target_made (option_map expr_code e.now) env.old).ops) }
+        ≡ added context.entry.guard.now work.old.ops.items (target_made (option_map expr_code e.now) env.old).ops) }
     ensures back { OnOk result (before work.new.notes.items env.new.held ≡ before work.old.notes.items env.old.held) }
 {
     match e {
         None => Ok(None),
-        Some(e) => Ok(Some(needed(expr(site, work, env, e)?).operand)),
+        Some(e) => Ok(Some(needed(expr(context, work, env, e)?).operand)),
     }
 }
 
@@ -165,7 +175,7 @@ fn target(
 #[cycle(walk)]
 #[tactic(auto, using(lucid_normal_steps::proofs::Adding::adding, std::proofs::lemmas::Grind::common_steps))]
 fn delay_and_target(
-    site: Site,
+    context: Context,
     work: &mut Work,
     env: &mut Env,
     after: &Option<Expr>,
@@ -176,45 +186,45 @@ fn delay_and_target(
         (delay_made (option_map expr_code after.now)) (target_made (option_map expr_code to.now)) env.old).value) }
     ensures env { OnOk result (env.new ≡ (ordered_made delay_first
         (delay_made (option_map expr_code after.now)) (target_made (option_map expr_code to.now)) env.old).env) }
-    ensures ops { OnOk result (work.new.ops.items ≡ added site.entry.guard.now work.old.ops.items (ordered_made delay_first
+    ensures ops { OnOk result (work.new.ops.items ≡ added context.entry.guard.now work.old.ops.items (ordered_made delay_first
         (delay_made (option_map expr_code after.now)) (target_made (option_map expr_code to.now)) env.old).ops) }
     ensures back { OnOk result (before work.new.notes.items env.new.held ≡ before work.old.notes.items env.old.held) }
 {
     if delay_first {
-        let after = delay(site, work, env, after)?;
-        let to = target(site, work, env, to)?;
+        let after = delay(context, work, env, after)?;
+        let to = target(context, work, env, to)?;
         Ok((after, to))
     } else {
-        let to = target(site, work, env, to)?;
-        let after = delay(site, work, env, after)?;
+        let to = target(context, work, env, to)?;
+        let after = delay(context, work, env, after)?;
         Ok((after, to))
     }
 }
 
 #[cycle(walk)]
 #[tactic(auto, using(lucid_normal_steps::proofs::Adding::adding, std::proofs::lemmas::Grind::common_steps))]
-fn stmt(site: Site, work: &mut Work, env: &mut Env, s: &Stmt) -> Result<(), Memory>
+fn stmt(context: Context, work: &mut Work, env: &mut Env, s: &Stmt) -> Result<(), Memory>
     ensures env { OnOk result (env.new ≡ (stmt_code s.now env.old).env) }
-    ensures ops { OnOk result (work.new.ops.items ≡ added site.entry.guard.now work.old.ops.items (stmt_code s.now env.old).ops) }
+    ensures ops { OnOk result (work.new.ops.items ≡ added context.entry.guard.now work.old.ops.items (stmt_code s.now env.old).ops) }
     ensures back { OnOk result (before work.new.notes.items env.new.held ≡ before work.old.notes.items env.old.held) }
 {
     match s {
         Stmt::Assign(i, e) => {
-            let t = needed(expr(site, work, env, e)?);
-            assign(site, work, env, *i, t)
+            let t = needed(expr(context, work, env, e)?);
+            assign(context, work, env, *i, t)
         }
         Stmt::Drop(e) => {
-            let _value = expr(site, work, env, e)?;
+            let _value = expr(context, work, env, e)?;
             Ok(())
         }
         Stmt::If(e, yes, no) => {
-            let t = needed(expr(site, work, env, e)?);
-            let condition = bit(site, &mut work.ops, env, is_plain(e), t)?;
-            let begun = begin(site.alloc, work, env);
-            branch(site, work, env, condition, 1, yes.as_slice())?;
-            let turned = turn(site.alloc, work, env, begun)?;
-            branch(site, work, env, condition, 0, no.as_slice())?;
-            join(site, work, env, condition, turned)
+            let t = needed(expr(context, work, env, e)?);
+            let condition = bit(context, &mut work.ops, env, needs_move(e), t)?;
+            let begun = begin(context.alloc, work, env);
+            branch(context, work, env, condition, 1, yes.as_slice())?;
+            let turned = turn(context.alloc, work, env, begun)?;
+            branch(context, work, env, condition, 0, no.as_slice())?;
+            join(context, work, env, condition, turned)
         }
         Stmt::Gen {
             event,
@@ -223,9 +233,9 @@ fn stmt(site: Site, work: &mut Work, env: &mut Env, s: &Stmt) -> Result<(), Memo
             to,
             delay_first,
         } => {
-            let args = operands(site, work, env, args.as_slice())?;
-            let given = delay_and_target(site, work, env, delay, to, *delay_first)?;
-            send(site, &mut work.ops, env, *event, args, given.0, given.1)
+            let args = operands(context, work, env, args.as_slice())?;
+            let given = delay_and_target(context, work, env, delay, to, *delay_first)?;
+            send(context, &mut work.ops, env, *event, args, given.0, given.1)
         }
         Stmt::Multi {
             event: _,
@@ -234,14 +244,14 @@ fn stmt(site: Site, work: &mut Work, env: &mut Env, s: &Stmt) -> Result<(), Memo
             members: _,
         } => Ok(()),
         Stmt::Say { form, args } => {
-            let args = operands(site, work, env, args.as_slice())?;
-            say(site, &mut work.ops, env, *form, args)
+            let args = operands(context, work, env, args.as_slice())?;
+            say(context, &mut work.ops, env, *form, args)
         }
         Stmt::Return(e) => match e {
-            None => answer_nothing(site.alloc, work, env),
+            None => answer_nothing(context.alloc, work, env),
             Some(e) => {
-                let t = needed(expr(site, work, env, e)?);
-                answer(site.alloc, work, env, t)
+                let t = needed(expr(context, work, env, e)?);
+                answer(context.alloc, work, env, t)
             }
         },
     }
@@ -251,7 +261,7 @@ fn stmt(site: Site, work: &mut Work, env: &mut Env, s: &Stmt) -> Result<(), Memo
 #[cycle(walk)]
 #[tactic(auto, using(lucid_normal_steps::proofs::Adding::adding, std::proofs::lemmas::Grind::common_steps))]
 fn branch(
-    site: Site,
+    context: Context,
     work: &mut Work,
     env: &mut Env,
     condition: u32,
@@ -259,13 +269,13 @@ fn branch(
     stmts: &[Stmt],
 ) -> Result<(), Memory>
     ensures env { OnOk result (env.new ≡ (seq (map stmt_code stmts.now) env.old).env) }
-    ensures ops { OnOk result (work.new.ops.items ≡ added site.entry.guard.now work.old.ops.items
+    ensures ops { OnOk result (work.new.ops.items ≡ added context.entry.guard.now work.old.ops.items
         (map (guarded (is condition value)) (seq (map stmt_code stmts.now) env.old).ops)) }
     ensures back { OnOk result (before work.new.notes.items env.new.held ≡ before work.old.notes.items env.old.held) }
 {
-    let guard = within(site, condition, value)?;
-    let inner = Site {
-        alloc: site.alloc,
+    let guard = within(context, condition, value)?;
+    let inner = Context {
+        alloc: context.alloc,
         guard: guard.as_slice(),
     };
     block(inner, work, env, stmts)
@@ -274,14 +284,14 @@ fn branch(
 /// Statements, each behind those before it.
 #[cycle(walk)]
 #[tactic(auto, using(lucid_normal_steps::proofs::Adding::adding, std::proofs::lemmas::Grind::common_steps))]
-pub fn block(site: Site, work: &mut Work, env: &mut Env, stmts: &[Stmt]) -> Result<(), Memory>
+pub fn block(context: Context, work: &mut Work, env: &mut Env, stmts: &[Stmt]) -> Result<(), Memory>
     ensures env { OnOk result (env.new ≡ (seq (map stmt_code stmts.now) env.old).env) }
     ensures ops { OnOk result (work.new.ops.items
-        ≡ added site.entry.guard.now work.old.ops.items (seq (map stmt_code stmts.now) env.old).ops) }
+        ≡ added context.entry.guard.now work.old.ops.items (seq (map stmt_code stmts.now) env.old).ops) }
     ensures back { OnOk result (before work.new.notes.items env.new.held ≡ before work.old.notes.items env.old.held) }
 {
     for s in stmts {
-        stmt(site, work, env, s)?;
+        stmt(context, work, env, s)?;
     }
     Ok(())
 }

@@ -10,7 +10,7 @@ use lucid_base::{Items, Memory, Width};
 use lucid_code::{Literal, Op, Operand};
 use lucid_core::{EventDef, Flat, HandlerDef};
 use lucid_normal_form::{Env, Typed};
-use lucid_normal_steps::{Site, Work};
+use lucid_normal_steps::{Context, Work};
 use std::alloc::Global;
 
 /// Operations, and the widths of all fields.
@@ -65,11 +65,11 @@ fn with_handler(
         equal: true,
         value: handler.event as u64,
     }];
-    let site = Site {
+    let context = Context {
         alloc,
         guard: &guard,
     };
-    block(site, &mut work, &mut env, handler.body.as_slice())?;
+    block(context, &mut work, &mut env, handler.body.as_slice())?;
     Ok(Built {
         ops: work.ops,
         widths: env.widths,

@@ -10,5 +10,5 @@ mod inputs;
 mod program;
 
 pub use bodies::block;
-pub use lucid_normal_steps::{Note, Site, Work};
+pub use lucid_normal_steps::{Context, Note, Work};
 pub use program::normal;

@@ -17,12 +17,12 @@ use Rattle.lucid_core.specs.declared.body.Expr.TheFolds.{fold-roll-Expr, fold-ro
 use Rattle.lucid_core.specs.declared.defs.HandlerDef.{HandlerDef}
 use Rattle.lucid_core.specs.ExamplePrograms as word
 use Rattle.lucid_core.specs.ExamplePrograms.{plus}
-use Rattle.lucid_core.specs.Parts.{Parts}
+use Rattle.lucid_core.specs.Parts.{CoreParts}
 use Rattle.lucid_normal_form.specs.Examples as ex
 use Rattle.lucid_normal_form.specs.Examples.{BranchExamples, FormExamples, ProgramExamples, bit_plus}
 use Rattle.lucid_normal_form.specs.Program.{Codes, all_codes, codes_of, input_widths, start}
 use Rattle.lucid_normal_form.specs.Translate as t
-use Rattle.lucid_normal_form.specs.Translate.{Expressed, Made, Translation, expr_code, guarded, is, seq, stmt_code, touch_code}
+use Rattle.lucid_normal_form.specs.Translate.{Expressed, Translated, Translation, expr_code, guarded, is, seq, stmt_code, touch_code}
 
 -- ---- nodes
 
@@ -191,7 +191,7 @@ set_bit = touch (Global 0) bit_plus true (number 0) yes_ yes_
 -- ---- handlers
 
 -- Handlers with what their statements become.
-abbrev codes_with : Parts → List ℕ → List (HandlerDef × List (Translation ⊤)) → Codes
+abbrev codes_with : CoreParts → List ℕ → List (HandlerDef × List (Translation ⊤)) → Codes
 codes_with parts widths [] = record { ops = []; widths = widths; fine = true }
 codes_with parts widths (p ∷ ps) =
     let a = seq p.1 (start parts widths p.0) in
@@ -204,13 +204,13 @@ handlers_with ps = map (λ (p : HandlerDef × List S). record p.0 { body = stmts
 abbrev with_codes : List (HandlerDef × List S) → List (HandlerDef × List (Translation ⊤))
 with_codes ps = map (λ (p : HandlerDef × List S). (p.0, stmt_codes p.1)) ps
 
-abbrev behind : HandlerDef → Made ⊤ → Codes → Codes
+abbrev behind : HandlerDef → Translated ⊤ → Codes → Codes
 behind h a r = record { ops = map (guarded (is 0 h.event)) a.ops ++ r.ops; widths = r.widths; fine = a.fine && r.fine }
 
-abbrev one_more : Parts → List ℕ → HandlerDef → List (Translation ⊤) → (List ℕ → Codes) → Codes
+abbrev one_more : CoreParts → List ℕ → HandlerDef → List (Translation ⊤) → (List ℕ → Codes) → Codes
 one_more parts widths h ts rest = let a = seq ts (start parts widths h) in behind h a (rest a.env.widths)
 
-whole : (parts : Parts) (widths : List ℕ) (ps : List (HandlerDef × List S)) → codes_of parts widths (handlers_with ps) ≡ codes_with parts widths (with_codes ps)
+whole : (parts : CoreParts) (widths : List ℕ) (ps : List (HandlerDef × List S)) → codes_of parts widths (handlers_with ps) ≡ codes_with parts widths (with_codes ps)
 whole parts widths [] = refl
 whole parts widths (p ∷ ps) =
     let a = seq (stmt_codes p.1) (start parts widths p.0) in

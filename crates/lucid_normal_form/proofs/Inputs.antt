@@ -5,7 +5,7 @@ use Rattle.std.specs.Option.{option_map_or}
 use Rattle.lucid_base.specs.declared.event.Event.{Event}
 use Rattle.lucid_core.specs.declared.defs.EventDef.{EventDef}
 use Rattle.lucid_core.specs.Fits.{args_fit, event_fits}
-use Rattle.lucid_core.specs.Parts.{Parts}
+use Rattle.lucid_core.specs.Parts.{CoreParts}
 use Rattle.lucid_code.specs.Inputs.{IsInput}
 use Rattle.lucid_code.specs.Parts as code
 use Rattle.lucid_normal_form.specs.Stands.{Happens, StandsFor}
@@ -14,11 +14,11 @@ found : (es : List EventDef) (args : List ℕ) (k : ℕ) (o : Option EventDef) �
 found es args k None is fits = absurd (cc)
 found es args k (Some e) is fits = slice_get_within es k e is
 
-pub id_small : (parts : Parts) (event : Event) → IsTrue (event_fits parts event) → event.id < length parts.events
+pub id_small : (parts : CoreParts) (event : Event) → IsTrue (event_fits parts event) → event.id < length parts.events
 id_small parts event fits = found parts.events event.args event.id (slice_get parts.events event.id) refl fits
 
-pub happens : (parts : Parts) → length parts.events ≤ 2 ^ 32 → (me : ℕ) (event : Event) → me < 2 ^ 32 → IsTrue (event_fits parts event) → Happens parts me event
+pub happens : (parts : CoreParts) → length parts.events ≤ 2 ^ 32 → (me : ℕ) (event : Event) → me < 2 ^ 32 → IsTrue (event_fits parts event) → Happens parts me event
 happens parts few me event switch fits = record { switch = switch; id = omega (arith, id_small parts event fits, few); event_fits = fits }
 
-pub input_of : (parts : Parts) (c : code.Parts) → StandsFor c parts → length parts.events ≤ 2 ^ 32 → (switch : ℕ) (event : Event) → switch < 2 ^ 32 → IsTrue (event_fits parts event) → IsInput c switch event
+pub input_of : (parts : CoreParts) (c : code.CodeParts) → StandsFor c parts → length parts.events ≤ 2 ^ 32 → (switch : ℕ) (event : Event) → switch < 2 ^ 32 → IsTrue (event_fits parts event) → IsInput c switch event
 input_of parts c stands_for few switch event within fits = stands_for.takes switch event (happens parts few switch event within fits)

@@ -17,7 +17,7 @@ use Rattle.lucid_core.specs.declared.body.Stmt.{Stmt}
 use Rattle.lucid_core.specs.declared.body.Expr.TheOpen.{Expr-F}
 use Rattle.lucid_core.specs.declared.body.Expr.TheViews.{roll-Expr, roll-Touch}
 use Rattle.lucid_core.specs.ExamplePrograms.{array, assign, choose, drop_value, flat, generate, generate_with, handler, hash, inlined, less, local, note, number, one, plus, return, say, update, update_with, yes}
-use Rattle.lucid_core.specs.Parts.{Parts}
+use Rattle.lucid_core.specs.Parts.{CoreParts}
 use Rattle.lucid_normal_form.specs.Program.{all_codes, translate}
 
 -- ---- more words for programs
@@ -68,13 +68,13 @@ abbrev pub gives : Expr → List Stmt
 gives x = return (Some x) ∷ []
 
 -- With locals of these widths, or with an array of one bit.
-abbrev pub flat_with : List ℕ → List Stmt → Parts
+abbrev pub flat_with : List ℕ → List Stmt → CoreParts
 flat_with locals ss = record (flat []) { handlers = record (handler ss) { locals = locals } ∷ [] }
 
-abbrev pub four : List Stmt → Parts
+abbrev pub four : List Stmt → CoreParts
 four ss = flat_with (32 ∷ 32 ∷ 32 ∷ 32 ∷ []) ss
 
-abbrev pub over_bits : List Stmt → Parts
+abbrev pub over_bits : List Stmt → CoreParts
 over_bits ss = record (flat ss) { arrays = record (array 4) { width = 1 } ∷ [] }
 
 -- ---- words for operations
@@ -116,7 +116,7 @@ abbrev pub send_act : ℕ → List Operand → Act
 send_act slot args = act.Gen slot 0 args (fixed 0) None
 
 -- Its handlers become these operations, which write fields of these widths behind the inputs.
-abbrev pub Becomes : Parts → List ℕ → List Op → Type 0
+abbrev pub Becomes : CoreParts → List ℕ → List Op → Type 0
 Becomes parts more ops = all_codes parts ≡ record { ops = ops; widths = 32 ∷ 32 ∷ 32 ∷ 32 ∷ 32 ∷ more; fine = true }
 
 -- Each form.
@@ -238,7 +238,7 @@ pub record BranchExamples : Type 0 where
       ∷ under [] 1 (send_act 0 (field 3 ∷ field 11 ∷ [])) ∷ [])
 
 -- Three events: note(int, int), one with parameters of 16, 64 and 8 bits, and one without a handler, with a parameter of 40 bits.
-abbrev pub three_events : Parts
+abbrev pub three_events : CoreParts
 three_events = record (flat []) {
   events = note ∷ record note { params = 16 ∷ 64 ∷ 8 ∷ []; handler = Some 1 } ∷ record note { params = 40 ∷ []; handler = None }
       ∷ [];

@@ -6,7 +6,7 @@ use Rattle.lucid_code.specs.Parts as code
 use Rattle.lucid_core.specs.declared.defs.EventDef.{EventDef}
 use Rattle.lucid_core.specs.declared.defs.HandlerDef.{HandlerDef}
 use Rattle.lucid_core.specs.Events.{event_params}
-use Rattle.lucid_core.specs.Parts.{Parts}
+use Rattle.lucid_core.specs.Parts.{CoreParts}
 use Rattle.lucid_normal_form.specs.declared.env.Env.{Env}
 use Rattle.lucid_normal_form.specs.declared.env.Typed.{Typed}
 use Rattle.lucid_normal_form.specs.Translate.{guarded, is, body_code}
@@ -22,7 +22,7 @@ abbrev pub arg_widths : List EventDef → List ℕ
 arg_widths events = fold (λ widths e. widest widths e.params) [] events
 
 -- The event, the tick and the switch, and then the arguments.
-abbrev pub input_widths : Parts → List ℕ
+abbrev pub input_widths : CoreParts → List ℕ
 input_widths parts = 32 ∷ 32 ∷ 32 ∷ arg_widths parts.events
 
 -- The parameters are held by the argument fields from k on, and the other locals by nothing.
@@ -31,7 +31,7 @@ held_from k [] locals = map (λ l. None) locals
 held_from k (w ∷ ws) [] = []
 held_from k (w ∷ ws) (l ∷ ls) = Some (record { operand = Field k; width = l }) ∷ held_from (k + 1) ws ls
 
-abbrev pub start : Parts → List ℕ → HandlerDef → Env
+abbrev pub start : CoreParts → List ℕ → HandlerDef → Env
 start parts widths h = record {
   widths = widths;
   held = held_from 3 (event_params parts.events h.event) h.locals;
@@ -46,16 +46,16 @@ pub record Codes : Type 0 where
   pub widths : List ℕ
   pub fine : Bool
 
-abbrev pub codes_of : Parts → List ℕ → List HandlerDef → Codes
+abbrev pub codes_of : CoreParts → List ℕ → List HandlerDef → Codes
 codes_of parts widths [] = record { ops = []; widths = widths; fine = true }
 codes_of parts widths (h ∷ hs) =
     let a = body_code h.body (start parts widths h) in
     let r = codes_of parts a.env.widths hs in
     record { ops = map (guarded (is 0 h.event)) a.ops ++ r.ops; widths = r.widths; fine = a.fine && r.fine }
 
-abbrev pub all_codes : Parts → Codes
+abbrev pub all_codes : CoreParts → Codes
 all_codes parts = codes_of parts (input_widths parts) parts.handlers
 
-abbrev pub translate : Parts → code.Parts
+abbrev pub translate : CoreParts → code.CodeParts
 translate parts = let all = all_codes parts in
     code.made_of all.widths (record { event = 0; now = 1; me = 2; args = length (arg_widths parts.events) }) parts.arrays all.ops

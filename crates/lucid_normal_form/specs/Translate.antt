@@ -19,19 +19,19 @@ use Rattle.lucid_normal_form.specs.declared.env.Typed.{Typed}
 
 -- What a part becomes: what it gives, its operations, and where the translation stands behind it. It is fine where each value that it
 -- needs is there, of the width that is asked for; in a flat core every part is.
-pub record Made (A : Type 0) : Type 0 where
+pub record Translated (A : Type 0) : Type 0 where
   pub value : A
   pub ops : List Op
   pub env : Env
   pub fine : Bool
 
 abbrev pub Translation : Type 0 → Type 0
-Translation A = Env → Made A
+Translation A = Env → Translated A
 
--- An expression, which may give no value. As a condition it needs a move where it is plain: a number, a local, or a call that is put in.
+-- An expression, which may give no value. As a condition it needs a move where it is a number, a local, or a call that is put in.
 pub record Expressed : Type 0 where
   pub made : Translation (Option Typed)
-  pub plain : Bool
+  pub needs_move : Bool
 
 -- ---- how translations follow one another
 
@@ -166,14 +166,14 @@ moved t env = record {
   fine = nat_eq t.width 1;
 }
 
--- The field of one bit that holds a condition: a new one where it is plain.
+-- The field of one bit that holds a condition: a new one where it needs a move.
 abbrev pub bit_field : Bool → Operand → Typed → Translation ℕ
 bit_field true o t env = moved t env
 bit_field false (Fixed v) t env = moved t env
 bit_field false (Field k) t env = record { value = k; ops = []; env = env; fine = nat_eq t.width 1 }
 
 abbrev pub condition : Expressed → Translation ℕ
-condition x = do t ← valued x.made; bit_field x.plain t.operand t
+condition x = do t ← valued x.made; bit_field x.needs_move t.operand t
 
 abbrev pub guarded : Literal → Op → Op
 guarded l o = record o { guard = l ∷ o.guard }
@@ -264,10 +264,10 @@ abbrev pub absent : {A : Type 0} → A → Translation A
 absent x env = record { value = x; ops = []; env = env; fine = false }
 
 abbrev pub made_by : Translation (Option Typed) → Expressed
-made_by t = record { made = t; plain = false }
+made_by t = record { made = t; needs_move = false }
 
 abbrev pub plainly : Translation (Option Typed) → Expressed
-plainly t = record { made = t; plain = true }
+plainly t = record { made = t; needs_move = true }
 
 abbrev pub expr_step : Expr-F Expressed (Translation ⊤) Expressed → Expressed
 expr_step (Expr-F.Fixed n) = plainly (given n.width (Fixed n.value))

@@ -9,9 +9,9 @@ ghost use Rattle.lucid_normal_steps.specs.Notes.{before, end_of};
 
 use crate::branches::Turned;
 use crate::changes::{Change, changes_of};
+use crate::context::{Context, next, put, within};
 use crate::locals::held_at;
 use crate::notes::{Note, clear, hold, take_back};
-use crate::site::{Site, next, put, within};
 use crate::work::Work;
 use lucid_base::{Items, Memory, Width};
 use lucid_code::{Act, Op, Operand};
@@ -27,7 +27,7 @@ pub struct Meet {
 /// Joins the locals and the answer behind the second branch. What was noted before goes on, and what held the locals is noted.
 #[tactic(auto, using(crate::proofs::Adding::adding, std::proofs::lemmas::Grind::common_steps))]
 pub fn join(
-    site: Site,
+    context: Context,
     work: &mut Work,
     env: &mut Env,
     condition: u32,
@@ -36,7 +36,7 @@ pub fn join(
     ensures env { OnOk result (env.new ≡ env_of condition (before work.old.notes.items env.old.held)
         (ends_at (before work.old.notes.items env.old.held) turned.first) env.old) }
     ensures ops { OnOk result (work.new.ops.items
-        ≡ added site.entry.guard.now work.old.ops.items (ops_of condition (before work.old.notes.items env.old.held)
+        ≡ added context.entry.guard.now work.old.ops.items (ops_of condition (before work.old.notes.items env.old.held)
         (ends_at (before work.old.notes.items env.old.held) turned.first) env.old)) }
     ensures back { OnOk result (before work.new.notes.items env.new.held
         ≡ before turned.notes.items (before work.old.notes.items env.old.held)) }
@@ -47,10 +47,10 @@ pub fn join(
         condition,
     };
     let noted = std::mem::replace(&mut work.notes, notes);
-    let second = take_back(site.alloc, &mut env.held, Items::from_vec(noted))?;
-    join_locals(site, work, env, at, first.notes, second)?;
+    let second = take_back(context.alloc, &mut env.held, Items::from_vec(noted))?;
+    join_locals(context, work, env, at, first.notes, second)?;
     let widths = &mut env.widths;
-    let answer = join_answer(site, &mut work.ops, widths, at, first.answer, env.answer)?;
+    let answer = join_answer(context, &mut work.ops, widths, at, first.answer, env.answer)?;
     env.answer = answer;
     env.slot = first.slot.max(env.slot);
     env.place = at.level;
@@ -60,7 +60,7 @@ pub fn join(
 /// The locals behind the if, from what leads to the ends of its branches. Behind a branch that returned nothing holds any.
 #[tactic(auto, using(crate::proofs::Written::no_first, crate::proofs::Written::no_second, std::proofs::lemmas::Grind::common_steps))]
 fn join_locals(
-    site: Site,
+    context: Context,
     work: &mut Work,
     env: &mut Env,
     at: Meet,
@@ -70,22 +70,22 @@ fn join_locals(
     requires { OnSome second (0 < length env.old.held) }
     ensures env { OnOk result (env.new ≡ with_locals env.old
         (joins at.level at.condition env.old.held (end_of first env.old.held) (end_of second env.old.held) env.old.widths)) }
-    ensures ops { OnOk result (work.new.ops.items ≡ added site.entry.guard.now work.old.ops.items
+    ensures ops { OnOk result (work.new.ops.items ≡ added context.entry.guard.now work.old.ops.items
         (joins at.level at.condition env.old.held (end_of first env.old.held) (end_of second env.old.held) env.old.widths).ops) }
     ensures back { OnOk result (before work.new.notes.items env.new.held ≡ before work.old.notes.items env.old.held) }
 {
     match first {
-        None => clear(site.alloc, &mut env.held, &mut work.notes),
+        None => clear(context.alloc, &mut env.held, &mut work.notes),
         Some(first) => match second {
-            None => clear(site.alloc, &mut env.held, &mut work.notes),
-            Some(second) => join_written(site, work, env, at, first, second),
+            None => clear(context.alloc, &mut env.held, &mut work.notes),
+            Some(second) => join_written(context, work, env, at, first, second),
         },
     }
 }
 
 /// Only what a branch wrote is joined: any other local is held as it was.
 fn join_written(
-    site: Site,
+    context: Context,
     work: &mut Work,
     env: &mut Env,
     at: Meet,
@@ -95,17 +95,17 @@ fn join_written(
     requires { 0 < length env.old.held }
     ensures env { OnOk result (env.new ≡ with_locals env.old
         (joins at.level at.condition env.old.held (before first env.old.held) (before second env.old.held) env.old.widths)) }
-    ensures ops { OnOk result (work.new.ops.items ≡ added site.entry.guard.now work.old.ops.items
+    ensures ops { OnOk result (work.new.ops.items ≡ added context.entry.guard.now work.old.ops.items
         (joins at.level at.condition env.old.held (before first env.old.held) (before second env.old.held) env.old.widths).ops) }
     ensures back { OnOk result (before work.new.notes.items env.new.held ≡ before work.old.notes.items env.old.held) }
 {
-    let changes = changes_of(site.alloc, &mut env.held, first, second)?;
-    join_changes(site, work, env, at, changes.as_slice())
+    let changes = changes_of(context.alloc, &mut env.held, first, second)?;
+    join_changes(context, work, env, at, changes.as_slice())
 }
 
 #[tactic(auto, using(crate::proofs::Adding::adding, std::proofs::lemmas::Grind::common_steps))]
 fn join_changes(
-    site: Site,
+    context: Context,
     work: &mut Work,
     env: &mut Env,
     at: Meet,
@@ -113,18 +113,18 @@ fn join_changes(
 ) -> Result<(), Memory>
     ensures env { OnOk result (env.new
         ≡ with_locals env.old (changes_joined at.level at.condition changes.now env.old.held env.old.widths)) }
-    ensures ops { OnOk result (work.new.ops.items ≡ added site.entry.guard.now work.old.ops.items
+    ensures ops { OnOk result (work.new.ops.items ≡ added context.entry.guard.now work.old.ops.items
         (changes_joined at.level at.condition changes.now env.old.held env.old.widths).ops) }
     ensures back { OnOk result (before work.new.notes.items env.new.held ≡ before work.old.notes.items env.old.held) }
 {
     for change in changes {
-        join_change(site, work, env, at, *change)?;
+        join_change(context, work, env, at, *change)?;
     }
     Ok(())
 }
 
 fn join_change(
-    site: Site,
+    context: Context,
     work: &mut Work,
     env: &mut Env,
     at: Meet,
@@ -134,14 +134,14 @@ fn join_change(
       held = change_held at.level at.condition change env.old.held env.old.widths;
       widths = (change_met at.level at.condition change env.old.held env.old.widths).widths;
     }) }
-    ensures ops { OnOk result (work.new.ops.items ≡ added site.entry.guard.now work.old.ops.items
+    ensures ops { OnOk result (work.new.ops.items ≡ added context.entry.guard.now work.old.ops.items
         (change_met at.level at.condition change env.old.held env.old.widths).ops) }
     ensures back { OnOk result (before work.new.notes.items env.new.held ≡ before work.old.notes.items env.old.held) }
 {
     let was = held_at(env.held.as_slice(), change.local);
     let widths = &mut env.widths;
     let now = join_one(
-        site,
+        context,
         &mut work.ops,
         widths,
         at,
@@ -155,7 +155,7 @@ fn join_change(
 /// What holds one local. One that neither branch assigns is held as it was.
 #[tactic(auto, using(crate::proofs::Adding::adding, std::proofs::lemmas::Grind::common_steps))]
 fn join_one(
-    site: Site,
+    context: Context,
     ops: &mut Vec<Op>,
     widths: &mut Items<Width>,
     at: Meet,
@@ -166,7 +166,7 @@ fn join_one(
     ensures held { IfOk result (λ h. h ≡ slice_index_or (met at.level at.condition widths.old held first second).held 0 None) }
     ensures widths { OnOk result (widths.new ≡ (met at.level at.condition widths.old held first second).widths) }
     ensures ops { OnOk result (ops.new.items
-        ≡ added site.entry.guard.now ops.old.items (met at.level at.condition widths.old held first second).ops) }
+        ≡ added context.entry.guard.now ops.old.items (met at.level at.condition widths.old held first second).ops) }
 {
     match held {
         None => Ok(None),
@@ -178,7 +178,7 @@ fn join_one(
                     if same(a, b) {
                         return Ok(Some(a));
                     }
-                    Ok(Some(move_both(site, ops, widths, at, a, b)?))
+                    Ok(Some(move_both(context, ops, widths, at, a, b)?))
                 }
             },
         },
@@ -188,7 +188,7 @@ fn join_one(
 /// What holds the answer, where both branches return a value.
 #[tactic(auto, using(crate::proofs::Adding::adding, std::proofs::lemmas::Grind::common_steps))]
 fn join_answer(
-    site: Site,
+    context: Context,
     ops: &mut Vec<Op>,
     widths: &mut Items<Width>,
     at: Meet,
@@ -198,13 +198,13 @@ fn join_answer(
     ensures held { IfOk result (λ h. h ≡ slice_index_or (answer_of at.level at.condition first second widths.old).held 0 None) }
     ensures widths { OnOk result (widths.new ≡ (answer_of at.level at.condition first second widths.old).widths) }
     ensures ops { OnOk result (ops.new.items
-        ≡ added site.entry.guard.now ops.old.items (answer_of at.level at.condition first second widths.old).ops) }
+        ≡ added context.entry.guard.now ops.old.items (answer_of at.level at.condition first second widths.old).ops) }
 {
     match first {
         None => Ok(None),
         Some(a) => match second {
             None => Ok(None),
-            Some(b) => Ok(Some(move_both(site, ops, widths, at, a, b)?)),
+            Some(b) => Ok(Some(move_both(context, ops, widths, at, a, b)?)),
         },
     }
 }
@@ -212,7 +212,7 @@ fn join_answer(
 /// A new field, which takes the one operand where the condition holds, and the other where it doesn't.
 #[tactic(auto, using(crate::proofs::Adding::adding, std::proofs::lemmas::Grind::common_steps))]
 fn move_both(
-    site: Site,
+    context: Context,
     ops: &mut Vec<Op>,
     widths: &mut Items<Width>,
     at: Meet,
@@ -222,14 +222,14 @@ fn move_both(
     ensures held { IfOk result (λ t. t ≡ record { operand = Field (length widths.old); width = a.width }) }
     ensures widths { OnOk result (widths.new ≡ widths.old ++ a.width ∷ []) }
     ensures ops { OnOk result (ops.new.items
-        ≡ added site.entry.guard.now ops.old.items (moves at.level at.condition (length widths.old) a.operand b.operand [])) }
+        ≡ added context.entry.guard.now ops.old.items (moves at.level at.condition (length widths.old) a.operand b.operand [])) }
 {
     let k = next(widths)?;
-    let taken = within(site, at.condition, 1)?;
-    let other = within(site, at.condition, 0)?;
-    let alloc = site.alloc;
+    let taken = within(context, at.condition, 1)?;
+    let other = within(context, at.condition, 0)?;
+    let alloc = context.alloc;
     put(
-        Site {
+        Context {
             alloc,
             guard: taken.as_slice(),
         },
@@ -238,7 +238,7 @@ fn move_both(
         Act::Move(a.operand, k),
     )?;
     put(
-        Site {
+        Context {
             alloc,
             guard: other.as_slice(),
         },

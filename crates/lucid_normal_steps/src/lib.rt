@@ -7,20 +7,20 @@
 mod branches;
 mod calls;
 mod changes;
+mod context;
 mod joining;
 mod locals;
 mod notes;
 mod operations;
-mod site;
 mod statements;
 mod work;
 
 pub use branches::{Begun, Ended, Turned, begin, turn};
 pub use calls::{Caller, enter, leave};
+pub use context::{Context, within};
 pub use joining::join;
-pub use locals::{held_at, input, is_plain, needed};
+pub use locals::{held_at, input, needed, needs_move};
 pub use notes::Note;
 pub use operations::{binary, bit, call_array, cast, compare, hash, unary};
-pub use site::{Site, within};
 pub use statements::{answer, answer_nothing, assign, say, send};
 pub use work::Work;

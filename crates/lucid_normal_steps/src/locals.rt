@@ -42,8 +42,8 @@ pub fn input(k: u32) -> Option<Typed>
 }
 
 /// Whether the expression needs a move where it is a condition.
-pub fn is_plain(e: &Expr) -> bool
-    ensures { result ≡ (expr_code e.now).plain }
+pub fn needs_move(e: &Expr) -> bool
+    ensures { result ≡ (expr_code e.now).needs_move }
 {
     match e {
         Expr::Fixed(_)

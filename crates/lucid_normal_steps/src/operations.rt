@@ -5,7 +5,7 @@ ghost use Rattle.lucid_core.specs.Acts.{array_of};
 ghost use Rattle.lucid_normal_form.specs.Translate.{bit_field, emit, moved as moved_by, new_field, op as op_of, touch_made, with_field};
 ghost use Rattle.lucid_normal_steps.specs.Added.{added};
 
-use crate::site::{Site, next, put};
+use crate::context::{Context, next, put};
 use lucid_base::{ArrayName, BinOp, CmpOp, Items, Memory, UnOp, Width};
 use lucid_code::{Act, Op, Operand};
 use lucid_core::Touch;
@@ -13,7 +13,7 @@ use lucid_normal_form::{Env, Typed};
 
 /// An operation that writes field `k`, the next one, of this width.
 fn write(
-    site: Site,
+    context: Context,
     ops: &mut Vec<Op>,
     env: &mut Env,
     width: Width,
@@ -23,9 +23,9 @@ fn write(
     requires { k ≡ length env.old.widths }
     ensures value { IfOk result (λ t. t ≡ Some (new_field env.old width)) }
     ensures env { OnOk result (env.new ≡ with_field env.old width) }
-    ensures ops { OnOk result (ops.new.items ≡ added site.entry.guard.now ops.old.items (op_of env.old.place act ∷ [])) }
+    ensures ops { OnOk result (ops.new.items ≡ added context.entry.guard.now ops.old.items (op_of env.old.place act ∷ [])) }
 {
-    put(site, ops, env.place, act)?;
+    put(context, ops, env.place, act)?;
     env.widths.push(width)?;
     Ok(Some(Typed {
         operand: Operand::Field(k),
@@ -35,7 +35,7 @@ fn write(
 
 /// The unary operation, by the width of its operand.
 pub fn unary(
-    site: Site,
+    context: Context,
     ops: &mut Vec<Op>,
     env: &mut Env,
     o: UnOp,
@@ -44,11 +44,11 @@ pub fn unary(
     ensures value { IfOk result (λ t. t ≡ (emit a.width (act.Un o a.width a.operand) env.old).value) }
     ensures env { OnOk result (env.new ≡ (emit a.width (act.Un o a.width a.operand) env.old).env) }
     ensures ops { OnOk result (ops.new.items
-        ≡ added site.entry.guard.now ops.old.items (emit a.width (act.Un o a.width a.operand) env.old).ops) }
+        ≡ added context.entry.guard.now ops.old.items (emit a.width (act.Un o a.width a.operand) env.old).ops) }
 {
     let k = next(&env.widths)?;
     write(
-        site,
+        context,
         ops,
         env,
         a.width,
@@ -59,7 +59,7 @@ pub fn unary(
 
 /// The binary operation, by the width of its first operand.
 pub fn binary(
-    site: Site,
+    context: Context,
     ops: &mut Vec<Op>,
     env: &mut Env,
     o: BinOp,
@@ -69,16 +69,16 @@ pub fn binary(
     ensures value { IfOk result (λ t. t ≡ (emit a.width (act.Bin o a.width a.operand b.operand) env.old).value) }
     ensures env { OnOk result (env.new ≡ (emit a.width (act.Bin o a.width a.operand b.operand) env.old).env) }
     ensures ops { OnOk result (ops.new.items
-        ≡ added site.entry.guard.now ops.old.items (emit a.width (act.Bin o a.width a.operand b.operand) env.old).ops) }
+        ≡ added context.entry.guard.now ops.old.items (emit a.width (act.Bin o a.width a.operand b.operand) env.old).ops) }
 {
     let k = next(&env.widths)?;
     let act = Act::Bin(o, a.width, a.operand, b.operand, k);
-    write(site, ops, env, a.width, k, act)
+    write(context, ops, env, a.width, k, act)
 }
 
 /// The comparison, by the width of its first operand.
 pub fn compare(
-    site: Site,
+    context: Context,
     ops: &mut Vec<Op>,
     env: &mut Env,
     o: CmpOp,
@@ -88,16 +88,16 @@ pub fn compare(
     ensures value { IfOk result (λ t. t ≡ (emit 1 (act.Cmp o a.width a.operand b.operand) env.old).value) }
     ensures env { OnOk result (env.new ≡ (emit 1 (act.Cmp o a.width a.operand b.operand) env.old).env) }
     ensures ops { OnOk result (ops.new.items
-        ≡ added site.entry.guard.now ops.old.items (emit 1 (act.Cmp o a.width a.operand b.operand) env.old).ops) }
+        ≡ added context.entry.guard.now ops.old.items (emit 1 (act.Cmp o a.width a.operand b.operand) env.old).ops) }
 {
     let k = next(&env.widths)?;
     let act = Act::Cmp(o, a.width, a.operand, b.operand, k);
-    write(site, ops, env, Width::bool(), k, act)
+    write(context, ops, env, Width::bool(), k, act)
 }
 
 /// The low bits of the operand.
 pub fn cast(
-    site: Site,
+    context: Context,
     ops: &mut Vec<Op>,
     env: &mut Env,
     width: Width,
@@ -106,15 +106,15 @@ pub fn cast(
     ensures value { IfOk result (λ t. t ≡ (emit width (act.Cast a.operand) env.old).value) }
     ensures env { OnOk result (env.new ≡ (emit width (act.Cast a.operand) env.old).env) }
     ensures ops { OnOk result (ops.new.items
-        ≡ added site.entry.guard.now ops.old.items (emit width (act.Cast a.operand) env.old).ops) }
+        ≡ added context.entry.guard.now ops.old.items (emit width (act.Cast a.operand) env.old).ops) }
 {
     let k = next(&env.widths)?;
-    write(site, ops, env, width, k, Act::Cast(a.operand, k))
+    write(context, ops, env, width, k, Act::Cast(a.operand, k))
 }
 
 /// The hash of these.
 pub fn hash(
-    site: Site,
+    context: Context,
     ops: &mut Vec<Op>,
     env: &mut Env,
     width: Width,
@@ -122,10 +122,10 @@ pub fn hash(
 ) -> Result<Option<Typed>, Memory>
     ensures value { IfOk result (λ t. t ≡ (emit width (act.Hash xs) env.old).value) }
     ensures env { OnOk result (env.new ≡ (emit width (act.Hash xs) env.old).env) }
-    ensures ops { OnOk result (ops.new.items ≡ added site.entry.guard.now ops.old.items (emit width (act.Hash xs) env.old).ops) }
+    ensures ops { OnOk result (ops.new.items ≡ added context.entry.guard.now ops.old.items (emit width (act.Hash xs) env.old).ops) }
 {
     let k = next(&env.widths)?;
-    write(site, ops, env, width, k, Act::Hash(xs, k))
+    write(context, ops, env, width, k, Act::Hash(xs, k))
 }
 
 /// The declared array that is named. In a flat core each is.
@@ -140,7 +140,7 @@ fn array_at(name: ArrayName) -> u32
 
 /// A call of an array, with its operands.
 pub fn call_array(
-    site: Site,
+    context: Context,
     ops: &mut Vec<Op>,
     env: &mut Env,
     t: &Touch,
@@ -152,7 +152,7 @@ pub fn call_array(
         ≡ (touch_made (array_of [] t.now.array) t.now.get t.now.set t.now.answers (index, (get_arg, set_arg)) env.old).value) }
     ensures env { OnOk result (env.new
         ≡ (touch_made (array_of [] t.now.array) t.now.get t.now.set t.now.answers (index, (get_arg, set_arg)) env.old).env) }
-    ensures ops { OnOk result (ops.new.items ≡ added site.entry.guard.now ops.old.items
+    ensures ops { OnOk result (ops.new.items ≡ added context.entry.guard.now ops.old.items
         (touch_made (array_of [] t.now.array) t.now.get t.now.set t.now.answers (index, (get_arg, set_arg)) env.old).ops) }
 {
     let array = array_at(t.array);
@@ -170,7 +170,7 @@ pub fn call_array(
             set_arg: set_arg.operand,
             to: Some(k),
         };
-        let value = write(site, ops, env, t.get.width, k, act)?;
+        let value = write(context, ops, env, t.get.width, k, act)?;
         env.place = place;
         Ok(value)
     } else {
@@ -183,29 +183,29 @@ pub fn call_array(
             set_arg: set_arg.operand,
             to: None,
         };
-        put(site, ops, env.place, act)?;
+        put(context, ops, env.place, act)?;
         env.place = place;
         Ok(None)
     }
 }
 
-/// The field of one bit that holds a condition: a new one where the condition is plain.
+/// The field of one bit that holds a condition: a new one where the condition needs a move.
 pub fn bit(
-    site: Site,
+    context: Context,
     ops: &mut Vec<Op>,
     env: &mut Env,
-    plain: bool,
+    needs_move: bool,
     t: Typed,
 ) -> Result<u32, Memory>
-    ensures value { IfOk result (λ k. k ≡ (bit_field plain t.operand t env.old).value) }
-    ensures env { OnOk result (env.new ≡ (bit_field plain t.operand t env.old).env) }
-    ensures ops { OnOk result (ops.new.items ≡ added site.entry.guard.now ops.old.items (bit_field plain t.operand t env.old).ops) }
+    ensures value { IfOk result (λ k. k ≡ (bit_field needs_move t.operand t env.old).value) }
+    ensures env { OnOk result (env.new ≡ (bit_field needs_move t.operand t env.old).env) }
+    ensures ops { OnOk result (ops.new.items ≡ added context.entry.guard.now ops.old.items (bit_field needs_move t.operand t env.old).ops) }
 {
     match t.operand {
-        Operand::Fixed(_) => moved(site, ops, env, t),
+        Operand::Fixed(_) => moved(context, ops, env, t),
         Operand::Field(k) => {
-            if plain {
-                moved(site, ops, env, t)
+            if needs_move {
+                moved(context, ops, env, t)
             } else {
                 Ok(k)
             }
@@ -214,12 +214,12 @@ pub fn bit(
 }
 
 /// A move to a new field of one bit.
-fn moved(site: Site, ops: &mut Vec<Op>, env: &mut Env, t: Typed) -> Result<u32, Memory>
+fn moved(context: Context, ops: &mut Vec<Op>, env: &mut Env, t: Typed) -> Result<u32, Memory>
     ensures value { IfOk result (λ k. k ≡ (moved_by t env.old).value) }
     ensures env { OnOk result (env.new ≡ (moved_by t env.old).env) }
-    ensures ops { OnOk result (ops.new.items ≡ added site.entry.guard.now ops.old.items (moved_by t env.old).ops) }
+    ensures ops { OnOk result (ops.new.items ≡ added context.entry.guard.now ops.old.items (moved_by t env.old).ops) }
 {
     let k = next(&env.widths)?;
-    write(site, ops, env, Width::bool(), k, Act::Move(t.operand, k))?;
+    write(context, ops, env, Width::bool(), k, Act::Move(t.operand, k))?;
     Ok(k)
 }

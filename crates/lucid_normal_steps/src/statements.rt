@@ -5,8 +5,8 @@ ghost use Rattle.lucid_normal_form.specs.Translate.{assign as assigned, out_made
 ghost use Rattle.lucid_normal_steps.specs.Added.{added};
 ghost use Rattle.lucid_normal_steps.specs.Notes.{before};
 
+use crate::context::{Context, next, put};
 use crate::notes::{clear, hold};
-use crate::site::{Site, next, put};
 use crate::work::Work;
 use lucid_base::{Items, Memory};
 use lucid_code::{Act, Op, Operand};
@@ -14,13 +14,19 @@ use lucid_normal_form::{Env, Typed};
 use std::alloc::Global;
 
 /// A move to a new field, which holds the local from now on.
-pub fn assign(site: Site, work: &mut Work, env: &mut Env, i: u32, t: Typed) -> Result<(), Memory>
+pub fn assign(
+    context: Context,
+    work: &mut Work,
+    env: &mut Env,
+    i: u32,
+    t: Typed,
+) -> Result<(), Memory>
     ensures env { OnOk result (env.new ≡ (assigned i t env.old).env) }
-    ensures ops { OnOk result (work.new.ops.items ≡ added site.entry.guard.now work.old.ops.items (assigned i t env.old).ops) }
+    ensures ops { OnOk result (work.new.ops.items ≡ added context.entry.guard.now work.old.ops.items (assigned i t env.old).ops) }
     ensures back { OnOk result (before work.new.notes.items env.new.held ≡ before work.old.notes.items env.old.held) }
 {
     let k = next(&env.widths)?;
-    put(site, &mut work.ops, env.place, Act::Move(t.operand, k))?;
+    put(context, &mut work.ops, env.place, Act::Move(t.operand, k))?;
     env.widths.push(t.width)?;
     let field = Typed {
         operand: Operand::Field(k),
@@ -49,7 +55,7 @@ pub fn answer_nothing(alloc: Global, work: &mut Work, env: &mut Env) -> Result<(
 
 /// An event that is sent out, in the next slot.
 pub fn send(
-    site: Site,
+    context: Context,
     ops: &mut Vec<Op>,
     env: &mut Env,
     event: u32,
@@ -59,7 +65,7 @@ pub fn send(
 ) -> Result<(), Memory>
     ensures env { OnOk result (env.new ≡ (out_made (λ slot. act.Gen slot event args delay to) env.old).env) }
     ensures ops { OnOk result (ops.new.items
-        ≡ added site.entry.guard.now ops.old.items (out_made (λ slot. act.Gen slot event args delay to) env.old).ops) }
+        ≡ added context.entry.guard.now ops.old.items (out_made (λ slot. act.Gen slot event args delay to) env.old).ops) }
 {
     let slot = env.slot;
     let act = Act::Gen {
@@ -69,14 +75,14 @@ pub fn send(
         delay,
         to,
     };
-    put(site, ops, env.place, act)?;
+    put(context, ops, env.place, act)?;
     env.slot = behind(slot)?;
     Ok(())
 }
 
 /// A text that is printed, in the next slot.
 pub fn say(
-    site: Site,
+    context: Context,
     ops: &mut Vec<Op>,
     env: &mut Env,
     form: u32,
@@ -84,10 +90,10 @@ pub fn say(
 ) -> Result<(), Memory>
     ensures env { OnOk result (env.new ≡ (out_made (λ slot. act.Say slot form args) env.old).env) }
     ensures ops { OnOk result (ops.new.items
-        ≡ added site.entry.guard.now ops.old.items (out_made (λ slot. act.Say slot form args) env.old).ops) }
+        ≡ added context.entry.guard.now ops.old.items (out_made (λ slot. act.Say slot form args) env.old).ops) }
 {
     let slot = env.slot;
-    put(site, ops, env.place, Act::Say { slot, form, args })?;
+    put(context, ops, env.place, Act::Say { slot, form, args })?;
     env.slot = behind(slot)?;
     Ok(())
 }

@@ -7,7 +7,7 @@ use Rattle.std.proofs.lemmas.Bool.{and_parts, eq-eqb, ne_eqb, cases_eq, ltb-true
 use Rattle.std.proofs.lemmas.List.{get_or-set_same, get_or-set_other, length-set, length-replicate, reverse-append}
 use Rattle.lucid_code.specs.declared.op.Op.{Op}
 use Rattle.lucid_code.specs.Uses.{read_by, only_writes}
-use Rattle.lucid_code.specs.Parts.{Parts}
+use Rattle.lucid_code.specs.Parts.{CodeParts}
 use Rattle.lucid_code.specs.Valid.{IsValid}
 use Rattle.lucid_code.proofs.Facts.{sound_each}
 use Rattle.lucid_code.proofs.Members.{all_from}
@@ -111,5 +111,5 @@ module _ (fields : ℕ) where
       }
 
 -- The operations of valid code write fields that are there.
-pub all_below : (code : Parts) → IsValid code → list_all (writes_below (length code.fields)) code.ops ≡ true
+pub all_below : (code : CodeParts) → IsValid code → list_all (writes_below (length code.fields)) code.ops ≡ true
 all_below code valid = all_from (writes_below (length code.fields)) code.ops (λ o i. (and_parts _ _ (and_parts _ _ (and_parts _ _ (and_parts _ _ (and_parts _ _ (and_parts _ _ (sound_each code valid o i)).0).0).0).0).0).1)

@@ -187,14 +187,14 @@ each_at ops guard (l ∷ ls) marks c h =
 
 -- ---- one operation more
 
-record Found (f : Literal → Bool) (guard : List Literal) (n : ℕ) : Type 0 where
+record HoldsBefore (f : Literal → Bool) (guard : List Literal) (n : ℕ) : Type 0 where
   at : ℕ
   literal : Literal
   below : at < n
   is : slice_get guard at ≡ Some literal
   passes : f literal ≡ true
 
-found : (f : Literal → Bool) (guard : List Literal) (n : ℕ) → list_any f (take n guard) ≡ true → Found f guard n
+found : (f : Literal → Bool) (guard : List Literal) (n : ℕ) → list_any f (take n guard) ≡ true → HoldsBefore f guard n
 found f guard zero h = absurd (true≢false (sym h ∙ ap (list_any f) (none_taken guard)))
 found f [] (suc n) h = absurd (true≢false (sym h))
 found f (x ∷ guard) (suc n) h = ⊎_elim

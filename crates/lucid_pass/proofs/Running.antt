@@ -4,7 +4,7 @@ use Rattle.std.proofs.lemmas.List.{map-set, length-set, length-append, length-ma
 use Rattle.std.proofs.Math.Seq.{map-set_same, take-append_seam}
 use Rattle.lucid_base.specs.Saturating.{saturating_sum}
 use Rattle.lucid_code.specs.declared.op.Op.{Op}
-use Rattle.lucid_code.specs.Parts.{Parts}
+use Rattle.lucid_code.specs.Parts.{CodeParts}
 use Rattle.lucid_code.specs.Valid.{IsValid}
 use Rattle.lucid_pass_form.specs.Replace.{MayReplace, Rewrite}
 use Rattle.lucid_pass_form.proofs.Replaces.{replaces_twice}
@@ -31,7 +31,7 @@ map_cons f (y ∷ xs) zero x h = refl
 map_cons f (y ∷ xs) (suc i) x h = map_cons f xs i x (omega arith)
 
 -- So many passes ran: what they made of the code, what went in each, and what their counts are.
-pub record Ran {X : Type 0} (named : X → List ℕ) (gives : X → Rewrite) (count : X → ℕ) (before now : List X) (start code : Parts) (told : List ℕ) (i : ℕ) : Type 0 where
+pub record Ran {X : Type 0} (named : X → List ℕ) (gives : X → Rewrite) (count : X → ℕ) (before now : List X) (start code : CodeParts) (told : List ℕ) (i : ℕ) : Type 0 where
   pub long : length now ≡ length before
   pub names : map named now ≡ map named before
   pub same : map gives now ≡ map gives before
@@ -41,19 +41,19 @@ pub record Ran {X : Type 0} (named : X → List ℕ) (gives : X → Rewrite) (co
   pub many : length told ≡ i
   pub replaces : MayReplace start code
 
-module _ {X : Type 0} (named : X → List ℕ) (gives : X → Rewrite) (count : X → ℕ) (before : List X) (start : Parts) where
+module _ {X : Type 0} (named : X → List ℕ) (gives : X → Rewrite) (count : X → ℕ) (before : List X) (start : CodeParts) where
   pub begins : MayReplace start start → Ran named gives count before before start start [] 0
   begins replaces = record { long = refl; names = refl; same = refl; made = refl; all_gone = refl; counts = sym (raised_none (map count before)); many = refl; replaces = replaces }
 
   -- where a call ends by want of memory
-  pub stops : (now : List X) (code : Parts) (told : List ℕ) (i : ℕ) → i ≤ length before → Ran named gives count before now start code told i →
+  pub stops : (now : List X) (code : CodeParts) (told : List ℕ) (i : ℕ) → i ≤ length before → Ran named gives count before now start code told i →
       (k : ℕ) × (k ≤ length before) × (map count now ≡ raised (map count before) (take k (gone (map gives before) start)))
   stops now code told i h r =
       let seam : take i (gone (map gives before) start) ≡ told
       = ap (take i) (sym r.all_gone) ∙ ap (λ n. take n (told ++ gone (drop i (map gives before)) code)) (sym r.many) ∙ take-append_seam told (gone (drop i (map gives before)) code) in
       (i, h, r.counts ∙ ap (raised (map count before)) (sym seam))
 
-  module _ (now : List X) (code : Parts) (told : List ℕ) (i : ℕ) (x y : X) (below : i < length now) (is : x ≡ get_or now i x) (r : Ran named gives count before now start code told i)
+  module _ (now : List X) (code : CodeParts) (told : List ℕ) (i : ℕ) (x y : X) (below : i < length now) (is : x ≡ get_or now i x) (r : Ran named gives count before now start code told i)
       (name : named y ≡ named x) (same : gives y ≡ gives x) where
     now_at : gives (get_or now i x) ≡ gives x
     now_at = ap gives (sym is)
@@ -72,7 +72,7 @@ module _ {X : Type 0} (named : X → List ℕ) (gives : X → Rewrite) (count : 
     }
 
     -- one that ran
-    pub one_ran : (new : Parts) → new ≡ (gives x).makes code → count y ≡ saturating_sum (count x) (length code.ops - length ((gives x).makes code).ops) → IsValid code
+    pub one_ran : (new : CodeParts) → new ≡ (gives x).makes code → count y ≡ saturating_sum (count x) (length code.ops - length ((gives x).makes code).ops) → IsValid code
         → Ran named gives count before (set now i y) start new (told ++ (length code.ops - length new.ops) ∷ []) (i + 1)
     one_ran new e c valid =
         let n = length code.ops - length new.ops in
@@ -89,14 +89,14 @@ module _ {X : Type 0} (named : X → List ℕ) (gives : X → Rewrite) (count : 
           made = ap (through (drop (i + 1) fs)) e ∙ ap (λ l. through l code) (sym split) ∙ r.made;
           all_gone =
               append_assoc told (n ∷ []) (gone (drop (i + 1) fs) new)
-              ∙ ap (λ (p : Parts). told ++ (length code.ops - length p.ops) ∷ gone (drop (i + 1) fs) p) e
+              ∙ ap (λ (p : CodeParts). told ++ (length code.ops - length p.ops) ∷ gone (drop (i + 1) fs) p) e
               ∙ ap (λ l. told ++ gone l code) (sym split)
               ∙ r.all_gone;
           counts =
               map-set count now i y
               ∙ ap₂ (λ (l : List ℕ) (j : ℕ). slice_set l j (count y)) r.counts (sym r.many)
               ∙ sym (raised_more (map count before) told n (count y) (subst (λ j. j < length (map count before)) (sym r.many) (subst (λ m. i < m) (sym (length-map before count ∙ sym r.long)) below))
-              (c ∙ ap₂ saturating_sum (sym was) (ap (λ (p : Parts). length code.ops - length p.ops) (sym e))));
+              (c ∙ ap₂ saturating_sum (sym was) (ap (λ (p : CodeParts). length code.ops - length p.ops) (sym e))));
           many = length-append told (n ∷ []) ∙ ap (λ k. k + 1) r.many;
           replaces = replaces_twice start code new r.replaces (subst (MayReplace code) (sym e) ((gives x).keeps code valid));
         }
@@ -106,7 +106,7 @@ pub on_err : {T E P : Type 0} (r : Result T E) → P → OnErr r P
 on_err (Ok x) p = tt
 on_err (Err e) p = p
 
-pub told_as : {X : Type 0} (named : X → List ℕ) (gives : X → Rewrite) (count : X → ℕ) (before now : List X) (start code : Parts) (told pushed : List ℕ) (i : ℕ) → pushed ≡ told →
+pub told_as : {X : Type 0} (named : X → List ℕ) (gives : X → Rewrite) (count : X → ℕ) (before now : List X) (start code : CodeParts) (told pushed : List ℕ) (i : ℕ) → pushed ≡ told →
     Ran named gives count before now start code told i → Ran named gives count before now start code pushed i
 told_as named gives count before now start code told pushed i e r = subst (λ l. Ran named gives count before now start code l i) (sym e) r
 

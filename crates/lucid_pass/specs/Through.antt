@@ -2,16 +2,16 @@
 use Rattle.std.specs.Prelude.{ℕ, ◌-◌, List, [], ◌∷◌, length}
 use Rattle.std.specs.List.{AllByRecursion, fold}
 use Rattle.lucid_base.specs.Saturating.{saturating_sum}
-use Rattle.lucid_code.specs.Parts.{Parts}
+use Rattle.lucid_code.specs.Parts.{CodeParts}
 use Rattle.lucid_pass_form.specs.Laws.{KeepsNodes, Replaces}
 use Rattle.lucid_pass_form.specs.Replace.{Rewrite}
 
 -- Each in order, on what the one before gave.
-abbrev pub through : List Rewrite → Parts → Parts
+abbrev pub through : List Rewrite → CodeParts → CodeParts
 through passes code = fold (λ now (p : Rewrite). p.makes now) code passes
 
 -- How many operations go in each.
-abbrev pub gone : List Rewrite → Parts → List ℕ
+abbrev pub gone : List Rewrite → CodeParts → List ℕ
 gone [] code = []
 gone (p ∷ passes) code = (length code.ops - length (p.makes code).ops) ∷ gone passes (p.makes code)
 

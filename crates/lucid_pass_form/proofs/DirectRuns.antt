@@ -17,7 +17,7 @@ use Rattle.lucid_code.specs.declared.op.Op.{Op}
 use Rattle.lucid_code.specs.declared.op.Operand.TheVariants.{Fixed, Field}
 use Rattle.lucid_code.specs.Guards.{Fields, holds, all_hold}
 use Rattle.lucid_code.specs.Nodes.{nodes_follow_writes}
-use Rattle.lucid_code.specs.Parts.{Parts}
+use Rattle.lucid_code.specs.Parts.{CodeParts}
 use Rattle.lucid_code.specs.Run.{Machine, begun, run_act, run_op, run, FieldsFit}
 use Rattle.lucid_code.specs.Uses.{written_by, operands_of, field_of, read_by, writes, only_writes}
 use Rattle.lucid_code.specs.Valid.{IsValid, op_is_sound, literal_fits, widths_agree}
@@ -238,7 +238,7 @@ filter_few f (x ∷ xs) = by (filter_few f xs) (f x)
 
 -- ---- of valid code
 
-module _ (code : Parts) (valid : IsValid code) where
+module _ (code : CodeParts) (valid : IsValid code) where
   literals_fit : (x : Op) → In x code.ops → (l : Literal) → In l x.guard → literal_fits code.fields l ≡ true
   literals_fit x i l j = all_in (literal_fits code.fields) x.guard (and_parts _ _ (sound_each code valid x i)).1 l j
 

@@ -9,7 +9,7 @@ use Rattle.lucid_code.specs.declared.op.Act.TheVariants as act
 use Rattle.lucid_code.specs.declared.op.Op.{Op}
 use Rattle.lucid_code.specs.Guards.{Fields, all_hold}
 use Rattle.lucid_code.specs.Nodes.{nodes_follow_writes}
-use Rattle.lucid_code.specs.Parts.{Parts}
+use Rattle.lucid_code.specs.Parts.{CodeParts}
 use Rattle.lucid_code.specs.Run.{Machine, begun, put, stored, sent, written, run_op, run}
 use Rattle.lucid_code.specs.Uses.{written_by, read_by, only_writes}
 use Rattle.lucid_code.specs.Valid.{IsValid, op_is_sound}
@@ -131,7 +131,7 @@ live_few (o ∷ ops) = by (live_few ops) (is_needed (live ops) o)
 pub live_facts : (nodes : Bool) (ops : List Op) → Facts nodes ops → Facts nodes (live ops)
 live_facts nodes ops f = record { own = λ o i. f.own o (live_in ops o i); pairs = live_pairs (Pair nodes) ops f.pairs }
 
-pub dead_replaces : (code : Parts) → IsValid code → MayReplace code (alive code)
+pub dead_replaces : (code : CodeParts) → IsValid code → MayReplace code (alive code)
 dead_replaces code valid = record {
   valid =
       let t = tests_of false (live code.ops) (live_facts false code.ops (code_facts code valid)) in
@@ -155,5 +155,5 @@ dead_replaces code valid = record {
   small = λ h. h;
 }
 
-pub dead_nodes : (code : Parts) → IsValid code → nodes_follow_writes code.ops ≡ true → nodes_follow_writes (alive code).ops ≡ true
+pub dead_nodes : (code : CodeParts) → IsValid code → nodes_follow_writes code.ops ≡ true → nodes_follow_writes (alive code).ops ≡ true
 dead_nodes code valid t = nodes_of (live code.ops) (live_facts true code.ops (facts_with_nodes code.ops t (code_facts code valid)))

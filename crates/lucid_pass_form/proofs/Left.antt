@@ -3,7 +3,7 @@ use Rattle.std.proofs.Common.{◌≡◌, ℕ, zero, suc, List, [], ◌∷◌, �
 use Rattle.std.specs.Option.{option_map_or}
 use Rattle.std.proofs.lemmas.Bool.{or_right, or_parts, or_from, eqb-true}
 use Rattle.lucid_code.specs.declared.op.Op.{Op}
-use Rattle.lucid_code.specs.Parts.{Parts}
+use Rattle.lucid_code.specs.Parts.{CodeParts}
 use Rattle.lucid_code.specs.Uses.{read_by, only_writes}
 use Rattle.lucid_code.specs.Valid.{IsValid}
 use Rattle.lucid_code.proofs.Facts.{code_facts}
@@ -125,7 +125,7 @@ all_stay front (o ∷ ops) f n =
     = ap (λ l. is_needed l o) rest ∙ sym (needed_behind front o ops (λ y i. (parts.across y i o (inl refl)).blind) (f.own o (in_right o front (o ∷ ops) (inl refl)))) ∙ n o (inl refl) in
     ap (λ b. kept_if b o (live ops)) here ∙ ap (λ l. o ∷ l) rest
 
-pub dead_is_left : (code : Parts) → IsValid code → IsLeft code.ops (live code.ops)
+pub dead_is_left : (code : CodeParts) → IsValid code → IsLeft code.ops (live code.ops)
 dead_is_left code valid =
     let facts = code_facts code valid in
     record {

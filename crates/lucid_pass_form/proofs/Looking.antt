@@ -16,7 +16,7 @@ use Rattle.lucid_code.specs.declared.op.Operand.{Operand}
 use Rattle.lucid_code.specs.declared.op.Operand.TheVariants.{Fixed, Field}
 use Rattle.lucid_code.specs.Guards.{Fields}
 use Rattle.lucid_code.specs.Nodes.{nodes_follow_writes}
-use Rattle.lucid_code.specs.Parts.{Parts}
+use Rattle.lucid_code.specs.Parts.{CodeParts}
 use Rattle.lucid_code.specs.Run.{Machine, Done, begun, value, result, written, run_act, run, FieldsFit}
 use Rattle.lucid_code.specs.Uses.{written_by, called_by, slot_of, operands_of, field_of, only_writes}
 use Rattle.lucid_code.specs.Valid.{IsValid, op_is_sound, widths_agree, act_keeps_limits}
@@ -68,8 +68,8 @@ module _ (widths : List ℕ) (put : Putting) (settle : Act → Act) (sound : Sou
 pub done_of : Machine → Done
 done_of m = record { cells = m.cells; outs = map (λ o. o.1) m.outs }
 
-module _ (put : List ℕ → Putting) (settle : Act → Act) (sound : (widths : List ℕ) → Sound widths (put widths) settle) (code : Parts) (valid : IsValid code) where
-  abbrev pub new : Parts
+module _ (put : List ℕ → Putting) (settle : Act → Act) (sound : (widths : List ℕ) → Sound widths (put widths) settle) (code : CodeParts) (valid : IsValid code) where
+  abbrev pub new : CodeParts
   new = record code { ops = changed (put_op (put code.fields) settle) [] code.ops }
 
   pub new_valid : IsValid new
@@ -138,10 +138,10 @@ copies_sound widths = record {
   limits = λ a h. h;
 }
 
-pub copies_replaces : (code : Parts) → IsValid code → MayReplace code (copies code)
+pub copies_replaces : (code : CodeParts) → IsValid code → MayReplace code (copies code)
 copies_replaces code valid = new_replaces copied (λ a. a) copies_sound code valid
 
-pub copies_nodes : (code : Parts) → IsValid code → nodes_follow_writes code.ops ≡ true → nodes_follow_writes (copies code).ops ≡ true
+pub copies_nodes : (code : CodeParts) → IsValid code → nodes_follow_writes code.ops ≡ true → nodes_follow_writes (copies code).ops ≡ true
 copies_nodes code valid t = new_nodes copied (λ a. a) copies_sound code valid t
 
 -- ---- `Fold`
@@ -209,8 +209,8 @@ fold_sound widths = record {
   limits = λ a h. settles (λ b. act_keeps_limits b ≡ true) a h (λ k c e. refl);
 }
 
-pub fold_replaces : (code : Parts) → IsValid code → MayReplace code (folded code)
+pub fold_replaces : (code : CodeParts) → IsValid code → MayReplace code (folded code)
 fold_replaces code valid = new_replaces constant settled fold_sound code valid
 
-pub fold_nodes : (code : Parts) → IsValid code → nodes_follow_writes code.ops ≡ true → nodes_follow_writes (folded code).ops ≡ true
+pub fold_nodes : (code : CodeParts) → IsValid code → nodes_follow_writes code.ops ≡ true → nodes_follow_writes (folded code).ops ≡ true
 fold_nodes code valid t = new_nodes constant settled fold_sound code valid t

@@ -2,11 +2,11 @@
 use Rattle.std.proofs.Common.{◌≡◌, ℕ, ◌+◌, ◌<◌, ◌≤◌, ◌^◌, zero, suc, List, [], ◌∷◌, length, take, slice_index, refl, sym, ap, ◌∙◌, subst, arith}
 use Rattle.lucid_base.specs.declared.event.Event.{Event}
 use Rattle.lucid_code.specs.Inputs.{IsInput}
-use Rattle.lucid_code.specs.Parts.{Parts}
+use Rattle.lucid_code.specs.Parts.{CodeParts}
 use Rattle.lucid_code.specs.Valid.{IsValid}
 use Rattle.lucid_pass_form.specs.Replace.{MayReplace, input_widths}
 
-pub same_replaces : (code : Parts) → IsValid code → MayReplace code code
+pub same_replaces : (code : CodeParts) → IsValid code → MayReplace code code
 same_replaces code valid = record {
   valid = valid;
   inputs = refl;
@@ -24,7 +24,7 @@ taken_at (suc n) zero (x ∷ xs) h = refl
 taken_at (suc n) (suc k) (x ∷ xs) h = taken_at n k xs (omega arith)
 
 -- What is an input of code is one of code with the same inputs.
-pub stays_input : (code new : Parts) (me : ℕ) (event : Event) → new.inputs ≡ code.inputs → input_widths new ≡ input_widths code → IsInput code me event → IsInput new me event
+pub stays_input : (code new : CodeParts) (me : ℕ) (event : Event) → new.inputs ≡ code.inputs → input_widths new ≡ input_widths code → IsInput code me event → IsInput new me event
 stays_input code new me event inputs widths input = record {
   switch = input.switch;
   id = input.id;
@@ -36,7 +36,7 @@ stays_input code new me event inputs widths input = record {
       subst (λ w. slice_index event.args k < 2 ^ w) (sym (sym there ∙ ap (λ ws. slice_index ws (3 + k)) widths ∙ here)) (input.fit k h);
 }
 
-pub replaces_twice : (code mid new : Parts) → MayReplace code mid → MayReplace mid new → MayReplace code new
+pub replaces_twice : (code mid new : CodeParts) → MayReplace code mid → MayReplace mid new → MayReplace code new
 replaces_twice code mid new a b = record {
   valid = b.valid;
   inputs = b.inputs ∙ a.inputs;

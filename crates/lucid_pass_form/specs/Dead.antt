@@ -3,7 +3,7 @@ use Rattle.std.specs.Prelude.{◌≡◌, ℕ, zero, suc, IsTrue, false, List, []
 use Rattle.std.specs.List.{list_all, list_any}
 use Rattle.std.specs.Option.{option_map_or}
 use Rattle.lucid_code.specs.declared.op.Op.{Op}
-use Rattle.lucid_code.specs.Parts.{Parts}
+use Rattle.lucid_code.specs.Parts.{CodeParts}
 use Rattle.lucid_code.specs.Uses.{only_writes, read_by}
 
 abbrev pub reads : Op → ℕ → Bool
@@ -24,7 +24,7 @@ abbrev pub live : List Op → List Op
 live [] = []
 live (o ∷ ops) = kept_if (is_needed (live ops) o) o (live ops)
 
-abbrev pub alive : Parts → Parts
+abbrev pub alive : CodeParts → CodeParts
 alive code = record code { ops = live code.ops }
 
 -- Each of these operations is needed.

@@ -8,7 +8,7 @@ use Rattle.lucid_code.specs.declared.op.Act.TheVariants as act
 use Rattle.lucid_code.specs.declared.op.Literal.{Literal}
 use Rattle.lucid_code.specs.declared.op.Op.{Op}
 use Rattle.lucid_code.specs.declared.op.Operand.TheVariants.{Fixed, Field}
-use Rattle.lucid_code.specs.Parts.{Parts}
+use Rattle.lucid_code.specs.Parts.{CodeParts}
 use Rattle.lucid_code.specs.Uses.{written_by}
 use Rattle.lucid_pass_form.specs.declared.direct.Test.{Test}
 use Rattle.lucid_pass_form.specs.Dead.{is_read}
@@ -55,5 +55,5 @@ direct_ops widths ops =
     let now = map (direct_op d) ops in
     filter (still_needed d now) now
 
-abbrev pub direct : Parts → Parts
+abbrev pub direct : CodeParts → CodeParts
 direct code = record code { ops = direct_ops code.fields code.ops }

@@ -9,7 +9,7 @@ use Rattle.lucid_base.specs.Cells.{row_of}
 use Rattle.lucid_base.specs.declared.event.Event.{Event}
 use Rattle.lucid_base.specs.declared.event.Out.{Out}
 use Rattle.lucid_code.specs.Guards.{Fields}
-use Rattle.lucid_code.specs.Parts.{Parts}
+use Rattle.lucid_code.specs.Parts.{CodeParts}
 use Rattle.lucid_code.specs.Run.{Machine}
 use Rattle.lucid_tables.specs.declared.stage.StageCode.{StageCode}
 use Rattle.lucid_tables.specs.Laws.{KeepsToItsArrays}
@@ -55,7 +55,7 @@ same_own s c d l h = same_cells (own s c) (own s d) (chosen_length (λ g. is_in 
     (λ i. own_there s c g i ∙ h g i ∙ sym (own_there s d g i))
     (λ o. own_not s c g o ∙ sym (own_not s d g o)))
 
-module _ (code : Parts) where
+module _ (code : CodeParts) where
   -- a stage on its own cells
   step_own : (s : StageCode) (cells : Cells) (p : Packet) → KeepsToItsArrays code s →
       let m = stage code (meets cells p) s in let n = stage code (meets (own s cells) p) s in
@@ -187,7 +187,7 @@ go_rows placed keeps apart pipe k p is long here next =
     (λ l. by_last l (omega (arith, l, below)) keeps_it apart_it as_long full)
     (cases_lt (k + 1) (length pipe.slots)))
   where
-    code : Parts
+    code : CodeParts
     code = pipe.placed.code
 
     stages : List StageCode

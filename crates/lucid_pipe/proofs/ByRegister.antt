@@ -21,7 +21,7 @@ use Rattle.lucid_code.specs.declared.op.Op.{Op}
 use Rattle.lucid_code.specs.declared.op.Operand.{Operand}
 use Rattle.lucid_code.specs.declared.op.Operand.TheVariants.{Fixed, Field}
 use Rattle.lucid_code.specs.Guards.{holds, all_hold}
-use Rattle.lucid_code.specs.Parts.{Parts}
+use Rattle.lucid_code.specs.Parts.{CodeParts}
 use Rattle.lucid_code.specs.Run.{Machine, value, values, target_of, put, put_out, result, stored, sent, written, run_act}
 use Rattle.lucid_code.specs.Uses.{written_by}
 use Rattle.lucid_code.specs.Valid.{IsValid}
@@ -42,13 +42,13 @@ use Rattle.lucid_pipe.proofs.Fields.{field_held, field_put, put_within}
 use Rattle.lucid_pipe.proofs.Together.{stage_at}
 
 -- What registers stand for.
-abbrev seen : Parts → Machine → Machine
+abbrev seen : CodeParts → Machine → Machine
 seen code m = machine code m.fields m.cells m.outs
 
-abbrev IsLong : Parts → Machine → Type 0
+abbrev IsLong : CodeParts → Machine → Type 0
 IsLong code m = length m.fields ≡ length (registers_of code)
 
-module _ (code : Parts) (valid : IsValid code) (registers : List ℕ) (long : length registers ≡ length (registers_of code)) where
+module _ (code : CodeParts) (valid : IsValid code) (registers : List ℕ) (long : length registers ≡ length (registers_of code)) where
   held_at : (k : ℕ) → slice_index registers (place_of code k) ≡ slice_index (fields_of code registers) k
   held_at k = by (register_of code k) refl
     where
@@ -148,7 +148,7 @@ module _ (code : Parts) (valid : IsValid code) (registers : List ℕ) (long : le
             ap (λ (rs : List ℕ). length rs) set ∙ length-set registers i (low_of (slice_index (widths_by_register code) i) v) ∙ long,
           )
 
-module _ (code : Parts) (valid : IsValid code) where
+module _ (code : CodeParts) (valid : IsValid code) where
   act_same : (m : Machine) (a : Act) → IsLong code m → option_map_or (λ k. is_some (register_of code k)) (written_by a) true ≡ true →
       let after = run_act (widths_by_register code) (act_by_register code a) m in
       (seen code after ≡ run_act code.fields a (seen code m)) × IsLong code after
@@ -194,7 +194,7 @@ module _ (code : Parts) (valid : IsValid code) where
       ∙ ap (λ (n : Machine). run_tables code n tables) (first.0 ∙ ap (fold (run_numbered code) (seen code m)) (acts_same code valid m.fields long t.rows))
 
 -- Stage k, where it is there, run by register.
-pub stage_by_register : (code : Parts) (stages : List StageCode) (k : ℕ) (tables : List (List Row)) (registers : List ℕ) (cells : List (List ℕ)) (outs : List (ℕ × Out))
+pub stage_by_register : (code : CodeParts) (stages : List StageCode) (k : ℕ) (tables : List (List Row)) (registers : List ℕ) (cells : List (List ℕ)) (outs : List (ℕ × Out))
     (registers2 : List ℕ) (cells2 : List (List ℕ)) (outs2 : List (ℕ × Out)) → IsValid code → IsPlaced code stages → length registers ≡ length (registers_of code) → k < length stages →
     tables ≡ slice_index_or (stages_by_register code stages) k tables →
     on_registers registers2 cells2 outs2 ≡ run_all_rows code (on_registers registers cells outs) tables →

@@ -8,7 +8,7 @@ use Rattle.std.proofs.lemmas.List.FromFn.{length-map-range_with_len}
 use Rattle.lucid_base.specs.Cells.{row_of, zero_cells}
 use Rattle.lucid_base.specs.declared.array.ArrayDef.{ArrayDef}
 use Rattle.lucid_base.specs.declared.event.Event.{Event}
-use Rattle.lucid_code.specs.Parts.{Parts}
+use Rattle.lucid_code.specs.Parts.{CodeParts}
 use Rattle.lucid_tables.specs.Numbers.{is_in, all_differ}
 use Rattle.lucid_tables.specs.Placed.{PlacedParts, stage_of}
 use Rattle.lucid_pipe.specs.declared.block.Block.{Block}
@@ -156,7 +156,7 @@ module _ (placed : PlacedParts) (cells : List (List ℕ)) (blocks : List Block) 
 
 -- ---- a pipe without packets
 
-no_packets : (code : Parts) (blocks : List Block) (a n : ℕ) → map (in_slot code blocks) (map (λ k. record { block = k; taken = false }) (range_with_len a n)) ≡ replicate n None
+no_packets : (code : CodeParts) (blocks : List Block) (a n : ℕ) → map (in_slot code blocks) (map (λ k. record { block = k; taken = false }) (range_with_len a n)) ≡ replicate n None
 no_packets code blocks a zero = refl
 no_packets code blocks a (suc n) = ap (λ ps. None ∷ ps) (no_packets code blocks (a + 1) n)
 
@@ -188,7 +188,7 @@ starts placed cells blocks n long none =
     ap₂ (λ (c : List (List ℕ)) (ss : List (Option Packet)). record { placed = placed; cells = c; slots = ss }) none (no_packets placed.code blocks 0 n ∙ ap (λ m. replicate m None) long)
 
 -- As many slots are taken as there are packets.
-pub same_count : (code : Parts) (blocks : List Block) (slots : List Slot) → AllByRecursion (λ (s : Slot). s.block < length blocks) slots →
+pub same_count : (code : CodeParts) (blocks : List Block) (slots : List Slot) → AllByRecursion (λ (s : Slot). s.block < length blocks) slots →
     taken slots ≡ length (filter_map (λ slot. slot) (map (in_slot code blocks) slots))
 same_count code blocks [] h = refl
 same_count code blocks (s ∷ slots) h = by s.taken (slice_get blocks s.block) (block_there blocks s.block h.0) (same_count code blocks slots h.1)

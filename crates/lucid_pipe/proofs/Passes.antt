@@ -4,7 +4,7 @@ use Rattle.std.specs.List.{fold}
 use Rattle.std.proofs.lemmas.List.{length-set}
 use Rattle.lucid_base.specs.declared.event.Event.{Event}
 use Rattle.lucid_base.specs.declared.event.Out.{Out}
-use Rattle.lucid_code.specs.Parts.{Parts}
+use Rattle.lucid_code.specs.Parts.{CodeParts}
 use Rattle.lucid_tables.specs.Placed.{PlacedParts}
 use Rattle.lucid_tables.specs.Stages.{pass}
 use Rattle.lucid_tables.specs.declared.stage.StageCode.{StageCode}
@@ -16,7 +16,7 @@ use Rattle.lucid_pipe.specs.Settled.{Settled, settled_from, settled, with_left, 
 use Rattle.lucid_pipe.specs.declared.passed.Passed.{Passed}
 
 -- without packets a pipe is settled
-none_settle : (code : Parts) (stages : List StageCode) (cells : List (List ℕ)) → settled_from code stages (replicate (length stages) None) cells ≡ record { cells = cells; outs = [] }
+none_settle : (code : CodeParts) (stages : List StageCode) (cells : List (List ℕ)) → settled_from code stages (replicate (length stages) None) cells ≡ record { cells = cells; outs = [] }
 none_settle code [] cells = refl
 none_settle code (s ∷ stages) cells = none_settle code stages cells
 

@@ -4,7 +4,7 @@ use Rattle.std.specs.List.{range_with_len}
 use Rattle.std.specs.Option.{option_map_or}
 use Rattle.lucid_base.specs.Cells.{row_of, zero_cells}
 use Rattle.lucid_base.specs.declared.array.ArrayDef.{ArrayDef}
-use Rattle.lucid_code.specs.Parts.{Parts}
+use Rattle.lucid_code.specs.Parts.{CodeParts}
 use Rattle.lucid_tables.specs.declared.stage.StageCode.{StageCode}
 use Rattle.lucid_tables.specs.Numbers.{is_in}
 use Rattle.lucid_tables.specs.Placed.{stage_of}
@@ -27,7 +27,7 @@ owns [] cells = []
 owns (s ∷ stages) cells = own s cells ∷ owns stages cells
 
 -- What stage k makes of cells and a packet.
-abbrev pub steps_of : Parts → List StageCode → Steps (List (List ℕ)) Packet
+abbrev pub steps_of : CodeParts → List StageCode → Steps (List (List ℕ)) Packet
 steps_of code stages k cells p =
     let m = runs_stage code stages cells k p in
     (m.cells, left_by m p)

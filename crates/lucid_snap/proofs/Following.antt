@@ -7,7 +7,7 @@ use Rattle.std.proofs.lemmas.Option.{slice_get_within}
 use Rattle.std.specs.List.{AllByRecursion}
 use Rattle.std.specs.Option.{option_and_then, option_map_or}
 use Rattle.lucid_base.specs.Cells.{row_of, zero_cells}
-use Rattle.lucid_code.specs.Parts.{Parts}
+use Rattle.lucid_code.specs.Parts.{CodeParts}
 use Rattle.lucid_tables.specs.declared.stage.StageCode.{StageCode}
 use Rattle.lucid_tables.specs.Laws.{KeepsToItsArrays}
 use Rattle.lucid_tables.specs.Numbers.{is_in, none_shared}
@@ -66,7 +66,7 @@ not_there stages g j k apart found other =
     by_test (is_in g (stage_at stages k).arrays) (is_in g (stage_at stages k).arrays ≡ false)
     (λ i. absurd (other (only_stage stages g j k apart (position-Some (λ (s : StageCode). is_in g s.arrays) stages j no_stage found).1 i))) (λ e. e)
 
-module _ (code : Parts) where
+module _ (code : CodeParts) where
   -- a stage that no packet has still to execute is left alone
   pub untouched : (stages : List StageCode) (slots : Slots) (cells : Cells) (k g : ℕ) → AllByRecursion (KeepsToItsArrays code) stages → Apart stages → k < free_first slots → is_in g (stage_at stages k).arrays ≡ true →
       row_of (settled_from code stages slots cells).cells g ≡ row_of cells g

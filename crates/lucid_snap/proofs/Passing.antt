@@ -6,7 +6,7 @@ use Rattle.std.proofs.lemmas.List.Quantifiers.{position-Some}
 use Rattle.std.specs.List.{AllByRecursion, filter_map}
 use Rattle.lucid_base.specs.Cells.{row_of}
 use Rattle.lucid_base.specs.declared.event.Event.{Event}
-use Rattle.lucid_code.specs.Parts.{Parts}
+use Rattle.lucid_code.specs.Parts.{CodeParts}
 use Rattle.lucid_tables.specs.declared.stage.StageCode.{StageCode}
 use Rattle.lucid_tables.specs.Laws.{KeepsToItsArrays}
 use Rattle.lucid_tables.specs.Numbers.{is_in}
@@ -37,7 +37,7 @@ free_at [] g k all = refl
 free_at (s ∷ stages) g zero all = all.0
 free_at (s ∷ stages) g (suc k) all = free_at stages g k all.1
 
-settled_idle : (code : Parts) (stages : List StageCode) (slots : Slots) (cells : Cells) (g : ℕ) → AllByRecursion (KeepsToItsArrays code) stages → AllByRecursion (λ (s : StageCode). is_in g s.arrays ≡ false) stages →
+settled_idle : (code : CodeParts) (stages : List StageCode) (slots : Slots) (cells : Cells) (g : ℕ) → AllByRecursion (KeepsToItsArrays code) stages → AllByRecursion (λ (s : StageCode). is_in g s.arrays ≡ false) stages →
     row_of (settled_from code stages slots cells).cells g ≡ row_of cells g
 settled_idle code [] slots cells g keeps free = refl
 settled_idle code (s ∷ stages) [] cells g keeps free = refl

@@ -4,7 +4,7 @@ use Rattle.std.specs.Option.{option_and_then}
 use Rattle.lucid_code.specs.Parts as code
 use Rattle.lucid_conf.specs.declared.scene.Scene.{Scene}
 use Rattle.lucid_core.specs.Laws.{CellsStayFit}
-use Rattle.lucid_core.specs.Parts.{Parts}
+use Rattle.lucid_core.specs.Parts.{CoreParts}
 use Rattle.lucid_core.specs.Step.{after}
 use Rattle.lucid_pipe.specs.Packets.{Packet}
 use Rattle.lucid_pipe.specs.Pipe.{PipeParts, comes_out, executed, gone, packet_at}
@@ -26,7 +26,7 @@ use Rattle.lucid_snap.proofs.Following.{Fixed, with_left_cells}
 abbrev Slots : Type 0
 Slots = List (Option Packet)
 
-none_settles : (c : code.Parts) (stages : List StageCode) (slots : Slots) (cells : List (List ℕ)) → ((k : ℕ) → option_and_then (λ slot. slot) (slice_get slots k) ≡ None) → (settled_from c stages slots cells).cells ≡ cells
+none_settles : (c : code.CodeParts) (stages : List StageCode) (slots : Slots) (cells : List (List ℕ)) → ((k : ℕ) → option_and_then (λ slot. slot) (slice_get slots k) ≡ None) → (settled_from c stages slots cells).cells ≡ cells
 none_settles c [] slots cells none = refl
 none_settles c (s ∷ stages) [] cells none = refl
 none_settles c (s ∷ stages) (Some p ∷ slots) cells none = let no : ◌≡◌ {A = Option Packet} (Some p) None = none 0 in cc
@@ -50,7 +50,7 @@ laws_after pipe k p fixed laws = record {
 }
 
 -- The pipe after the oldest moved settles to the same, and one without packets has those cells.
-module _ (parts : Parts) (scene : Scene) (p : Progress) (pipe : PipeParts) (is : IsAt parts scene p pipe) (stay : CellsStayFit parts) (fixed : Fixed pipe.placed) (laws : Laws pipe)
+module _ (parts : CoreParts) (scene : Scene) (p : Progress) (pipe : PipeParts) (is : IsAt parts scene p pipe) (stay : CellsStayFit parts) (fixed : Fixed pipe.placed) (laws : Laws pipe)
     (later_settles : (q : Progress) (later : PipeParts) → work later.slots < work pipe.slots → IsAt parts scene q later → Fixed later.placed → Laws later → (settled later).cells ≡ after parts (entries scene) q.entered) where
   by_oldest : (found : Option ℕ) → oldest p ≡ found → (settled pipe).cells ≡ after parts (entries scene) p.entered
   by_oldest None e =
@@ -67,11 +67,11 @@ module _ (parts : Parts) (scene : Scene) (p : Progress) (pipe : PipeParts) (is :
       ∙ later_settles (moved p k) (gone pipe k one.0) (moves_less pipe (gone pipe k one.0) k one.0 did) (moves_at parts scene p pipe is laws k one.0 one.1 next) fixed (laws_after pipe k one.0 fixed laws)
 
 -- By how far the packets have still to go.
-settles_by : (n : ℕ) (parts : Parts) (scene : Scene) (p : Progress) (pipe : PipeParts) → work pipe.slots ≤ n → IsAt parts scene p pipe → CellsStayFit parts → Fixed pipe.placed → Laws pipe → (settled pipe).cells ≡ after parts (entries scene) p.entered
+settles_by : (n : ℕ) (parts : CoreParts) (scene : Scene) (p : Progress) (pipe : PipeParts) → work pipe.slots ≤ n → IsAt parts scene p pipe → CellsStayFit parts → Fixed pipe.placed → Laws pipe → (settled pipe).cells ≡ after parts (entries scene) p.entered
 settles_by zero parts scene p pipe few is stay fixed laws =
     by_oldest parts scene p pipe is stay fixed laws (λ q later less at fixed_then laws_then. absurd (omega (arith, few, less))) (oldest p) refl
 settles_by (suc n) parts scene p pipe few is stay fixed laws =
     by_oldest parts scene p pipe is stay fixed laws (λ q later less at fixed_then laws_then. settles_by n parts scene q later (omega (arith, few, less)) at stay fixed_then laws_then) (oldest p) refl
 
-pub settles_to : (parts : Parts) (scene : Scene) (p : Progress) (pipe : PipeParts) → IsAt parts scene p pipe → CellsStayFit parts → Fixed pipe.placed → Laws pipe → (settled pipe).cells ≡ after parts (entries scene) p.entered
+pub settles_to : (parts : CoreParts) (scene : Scene) (p : Progress) (pipe : PipeParts) → IsAt parts scene p pipe → CellsStayFit parts → Fixed pipe.placed → Laws pipe → (settled pipe).cells ≡ after parts (entries scene) p.entered
 settles_to parts scene p pipe = settles_by (work pipe.slots) parts scene p pipe (omega arith)

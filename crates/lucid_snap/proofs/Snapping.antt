@@ -1,7 +1,7 @@
 -- What a drive with a snapshot writes, part after part.
 use Rattle.std.proofs.Common.{◌≡◌, ℕ, List, ◌++◌, Option, Result, Err, codes, length, min, refl, sym, ◌∙◌, ap, subst}
 use Rattle.lucid_conf.specs.declared.scene.Scene.{Scene}
-use Rattle.lucid_core.specs.Parts.{Parts}
+use Rattle.lucid_core.specs.Parts.{CoreParts}
 use Rattle.lucid_core.specs.Step.{after}
 use Rattle.lucid_io.proofs.Leaves.{Leaves-after, Leaves-whole, PutsAll-last, PutsPart-at, PutsPart-last}
 use Rattle.lucid_io.specs.Puts.{Leaves, PutsAll, PutsPart}
@@ -19,7 +19,7 @@ use Rattle.lucid_snap.specs.declared.error.SnapError.{SnapError}
 use Rattle.lucid_snap.proofs.Trailing.{first_part, same_entered}
 
 -- The snapshot's lines.
-pub shown_is : (parts : Parts) (scene : Scene) (start pipe : PipeParts) (state : DriveState) (steps entered : ℕ) (copies : List (List ℕ)) → StandsAfter parts scene state 0 pipe → pipe.placed ≡ start.placed →
+pub shown_is : (parts : CoreParts) (scene : Scene) (start pipe : PipeParts) (state : DriveState) (steps entered : ℕ) (copies : List (List ℕ)) → StandsAfter parts scene state 0 pipe → pipe.placed ≡ start.placed →
     state.done ≡ min steps (length scene.steps) → entered ≡ state.entered → copies ≡ after parts (entries scene) state.entered →
     line (codes "snap after ") entered ++ cells_text 0 parts.arrays copies ≡ snap_text (drive_of parts start scene) (entered_by (drive_of parts start scene) steps)
 shown_is parts scene start pipe state steps entered copies at same done came is =

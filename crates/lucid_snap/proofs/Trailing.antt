@@ -5,7 +5,7 @@ use Rattle.std.specs.Option.{option_and_then}
 use Rattle.lucid_base.specs.Cells.{zero_cells}
 use Rattle.lucid_conf.specs.declared.scene.Scene.{Scene}
 use Rattle.lucid_conf.specs.declared.scene.Step.{Step}
-use Rattle.lucid_core.specs.Parts.{Parts}
+use Rattle.lucid_core.specs.Parts.{CoreParts}
 use Rattle.lucid_io.proofs.Leaves.{Leaves-after, Leaves-nothing, Leaves-whole, PutsPart-at}
 use Rattle.lucid_io.specs.Puts.{Leaves, PutsAll, PutsPart}
 use Rattle.lucid_pipe.specs.Packets.{Packet}
@@ -62,14 +62,14 @@ whole_copies snap pipe cells empty f =
 -- ---- the steps that are left
 
 -- So many steps are done, of them `from` before.
-pub record Trailing {T : Type 0} (written : T → Option (List ℕ)) (faults : T → ℕ) (old now : T) (parts : Parts) (scene : Scene) (start pipe : PipeParts) (state : DriveState) (first snap : SnapParts) (from n : ℕ) : Type 0 where
+pub record Trailing {T : Type 0} (written : T → Option (List ℕ)) (faults : T → ℕ) (old now : T) (parts : CoreParts) (scene : Scene) (start pipe : PipeParts) (state : DriveState) (first snap : SnapParts) (from n : ℕ) : Type 0 where
   pub same : pipe.placed ≡ start.placed
   pub done : state.done ≡ n
   pub at : StandsAfter parts scene state 0 pipe
   pub text : Leaves written faults old now (text_from (drive_of parts start scene) (progress_at (drive_of parts start scene) from 0) (drop from scene.steps)) (text_from (drive_of parts start scene) (progress_at (drive_of parts start scene) n 0) (drop n scene.steps))
   pub follows : KeepsFollowing first start snap pipe
 
-pub trailing_first : {T : Type 0} (written : T → Option (List ℕ)) (faults : T → ℕ) (sink : T) (parts : Parts) (scene : Scene) (start : PipeParts) (state : DriveState) (snap : SnapParts) (n : ℕ) → n ≡ state.done → StandsAfter parts scene state 0 start →
+pub trailing_first : {T : Type 0} (written : T → Option (List ℕ)) (faults : T → ℕ) (sink : T) (parts : CoreParts) (scene : Scene) (start : PipeParts) (state : DriveState) (snap : SnapParts) (n : ℕ) → n ≡ state.done → StandsAfter parts scene state 0 start →
     Trailing written faults sink sink parts scene start start state snap snap state.done n
 trailing_first written faults sink parts scene start state snap n is at = record {
   same = refl;
@@ -79,7 +79,7 @@ trailing_first written faults sink parts scene start state snap n is at = record
   follows = λ cells f. f;
 }
 
-module _ {T : Type 0} {written : T → Option (List ℕ)} {faults : T → ℕ} (old now : T) (parts : Parts) (scene : Scene) (start pipe : PipeParts) (state : DriveState) (first snap : SnapParts) (from n : ℕ)
+module _ {T : Type 0} {written : T → Option (List ℕ)} {faults : T → ℕ} (old now : T) (parts : CoreParts) (scene : Scene) (start pipe : PipeParts) (state : DriveState) (first snap : SnapParts) (from n : ℕ)
     (lt : n < length scene.steps) (so : Trailing written faults old now parts scene start pipe state first snap from n) where
   -- What the step writes.
   pub trail_text : (step_at (drive_of parts pipe scene) state.done).text ≡ (step_at (drive_of parts start scene) n).text
@@ -108,7 +108,7 @@ module _ {T : Type 0} {written : T → Option (List ℕ)} {faults : T → ℕ} (
     follows = λ cells f. follows cells (so.follows cells f);
   }
 
-pub trailing_all : {T : Type 0} {written : T → Option (List ℕ)} {faults : T → ℕ} {old now : T} (parts : Parts) (scene : Scene) (start pipe : PipeParts) (state : DriveState) (first snap : SnapParts) (from n : ℕ) → length scene.steps ≤ n →
+pub trailing_all : {T : Type 0} {written : T → Option (List ℕ)} {faults : T → ℕ} {old now : T} (parts : CoreParts) (scene : Scene) (start pipe : PipeParts) (state : DriveState) (first snap : SnapParts) (from n : ℕ) → length scene.steps ≤ n →
     Trailing written faults old now parts scene start pipe state first snap from n →
     PutsAll written faults old now (text_from (drive_of parts start scene) (progress_at (drive_of parts start scene) from 0) (drop from scene.steps))
 trailing_all parts scene start pipe state first snap from n le so =

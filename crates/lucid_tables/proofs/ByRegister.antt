@@ -2,7 +2,7 @@
 use Rattle.std.proofs.Common.{◌≡◌, ℕ, List, [], ◌∷◌, Bool, true, ◌&&◌, length, nat_eq, nat_lt, refl, sym, ap₂, ◌∙◌, IsTrue}
 use Rattle.std.specs.List.{list_all}
 use Rattle.std.proofs.lemmas.Bool.{or_left, or_right, eq-eqb, lt-ltb}
-use Rattle.lucid_code.specs.Parts.{Parts}
+use Rattle.lucid_code.specs.Parts.{CodeParts}
 use Rattle.lucid_code.specs.Valid.{IsValid}
 use Rattle.lucid_tables.specs.Numbers.{is_in}
 use Rattle.lucid_tables.specs.Registers.{carried, registers_of}
@@ -13,7 +13,7 @@ all_in : (p : ℕ → Bool) (xs : List ℕ) → ((k : ℕ) → is_in k xs ≡ tr
 all_in p [] h = refl
 all_in p (x ∷ xs) h = ap₂ (λ (a b : Bool). a && b) (h x (or_left (nat_eq x x) (is_in x xs) (eq-eqb x x refl))) (all_in p xs (λ k i. h k (or_right (nat_eq x k) (is_in k xs) i)))
 
-pub registers_below : (code : Parts) (fields registers : List ℕ) → IsValid code → fields ≡ code.fields → registers ≡ registers_of code →
+pub registers_below : (code : CodeParts) (fields registers : List ℕ) → IsValid code → fields ≡ code.fields → registers ≡ registers_of code →
     IsTrue (list_all (λ k. nat_lt k (length fields)) registers)
 registers_below code fields registers valid f r = ap₂ (λ (xs ks : List ℕ). list_all (λ k. nat_lt k (length xs)) ks) f r
     ∙ all_in (λ k. nat_lt k (length code.fields)) (registers_of code)

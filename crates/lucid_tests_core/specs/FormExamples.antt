@@ -17,7 +17,7 @@ use Rattle.lucid_core.specs.declared.defs.EventDef.{EventDef}
 use Rattle.lucid_core.specs.declared.defs.FunDef.{FunDef}
 use Rattle.lucid_core.specs.declared.defs.HandlerDef.{HandlerDef}
 use Rattle.lucid_core.specs.ExamplePrograms.{number, local, one, call, drop_value, generate_with, to_each, say, return}
-use Rattle.lucid_core.specs.Parts.{Parts, made_of}
+use Rattle.lucid_core.specs.Parts.{CoreParts, made_of}
 use Rattle.lucid_tests_core.specs.StepExamples.{declared, handling}
 
 -- A number of 8 bits, and the low 8 bits of local 0.
@@ -127,5 +127,5 @@ abbrev pub handlers : List HandlerDef
 handlers = handling 0 values ∷ handling 1 calls_of_array ∷ handling 2 (say_nested ∷ []) ∷ handling 3 sends ∷ []
 
 -- An array of 4 bytes, an event for each body, two functions, and the text "n %d".
-abbrev pub formed : Parts
+abbrev pub formed : CoreParts
 formed = made_of (bytes ∷ []) [] events (next ∷ twice_next ∷ []) handlers ((110 ∷ 32 ∷ 37 ∷ 100 ∷ []) ∷ [])

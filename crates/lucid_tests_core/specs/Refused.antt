@@ -19,7 +19,7 @@ use Rattle.lucid_core.specs.Limits.{declarations_keep_limits, bodies_keep_limits
 use Rattle.lucid_core.specs.Names.{names_are_there}
 use Rattle.lucid_core.specs.Numbered.{declarations_are_numbered}
 use Rattle.lucid_core.specs.OutCount.{outs_are_few}
-use Rattle.lucid_core.specs.Parts.{Parts}
+use Rattle.lucid_core.specs.Parts.{CoreParts}
 use Rattle.lucid_core.specs.Returns.{returns_stand_last}
 use Rattle.lucid_core.specs.Syntax.{has_core_syntax, has_flat_syntax}
 use Rattle.lucid_core.specs.Texts.{texts_are_filled}
@@ -68,10 +68,10 @@ abbrev pub inlined_with : Expr → List Expr
 inlined_with x = inlined ((2, x) ∷ []) [] ∷ inlined ((2, one) ∷ []) (drop_value x ∷ []) ∷ []
 
 -- A rule refuses each of these: expressions, or statements, before the handler's own.
-abbrev pub refuses_exprs : (Parts → Bool) → (List Stmt → Parts) → List Expr → Bool
+abbrev pub refuses_exprs : (CoreParts → Bool) → (List Stmt → CoreParts) → List Expr → Bool
 refuses_exprs rule program xs = list_all (λ x. not (rule (program (drop_value x ∷ [])))) xs
 
-abbrev pub refuses_stmts : (Parts → Bool) → (List Stmt → Parts) → List Stmt → Bool
+abbrev pub refuses_stmts : (CoreParts → Bool) → (List Stmt → CoreParts) → List Stmt → Bool
 refuses_stmts rule program ss = list_all (λ s. not (rule (program (s ∷ [])))) ss
 
 -- What each rule refuses wherever it stands: no such local, two widths, a return that isn't the last, nine prints, a local that isn't assigned yet,
@@ -89,7 +89,7 @@ abbrev pub hash_of_nothing : Expr
 hash_of_nothing = roll-Expr (Expr-F.Hash 32 [])
 
 -- A flat program of this handler, with this many locals more.
-abbrev pub flat_with : ℕ → List Stmt → Parts
+abbrev pub flat_with : ℕ → List Stmt → CoreParts
 flat_with more ss = record small { funs = []; handlers = record (handler ss) { locals = 32 ∷ 32 ∷ 32 ∷ replicate more 32 } ∷ [] }
 
 -- bump(bump(i)) with both bodies put in: the inner one is the argument of the outer one.

@@ -11,7 +11,7 @@ use Rattle.lucid_core.specs.declared.defs.HandlerDef.{HandlerDef}
 use Rattle.lucid_core.specs.declared.defs.EventDef.{EventDef}
 use Rattle.lucid_core.specs.ExamplePrograms.{number, local, one, array, less, hash, call, choose, generate_with, to_each_after, say, return, plus}
 use Rattle.lucid_core.specs.ExamplePrograms.{update, update_with, bump, bumps, bump_put_in, flat}
-use Rattle.lucid_core.specs.Parts.{Parts, made_of}
+use Rattle.lucid_core.specs.Parts.{CoreParts, made_of}
 use Rattle.lucid_core.specs.Step.{Entry, Stepped, step, touches, steps, after, outs}
 
 -- An event of one parameter i, and a handler of it, the fifth declaration or later.
@@ -65,7 +65,7 @@ handlers =
     ∷ []
 
 -- Arrays `first` of 4 cells and `second` of 8, a memop, a function with an array parameter, and the text "n %d".
-abbrev pub worked : Parts
+abbrev pub worked : CoreParts
 worked = made_of (array 4 ∷ array 8 ∷ []) (record { name = []; alu = plus } ∷ []) events (bump bumps ∷ []) handlers ((110 ∷ 32 ∷ 37 ∷ 100 ∷ []) ∷ [])
 
 -- { printf("n %d", bump(first, i)); printf("n %d", bump(first, i)); } with the bodies put in.
@@ -84,7 +84,7 @@ abbrev pub start : List (List ℕ)
 start = cells_of (10 ∷ 20 ∷ 30 ∷ 40 ∷ []) 60
 
 -- What an event does at tick 7 on switch 3, and the arrays that it calls.
-abbrev pub does : Parts → Event → Stepped × List ℕ
+abbrev pub does : CoreParts → Event → Stepped × List ℕ
 does parts event = (step parts start 7 3 event, touches parts start 7 3 event)
 
 -- Event `id` of this argument leaves these cells, sends these outs and calls these arrays.

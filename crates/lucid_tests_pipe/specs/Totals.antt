@@ -7,7 +7,7 @@ use Rattle.lucid_base.specs.declared.memory_alu.MemSide.TheVariants.{One}
 use Rattle.lucid_code.specs.declared.op.Act.TheVariants as act
 use Rattle.lucid_code.specs.declared.op.Op.{Op}
 use Rattle.lucid_code.specs.Examples.{array, field, fixed, one_argument, op, plus, same}
-use Rattle.lucid_code.specs.Parts.{Parts}
+use Rattle.lucid_code.specs.Parts.{CodeParts}
 use Rattle.lucid_tables.specs.declared.stage.StageCode.{StageCode}
 use Rattle.lucid_tables.specs.Examples.{stage_of}
 use Rattle.lucid_tables.specs.Rows.{rows_of}
@@ -26,7 +26,7 @@ hold = op [] 1 (act.Touch 1 (fixed 0) (same 16) (fixed 0) given (field 4) (Some 
 abbrev pub tell : Op
 tell = op [] 2 (act.Say 0 0 (field 4 ∷ field 5 ∷ []))
 
-abbrev pub totals : Parts
+abbrev pub totals : CodeParts
 totals = record {
   fields = 32 ∷ 32 ∷ 32 ∷ 16 ∷ 16 ∷ 16 ∷ [];
   inputs = one_argument;

@@ -326,7 +326,7 @@ shown-told shows old new (Ok u) shown told = elim shown [ inl none ↦ subst IsS
 shown-told shows old new (Err r) shown told = elim shown [ inl same ↦ subst IsSome same told | inr some ↦ shows-told old new some.2.first some.2.shows told ]
 
 -- the passes that ran are those that there were
-ran-same : (runs : code.Parts → Type 0) (old new : List PassView) (end : End) → PassesRun runs old new end → SamePasses old new
+ran-same : (runs : code.CodeParts → Type 0) (old new : List PassView) (end : End) → PassesRun runs old new end → SamePasses old new
 ran-same runs old new end ran = elim ran [
   | inl kept ↦ record { names = ap (λ (ps : List PassView). map PassView.name ps) kept.0; gives = ap (λ (ps : List PassView). map PassView.gives ps) kept.0 }
   | inr on ↦ record { names = on.3.names; gives = on.3.same }

@@ -3,7 +3,7 @@ use Rattle.std.proofs.Common.{◌≡◌, ℕ, zero, suc, ◌≤◌, inl, inr, Li
 use Rattle.std.proofs.lemmas.Bool.{cases_order}
 use Rattle.lucid_conf.specs.declared.limits.Limits.{Limits}
 use Rattle.lucid_conf.specs.declared.scene.Scene.{Scene}
-use Rattle.lucid_core.specs.Parts.{Parts}
+use Rattle.lucid_core.specs.Parts.{CoreParts}
 use Rattle.lucid_net.specs.Seen.{IsStart, network}
 use Rattle.lucid_net.specs.Seen as net
 use Rattle.lucid_net.specs.Sights.{ShowsAll, ShowsRun, sights, sights_to}
@@ -17,9 +17,9 @@ use Rattle.lucid_top.specs.Pipes.{Ready, network_of, sights_of}
 use Rattle.lucid_top.specs.Watching.{Seen, ShowsSome}
 use Rattle.std.specs.Prelude.{Option}
 
-pub network-is : {core : Parts} {scene : Scene} {limits : Limits} {placed : Option PlacedParts} (n : net.Seen) → IsStart core scene limits placed n → network n ≡ whole core scene limits
+pub network-is : {core : CoreParts} {scene : Scene} {limits : Limits} {placed : Option PlacedParts} (n : net.Seen) → IsStart core scene limits placed n → network n ≡ whole core scene limits
 network-is {core} {scene} {limits} {placed} n is =
-    ap (λ (p : Parts). whole p n.scene n.limits) is.parts ∙ ap (λ (s : Scene). whole core s n.limits) is.scene ∙ ap (λ (l : Limits). whole core scene l) is.limits
+    ap (λ (p : CoreParts). whole p n.scene n.limits) is.parts ∙ ap (λ (s : Scene). whole core s n.limits) is.scene ∙ ap (λ (l : Limits). whole core scene l) is.limits
 
 -- the sights after the first ticks are the first of all
 sights-first : (n : Network) (placed : Option PlacedParts) (tick stop : ℕ) → tick ≤ stop → (rest : List Sight) × (sights_to n placed stop ≡ sights_to n placed tick ++ rest)

@@ -26,18 +26,18 @@ ran-out X Y refusal.Memory o = tt
 ran-out X Y r o = absurd o
 
 -- what ran, where a part ended so and with it the whole
-pub ran-err : (X Y : Type 0) (runs : code.Parts → Type 0) (ps ps' : List PassView) (r : Refusal) (end : Result Y Refusal) → PassesRun {X = X} runs ps ps' (Err r) → end ≡ Err r → PassesRun {X = Y} runs ps ps' end
+pub ran-err : (X Y : Type 0) (runs : code.CodeParts → Type 0) (ps ps' : List PassView) (r : Refusal) (end : Result Y Refusal) → PassesRun {X = X} runs ps ps' (Err r) → end ≡ Err r → PassesRun {X = Y} runs ps ps' end
 ran-err X Y runs ps ps' r end ran is = subst (PassesRun {X = Y} runs ps ps') (sym is) (elim ran [
   | inl kept ↦ inl (kept.0, λ now on. ran-out X Y r (kept.1 now on))
   | inr on ↦ inr (on.0, on.1, on.2, on.3, elim on.4 [ inl o ↦ inl (ran-out X Y r o) | inr all ↦ inr all ])
 ])
 
 -- memory ran out before any pass ran
-pub memory-ran : (Y : Type 0) (runs : code.Parts → Type 0) (ps : List PassView) (end : Result Y Refusal) → end ≡ Err refusal.Memory → PassesRun {X = Y} runs ps ps end
+pub memory-ran : (Y : Type 0) (runs : code.CodeParts → Type 0) (ps : List PassView) (end : Result Y Refusal) → end ≡ Err refusal.Memory → PassesRun {X = Y} runs ps ps end
 memory-ran Y runs ps end is = subst (PassesRun {X = Y} runs ps ps) (sym is) (inl (refl, λ now on. tt))
 
 -- or went on from it: then all ran
-pub ran-ok : (X Y : Type 0) (runs : code.Parts → Type 0) (ps ps' : List PassView) (x : X) (end : Result Y Refusal) → PassesRun {X = X} runs ps ps' (Ok x) → PassesRun {X = Y} runs ps ps' end
+pub ran-ok : (X Y : Type 0) (runs : code.CodeParts → Type 0) (ps ps' : List PassView) (x : X) (end : Result Y Refusal) → PassesRun {X = X} runs ps ps' (Ok x) → PassesRun {X = Y} runs ps ps' end
 ran-ok X Y runs ps ps' x end ran = elim ran [
   | inl kept ↦ inl (kept.0, λ now on. absurd (kept.1 now on))
   | inr on ↦ inr (on.0, on.1, on.2, on.3, elim on.4 [ inl o ↦ absurd o | inr all ↦ inr all ])
@@ -48,7 +48,7 @@ pub none-ran : (Y : Type 0) (program limits : List ℕ) (ps : List PassView) (r 
     PassesRun {X = Y} (RunsCode program limits) ps ps end
 none-ran Y program limits ps r end declines is = subst (PassesRun {X = Y} (RunsCode program limits) ps ps) (sym is) (inl (refl, at r declines))
   where
-    at : (s : Refusal) → Declines (IsTarget program limits) s → (now : code.Parts) → RunsCode program limits now → RanOut {X = Y} (Err s)
+    at : (s : Refusal) → Declines (IsTarget program limits) s → (now : code.CodeParts) → RunsCode program limits now → RanOut {X = Y} (Err s)
     at refusal.Memory d now on = tt
     at refusal.WriteFault d now on = absurd d
     at (refusal.ReadFault word) d now on = absurd d

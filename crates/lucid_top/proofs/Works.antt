@@ -21,7 +21,7 @@ does-usage c is files nothing passes seen = record {
   texts = Ok [];
   reads = subst (λ (o : Option Command). FilesRead c.words c.files c.files' (command_files o) (Ok [])) (sym is) (files, refl);
   does = subst (λ (o : Option Command). PerformsOver o (question c) c.out c.out' (Ok []) (Err refusal.Usage)) (sym is) (refl, nothing);
-  ran = inl (passes, subst (λ (o : Option Command). (now : code.Parts) → RunsOver o (question c) (Ok []) now → ⊥) (sym is) (λ now none. none));
+  ran = inl (passes, subst (λ (o : Option Command). (now : code.CodeParts) → RunsOver o (question c) (Ok []) now → ⊥) (sym is) (λ now none. none));
   shown = inl seen;
 }
 
@@ -32,7 +32,7 @@ does-refused d c {named} {r} {end} is names reads ends nothing passes seen = rec
   texts = Err r;
   reads = subst (λ (o : Option Command). FilesRead c.words c.files c.files' (command_files o) (Err r)) (sym is) (subst (λ (l : List NamedFile). FilesRead c.words c.files c.files' l (Err r)) names reads);
   does = subst (λ (o : Option Command). PerformsOver o (question c) c.out c.out' (Err r) end) (sym is) (ends, nothing);
-  ran = inl (passes, λ now none. absurd (subst (λ (o : Option Command). (now : code.Parts) → RunsOver o (question c) (Err r) now → ⊥) (sym is) (λ now none. none) now none));
+  ran = inl (passes, λ now none. absurd (subst (λ (o : Option Command). (now : code.CodeParts) → RunsOver o (question c) (Err r) now → ⊥) (sym is) (λ now none. none) now none));
   shown = subst (Shown (ShowsOver (command_of c.words) (question c) (Err r)) c.seen c.seen') (sym ends) (inl seen);
 }
 

@@ -69,7 +69,7 @@ MayStop (command.Gen kind seed n) g = ⊥
 MayStop (command.Bench seed n) g = ⊥
 
 -- the code that a command runs the passes on
-abbrev pub CommandRuns : Command → Given → code.Parts → Type 0
+abbrev pub CommandRuns : Command → Given → code.CodeParts → Type 0
 CommandRuns command.Layout g now = RunsCode (text 0 g) (text 1 g) now
 CommandRuns command.RunPipe g now = RunsCode (text 0 g) (text 1 g) now
 CommandRuns command.RunPlaced g now = RunsCode (text 0 g) (text 1 g) now

@@ -46,7 +46,7 @@ PerformsOver (Some c) q out out' (Ok texts) end =
     Performs (MayStop c (given q texts)) (CommandAnswers c (given q texts)) SinkView.written SinkView.faults out out' end
 
 -- the code that passes are run on: none, but by a command whose files were read
-abbrev pub RunsOver : Option Command → Question → Texts → code.Parts → Type 0
+abbrev pub RunsOver : Option Command → Question → Texts → code.CodeParts → Type 0
 RunsOver (Some c) q (Ok texts) now = CommandRuns c (given q texts) now
 RunsOver co q texts now = ⊥
 

@@ -1,12 +1,12 @@
 -- `check P`: what a program declares, where all its functions and handlers touch arrays in order.
 use Rattle.std.specs.Prelude.{◌≡◌, ◌++◌, Ok, codes, decimal, length}
-use Rattle.lucid_core.specs.Parts.{Parts}
+use Rattle.lucid_core.specs.Parts.{CoreParts}
 use Rattle.lucid_top_words.specs.Outcome.{Outcome, FollowedBy}
 use Rattle.lucid_top_program.specs.Program.{IsProgram}
 use Rattle.lucid_top_words.specs.Words.{Bytes}
 
 -- how many declarations of each kind there are
-abbrev pub counts_line : Parts → Bytes
+abbrev pub counts_line : CoreParts → Bytes
 counts_line core =
     codes "ok arrays " ++ decimal (length core.arrays)
     ++ codes " memops " ++ decimal (length core.memops)

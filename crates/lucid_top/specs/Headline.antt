@@ -4,14 +4,14 @@ use Rattle.lucid_audit.specs.declared.plan.Plan.{Plan}
 use Rattle.lucid_code.specs.Nodes.{nodes}
 use Rattle.lucid_conf.specs.declared.limits.Limits.{Limits}
 use Rattle.lucid_conf.specs.declared.scene.Scene.{Scene}
-use Rattle.lucid_core.specs.Parts.{Parts}
+use Rattle.lucid_core.specs.Parts.{CoreParts}
 use Rattle.lucid_drive.specs.Drive.{drive_log}
 use Rattle.lucid_io.specs.Puts.{PutsAll}
 use Rattle.lucid_net_log.specs.Log.{log, whole}
 use Rattle.lucid_tables.specs.Placed.{PlacedParts}
 use Rattle.lucid_top.specs.Drive.{driven}
 use Rattle.lucid_top.specs.Pipes.{Ready, piped, ready, target}
-use Rattle.lucid_top_fit.specs.Fit.{Fit, IsComposed, IsFitted, Made}
+use Rattle.lucid_top_fit.specs.Fit.{Fit, IsComposed, IsFitted, Composed}
 use Rattle.lucid_top_fit.specs.Passes.{PassView}
 use Rattle.lucid_top_fit.specs.Placing.{IsAudited, IsCounted, IsPlan}
 use Rattle.lucid_top_program.specs.Program.{IsProgram}
@@ -54,7 +54,7 @@ pub record Hold (held : Held) (names texts : Three) : Type 0 where
 
 -- the rules accept the three texts: they are a program, limits, and a scenario for this program
 pub record Accepted (texts : Three) : Type 0 where
-  pub core : Parts
+  pub core : CoreParts
   pub program_is : IsProgram texts.program (Ok core)
   pub limits : Limits
   pub limits_are : IsLimits texts.limits (Ok limits)
@@ -68,7 +68,7 @@ pub record FirstFitPlaces (passes : List PassView) {texts : Three} (a : Accepted
 
 -- the audit accepts the places that a file gives to what the passes make of the program
 pub record AuditAccepts (passes : List PassView) {texts : Three} (a : Accepted texts) (placement : Bytes) : Type 0 where
-  pub made : Made
+  pub made : Composed
   pub made_is : IsComposed a.core passes (Ok made)
   pub counts : IsCounted a.core a.limits made.code (Ok made.code)
   pub plan : Plan

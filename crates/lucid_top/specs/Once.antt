@@ -5,7 +5,7 @@ use Rattle.lucid_base.specs.declared.event.Out.{Out}
 use Rattle.lucid_base.specs.Cells.{zero_cells}
 use Rattle.lucid_core.specs.declared.defs.EventDef.{EventDef}
 use Rattle.lucid_core.specs.Fits.{event_fits}
-use Rattle.lucid_core.specs.Parts.{Parts}
+use Rattle.lucid_core.specs.Parts.{CoreParts}
 use Rattle.lucid_core.specs.Step.{step}
 use Rattle.lucid_log.specs.Block.{block_text}
 use Rattle.lucid_log.specs.Cells.{cells_text}
@@ -20,25 +20,25 @@ last_of name id found [] = found
 last_of name id found (e ∷ rest) = last_of name (id + 1) (if bytes_eq e.name name then Some id else found) rest
 
 -- the event, where it fits the program
-abbrev pub fitting : Parts → Event → Option Event
+abbrev pub fitting : CoreParts → Event → Option Event
 fitting core event = if event_fits core event then Some event else None
 
 -- the event of this number with these arguments, where it fits the program; the number has 32 bits
-abbrev pub event_at : Parts → Option (List ℕ) → Option ℕ → Option Event
+abbrev pub event_at : CoreParts → Option (List ℕ) → Option ℕ → Option Event
 event_at core arguments None = None
 event_at core None (Some id) = None
 event_at core (Some args) (Some id) = if nat_lt id (2 ^ 32) then fitting core (record { id = id; args = args }) else None
 
 -- the last declared event of this name with these arguments
-abbrev pub event_of : Parts → Bytes → Option (List ℕ) → Option Event
+abbrev pub event_of : CoreParts → Bytes → Option (List ℕ) → Option Event
 event_of core name arguments = event_at core arguments (last_of name 0 None core.events)
 
 -- the block of the event, and the cells after it
-abbrev pub shown : Parts → Event → List Out → List (List ℕ) → Bytes
+abbrev pub shown : CoreParts → Event → List Out → List (List ℕ) → Bytes
 shown core event outs cells = block_text core 0 0 event outs 0 ++ cells_text 0 core.arrays cells
 
 -- what the event does
-abbrev pub ran : Parts → Option Event → Outcome
+abbrev pub ran : CoreParts → Option Event → Outcome
 ran core None = Err refusal.Usage
 ran core (Some event) = let after = step core (zero_cells core.arrays) 0 0 event in Ok (shown core event after.outs after.cells)
 

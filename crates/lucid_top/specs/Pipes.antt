@@ -3,7 +3,7 @@ use Rattle.std.specs.Prelude.{◌≡◌, List, Some, Result, Ok}
 use Rattle.lucid_code.specs.Parts as code
 use Rattle.lucid_conf.specs.declared.limits.Limits.{Limits}
 use Rattle.lucid_conf.specs.declared.scene.Scene.{Scene}
-use Rattle.lucid_core.specs.Parts.{Parts}
+use Rattle.lucid_core.specs.Parts.{CoreParts}
 use Rattle.lucid_net.specs.Sights.{sights_to}
 use Rattle.lucid_net_log.specs.Log.{whole}
 use Rattle.lucid_net_log.specs.Ways.{Network}
@@ -18,14 +18,14 @@ use Rattle.lucid_top_words.specs.Words.{Bytes}
 
 -- a program, and the limits of a target
 pub record Target : Type 0 where
-  pub core : Parts
+  pub core : CoreParts
   pub limits : Limits
 
-abbrev pub target : Parts → Limits → Target
+abbrev pub target : CoreParts → Limits → Target
 target core limits = record { core = core; limits = limits }
 
 -- the program under the limits that a text writes
-abbrev pub IsUnder : Parts → Bytes → Result Target Refusal → Type 0
+abbrev pub IsUnder : CoreParts → Bytes → Result Target Refusal → Type 0
 IsUnder core limits o = FollowedBy (IsLimits limits) (λ l p. p ≡ Ok (target core l)) o
 
 -- what the texts of a program and of limits set up
@@ -33,7 +33,7 @@ abbrev pub IsTarget : Bytes → Bytes → Result Target Refusal → Type 0
 IsTarget program limits o = FollowedBy (IsProgram program) (λ core. IsUnder core limits) o
 
 -- the passes of a call with these texts are run on this code
-pub record RunsCode (program limits : Bytes) (now : code.Parts) : Type 0 where
+pub record RunsCode (program limits : Bytes) (now : code.CodeParts) : Type 0 where
   pub under : Target
   pub is : IsTarget program limits (Ok under)
   pub runs : RunsOn under.core now

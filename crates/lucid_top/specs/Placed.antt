@@ -7,7 +7,7 @@ use Rattle.lucid_net_log.specs.Log.{log}
 use Rattle.lucid_pipe.specs.declared.sight.Sight.{Sight}
 use Rattle.lucid_top.specs.Layout.{fit_text}
 use Rattle.lucid_top.specs.Pipes.{IsTarget, Piped, Ready, Target, network_of, piped, ready, sights_of}
-use Rattle.lucid_top_fit.specs.Fit.{IsComposed, Made, fit_of}
+use Rattle.lucid_top_fit.specs.Fit.{IsComposed, Composed, fit_of}
 use Rattle.lucid_top_fit.specs.Passes.{PassView}
 use Rattle.lucid_top_fit.specs.Placing.{IsAudited, IsCounted, IsPlan}
 use Rattle.lucid_top_program.specs.Settings.{IsScenario}
@@ -18,13 +18,13 @@ use Rattle.lucid_top_words.specs.Words.{Bytes}
 -- a target, and what passes make of its program, of which the counts keep their limits
 pub record Measured : Type 0 where
   pub under : Target
-  pub made : Made
+  pub made : Composed
 
-abbrev pub measured : Target → Made → Measured
+abbrev pub measured : Target → Composed → Measured
 measured under made = record { under = under; made = made }
 
 -- the counts of the code keep the limits of the target
-abbrev pub IsMeasuredAs : Target → Made → Result Measured Refusal → Type 0
+abbrev pub IsMeasuredAs : Target → Composed → Result Measured Refusal → Type 0
 IsMeasuredAs under made o = FollowedBy (IsCounted under.core under.limits made.code) (λ code p. p ≡ Ok (measured under made)) o
 
 abbrev pub IsMeasuredIn : List PassView → Target → Result Measured Refusal → Type 0

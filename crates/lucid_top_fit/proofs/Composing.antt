@@ -1,7 +1,7 @@
 -- What inlining and the passes answered is the composed code, or why there is none.
 use Rattle.std.proofs.Common.{◌≡◌, ◌∙◌, ℕ, List, Result, Ok, Err, map, refl, sym, ap, ap₂, arith}
 use Rattle.lucid_code.specs.Parts as code
-use Rattle.lucid_core.specs.Parts.{Parts}
+use Rattle.lucid_core.specs.Parts.{CoreParts}
 use Rattle.lucid_inline.specs.declared.error.InlineError.{InlineError}
 use Rattle.lucid_inline.specs.declared.error.InlineError.TheVariants as inline
 use Rattle.lucid_inline.specs.Refusals.{Refused}
@@ -9,7 +9,7 @@ use Rattle.lucid_layout.specs.Counts.{most_ops}
 use Rattle.lucid_pass.specs.Through.{gone, through}
 use Rattle.lucid_pass_form.specs.Replace.{Rewrite}
 use Rattle.lucid_top_fit.specs.Causes.{of_inline}
-use Rattle.lucid_top_fit.specs.Fit.{HasNormal, IsComposed, Made, RunsOn, composed, normal_of}
+use Rattle.lucid_top_fit.specs.Fit.{HasNormal, IsComposed, Composed, RunsOn, composed, normal_of}
 use Rattle.lucid_top_fit.specs.Passes.{PassView, RanOut, passes_view}
 use Rattle.lucid_top_fit.proofs.Runs.{only-memory, seen-gives}
 use Rattle.lucid_top_words.specs.declared.no_fit.NoFit.TheVariants as fit
@@ -18,42 +18,42 @@ use Rattle.lucid_top_words.specs.declared.refusal.Refusal.TheVariants as refusal
 use Rattle.lucid_top_words.specs.Outcome.{Alike, IsTheAnswer, Declines}
 use Rattle.lucid_top_words.specs.Words.{Bytes}
 
-pub made-is : (core : Parts) (passes : List PassView) (made : Made) → HasNormal core → made ≡ composed core passes → IsTheAnswer (IsComposed core passes) (Ok made)
+pub made-is : (core : CoreParts) (passes : List PassView) (made : Composed) → HasNormal core → made ≡ composed core passes → IsTheAnswer (IsComposed core passes) (Ok made)
 made-is core passes made fits is = record { is = (fits, is); only = only }
   where
-    only : (p : Result Made Refusal) → IsComposed core passes p → Alike p (Ok made)
+    only : (p : Result Composed Refusal) → IsComposed core passes p → Alike p (Ok made)
     only (Ok m) o = o.1 ∙ sym is
     only (Err (refusal.NoFit (fit.Ops n))) o = absurd (omega (arith, fits.length, o.0))
     only (Err (refusal.NoFit (fit.Size n))) o = absurd (omega (arith, fits.size, o.1))
     only (Err r) o = absurd o
 
-pub not-composed : (core : Parts) (passes : List PassView) (e : InlineError) → Refused core most_ops e → Declines (IsComposed core passes) (of_inline e)
+pub not-composed : (core : CoreParts) (passes : List PassView) (e : InlineError) → Refused core most_ops e → Declines (IsComposed core passes) (of_inline e)
 not-composed core passes inline.Memory is = tt
 not-composed core passes (inline.TooMany handler n) is = record { is = (is.passes, is.count); only = only }
   where
-    only : (p : Result Made Refusal) → IsComposed core passes p → Alike p (Err (refusal.NoFit (fit.Ops n)))
+    only : (p : Result Composed Refusal) → IsComposed core passes p → Alike p (Err (refusal.NoFit (fit.Ops n)))
     only (Ok m) o = absurd (omega (arith, o.0.length, is.passes))
     only (Err (refusal.NoFit (fit.Ops k))) o = ap (λ (i : ℕ). refusal.NoFit (fit.Ops i)) (o.1 ∙ sym is.count)
     only (Err (refusal.NoFit (fit.Size k))) o = absurd (omega (arith, o.0, is.passes))
     only (Err r) o = absurd o
 not-composed core passes (inline.TooLarge handler n) is = record { is = (is.length, is.passes, is.size); only = only }
   where
-    only : (p : Result Made Refusal) → IsComposed core passes p → Alike p (Err (refusal.NoFit (fit.Size n)))
+    only : (p : Result Composed Refusal) → IsComposed core passes p → Alike p (Err (refusal.NoFit (fit.Size n)))
     only (Ok m) o = absurd (omega (arith, o.0.size, is.passes))
     only (Err (refusal.NoFit (fit.Ops k))) o = absurd (omega (arith, o.0, is.length))
     only (Err (refusal.NoFit (fit.Size k))) o = ap (λ (i : ℕ). refusal.NoFit (fit.Size i)) (o.2 ∙ sym is.size)
     only (Err r) o = absurd o
 
 -- where it is refused, no pass ran
-pub none-composed : (P : Type 0) (core : Parts) (passes : List PassView) (r : Refusal) → Declines (IsComposed core passes) r → (from : code.Parts) → RunsOn core from → RanOut {X = P} (Err r)
+pub none-composed : (P : Type 0) (core : CoreParts) (passes : List PassView) (r : Refusal) → Declines (IsComposed core passes) r → (from : code.CodeParts) → RunsOn core from → RanOut {X = P} (Err r)
 none-composed P core passes r declined from on = only-memory P (IsComposed core passes) (composed core passes) r declined (on.0, refl)
 
 -- what passes made and told of the normal form
-pub made-as : {B : Type 0} (name : B → Bytes) (gives : B → Rewrite) (removed : B → ℕ) (old : List B) (core : Parts) (start new : code.Parts) (told : List ℕ) →
+pub made-as : {B : Type 0} (name : B → Bytes) (gives : B → Rewrite) (removed : B → ℕ) (old : List B) (core : CoreParts) (start new : code.CodeParts) (told : List ℕ) →
     start ≡ normal_of core → new ≡ through (map gives old) start → told ≡ gone (map gives old) start →
-    ◌≡◌ {A = Made} (record { code = new; gone = told }) (composed core (passes_view name gives removed old))
+    ◌≡◌ {A = Composed} (record { code = new; gone = told }) (composed core (passes_view name gives removed old))
 made-as {B} name gives removed old core start new told starts makes tells =
     let seen : map gives old ≡ map PassView.gives (passes_view name gives removed old) = sym (seen-gives name gives removed old) in
-    ap₂ (λ (c : code.Parts) (ns : List ℕ). record { code = c; gone = ns })
-    (makes ∙ ap₂ (λ (gs : List Rewrite) (from : code.Parts). through gs from) seen starts)
-    (tells ∙ ap₂ (λ (gs : List Rewrite) (from : code.Parts). gone gs from) seen starts)
+    ap₂ (λ (c : code.CodeParts) (ns : List ℕ). record { code = c; gone = ns })
+    (makes ∙ ap₂ (λ (gs : List Rewrite) (from : code.CodeParts). through gs from) seen starts)
+    (tells ∙ ap₂ (λ (gs : List Rewrite) (from : code.CodeParts). gone gs from) seen starts)

@@ -3,7 +3,7 @@ use Rattle.std.proofs.Common.{◌≡◌, ◌≢◌, ◌∙◌, Result, Ok, Err, 
 use Rattle.std.proofs.lemmas.List.{length-map}
 use Rattle.lucid_code.specs.Parts as code
 use Rattle.lucid_conf.specs.declared.limits.Limits.{Limits}
-use Rattle.lucid_core.specs.Parts.{Parts}
+use Rattle.lucid_core.specs.Parts.{CoreParts}
 use Rattle.lucid_layout.specs.declared.error.FitError.{FitError}
 use Rattle.lucid_layout.specs.declared.error.FitError.TheVariants as cause
 use Rattle.lucid_layout.specs.declared.count_error.CountError.{CountError}
@@ -24,7 +24,7 @@ use Rattle.lucid_top_words.specs.declared.refusal.Refusal.{Refusal}
 use Rattle.lucid_top_words.specs.declared.refusal.Refusal.TheVariants as refusal
 use Rattle.lucid_top_words.specs.Outcome.{Alike, IsTheAnswer, Declines}
 
-module _ (core : Parts) (limits : Limits) (from : code.Parts) where
+module _ (core : CoreParts) (limits : Limits) (from : code.CodeParts) where
   -- ---- places
 
   told : Tells (IsPlaced core limits from) (IsRefused from limits) cause.Memory (of_fit core)
@@ -62,7 +62,7 @@ module _ (core : Parts) (limits : Limits) (from : code.Parts) where
   pub counted-is : CountsFit from limits → IsTheAnswer (IsCounted core limits from) (Ok from)
   counted-is counts = record { is = (counts, refl); only = none }
     where
-      none : (p : Result code.Parts Refusal) → IsCounted core limits from p → Alike p (Ok from)
+      none : (p : Result code.CodeParts Refusal) → IsCounted core limits from p → Alike p (Ok from)
       none (Ok c) o = o.1
       none (Err (refusal.NoFit (fit.Ops n))) o = absurd (omega (arith, counts.ops, o.0, o.1))
       none (Err (refusal.NoFit (fit.Bits n))) o = absurd (omega (arith, counts.bits, o.1, o.2))
@@ -76,7 +76,7 @@ module _ (core : Parts) (limits : Limits) (from : code.Parts) where
   as-placed r o = absurd o
 
   only-count : (e : FitError) → LayoutsAreOne → IsRefused from limits e → e ≢ cause.Memory → (CountsFit from limits → ⊥) →
-      (p : Result code.Parts Refusal) → IsCounted core limits from p → Alike p (Err (of_fit core e))
+      (p : Result code.CodeParts Refusal) → IsCounted core limits from p → Alike p (Err (of_fit core e))
   only-count e one is not passes (Ok c) o = absurd (passes o.0)
   only-count e one is not passes (Err r) o = only e one is not (Err r) (as-placed r o)
 

@@ -93,7 +93,7 @@ module _ (text : List ℕ) (nodes : ℕ) where
 
 -- ---- places
 
-module _ (limits : Limits) (from : code.Parts) (plan : Plan) where
+module _ (limits : Limits) (from : code.CodeParts) (plan : Plan) where
   told-rule : Tells (IsAudited limits from plan) (refused.IsRefused from limits (pairs_of plan.pairs)) cause.Memory of_audit
   told-rule (refusal.Placement (placement.Range i)) o = (cause.Range i, o, (λ memory. cc), refl)
   told-rule (refusal.Placement (placement.Early i)) o = (cause.Early i, o, (λ memory. cc), refl)

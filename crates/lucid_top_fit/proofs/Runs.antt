@@ -24,7 +24,7 @@ module _ {B : Type 0} (name : B → Bytes) (gives : B → Rewrite) (removed : B 
   seen-gives boxes = map-map PassView.gives (pass_view name gives removed) boxes
 
   -- the first n ran
-  pub ran-some : (old new : List B) (from : code.Parts) (n : ℕ) → map name new ≡ map name old → map gives new ≡ map gives old →
+  pub ran-some : (old new : List B) (from : code.CodeParts) (n : ℕ) → map name new ≡ map name old → map gives new ≡ map gives old →
       map removed new ≡ raised (map removed old) (take n (gone (map gives old) from)) → Ran n from (passes_view name gives removed old) (passes_view name gives removed new)
   ran-some old new from n names same counts =
       let seen : B → PassView = pass_view name gives removed in
@@ -36,12 +36,12 @@ module _ {B : Type 0} (name : B → Bytes) (gives : B → Rewrite) (removed : B 
             ∙ ap₂ (λ (counts : List ℕ) (gs : List Rewrite). raised counts (take n (gone gs from))) (sym (map-map PassView.removed seen old)) (sym (map-map PassView.gives seen old));
       }
 
-  length-gone : (gs : List Rewrite) (from : code.Parts) → length (gone gs from) ≡ length gs
+  length-gone : (gs : List Rewrite) (from : code.CodeParts) → length (gone gs from) ≡ length gs
   length-gone [] from = refl
   length-gone (p ∷ ps) from = ap suc (length-gone ps (p.makes from))
 
   -- all ran
-  pub ran-all : (old new : List B) (from : code.Parts) → map name new ≡ map name old → map gives new ≡ map gives old →
+  pub ran-all : (old new : List B) (from : code.CodeParts) → map name new ≡ map name old → map gives new ≡ map gives old →
       map removed new ≡ raised (map removed old) (gone (map gives old) from) →
       Ran (length (passes_view name gives removed old)) from (passes_view name gives removed old) (passes_view name gives removed new)
   ran-all old new from names same counts =
@@ -57,20 +57,20 @@ pub declined : {Q X : Type 0} (answers : Result X Refusal → Type 0) (view : Q 
     Prepares answers view result
 declined {Q} answers view r result is declines = subst (λ (e : Result Q Refusal). Prepares answers view e) (sym is) declines
 
-module _ (P : Type 0) (runs : code.Parts → Type 0) where
+module _ (P : Type 0) (runs : code.CodeParts → Type 0) where
   -- no pass ran, since there is no code, or memory ran out
-  pub none-ran : (passes : List PassView) (r : Refusal) (result : Result P Refusal) → result ≡ Err r → ((from : code.Parts) → runs from → RanOut {X = P} (Err r)) →
+  pub none-ran : (passes : List PassView) (r : Refusal) (result : Result P Refusal) → result ≡ Err r → ((from : code.CodeParts) → runs from → RanOut {X = P} (Err r)) →
       PassesRun {X = P} runs passes passes result
   none-ran passes r result is none = subst (PassesRun {X = P} runs passes passes) (sym is) (inl (refl, none))
 
   -- memory ran out behind some of them
-  pub some-ran : (old new : List PassView) (from : code.Parts) (n : ℕ) (result : Result P Refusal) → result ≡ Err refusal.Memory → runs from → Ran n from old new →
+  pub some-ran : (old new : List PassView) (from : code.CodeParts) (n : ℕ) (result : Result P Refusal) → result ≡ Err refusal.Memory → runs from → Ran n from old new →
       PassesRun {X = P} runs old new result
   some-ran old new from n result is on ran = subst (PassesRun {X = P} runs old new) (sym is) (inr (from, on, n, ran, inl tt))
 
 -- ---- parts of a whole
 
-module _ (P Q : Type 0) (runs : code.Parts → Type 0) (old new : List PassView) where
+module _ (P Q : Type 0) (runs : code.CodeParts → Type 0) (old new : List PassView) where
   out : (r : Refusal) → RanOut {X = P} (Err r) → RanOut {X = Q} (Err r)
   out refusal.Memory o = tt
   out r o = absurd o

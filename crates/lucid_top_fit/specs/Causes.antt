@@ -7,7 +7,7 @@ use Rattle.lucid_audit.specs.declared.plan.PlanError.{PlanError}
 use Rattle.lucid_audit.specs.declared.plan.PlanError.TheVariants as plan
 use Rattle.lucid_audit.specs.declared.plan.PlanKey.{PlanKey}
 use Rattle.lucid_audit.specs.declared.plan.PlanKey.TheVariants as key
-use Rattle.lucid_core.specs.Parts.{Parts}
+use Rattle.lucid_core.specs.Parts.{CoreParts}
 use Rattle.lucid_inline.specs.declared.error.InlineError.{InlineError}
 use Rattle.lucid_inline.specs.declared.error.InlineError.TheVariants as inline
 use Rattle.lucid_layout.specs.declared.count_error.CountError.{CountError}
@@ -21,7 +21,7 @@ use Rattle.lucid_top_words.specs.declared.refusal.Refusal.TheVariants as refusal
 use Rattle.lucid_top_words.specs.Words.{Bytes}
 
 -- the name of an array of the program
-abbrev pub array_name : Parts → ℕ → Bytes
+abbrev pub array_name : CoreParts → ℕ → Bytes
 array_name core array = unwrap_or (option_map (λ a. a.name) (slice_get core.arrays array)) []
 
 -- why a program has no normal form here
@@ -31,7 +31,7 @@ of_inline (inline.TooLarge handler size) = refusal.NoFit (fit.Size size)
 of_inline inline.Memory = refusal.Memory
 
 -- why first fit doesn't place its code
-abbrev pub of_fit : Parts → FitError → Refusal
+abbrev pub of_fit : CoreParts → FitError → Refusal
 of_fit core (layout.Ops n) = refusal.NoFit (fit.Ops n)
 of_fit core (layout.Fields n) = refusal.NoFit (fit.Bits n)
 of_fit core (layout.Arms array) = refusal.NoFit (fit.Arms (array_name core array))
@@ -39,7 +39,7 @@ of_fit core (layout.Node i) = refusal.NoFit (fit.Node i)
 of_fit core layout.Memory = refusal.Memory
 
 -- why the counts of its code don't keep their limits
-abbrev pub of_count : Parts → CountError → Refusal
+abbrev pub of_count : CoreParts → CountError → Refusal
 of_count core e = of_fit core (fit_error e)
 
 -- why a placement file gives no places

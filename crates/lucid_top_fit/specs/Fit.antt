@@ -2,7 +2,7 @@
 use Rattle.std.specs.Prelude.{◌≡◌, ℕ, ◌<◌, ◌≤◌, List, [], Result, Ok, Err, map}
 use Rattle.lucid_code.specs.Parts as code
 use Rattle.lucid_conf.specs.declared.limits.Limits.{Limits}
-use Rattle.lucid_core.specs.Parts.{Parts}
+use Rattle.lucid_core.specs.Parts.{CoreParts}
 use Rattle.lucid_inline.specs.Refusals.{Fits, largest, length_of, size_of}
 use Rattle.lucid_inline_form.specs.Flat.{flat_of}
 use Rattle.lucid_layout.specs.declared.error.FitError.TheVariants as cause
@@ -23,34 +23,34 @@ use Rattle.lucid_top_fit.specs.Causes.{array_name}
 use Rattle.lucid_top_fit.specs.Passes.{PassView}
 
 -- the normal form of a program
-abbrev pub normal_of : Parts → code.Parts
+abbrev pub normal_of : CoreParts → code.CodeParts
 normal_of core = translate (flat_of core)
 
 -- the program's length and size keep their bounds, so that its normal form is built
-abbrev pub HasNormal : Parts → Type 0
+abbrev pub HasNormal : CoreParts → Type 0
 HasNormal core = Fits core most_ops
 
 -- the code that passes are run on, where there is any
-abbrev pub RunsOn : Parts → code.Parts → Type 0
+abbrev pub RunsOn : CoreParts → code.CodeParts → Type 0
 RunsOn core from = HasNormal core × (from ≡ normal_of core)
 
 -- ---- the composed code
 
 -- what passes make of the normal form, and how many operations went in each
-pub record Made : Type 0 where
-  pub code : code.Parts
+pub record Composed : Type 0 where
+  pub code : code.CodeParts
   pub gone : List ℕ
 
-abbrev pub composed : Parts → List PassView → Made
+abbrev pub composed : CoreParts → List PassView → Composed
 composed core passes = let gives = map PassView.gives passes in
     record { code = through gives (normal_of core); gone = gone gives (normal_of core) }
 
 -- what a call gives
-abbrev pub made_view : Composition → Made
+abbrev pub made_view : Composition → Composed
 made_view c = record { code = c.code; gone = c.gone.items }
 
 -- the composed code; or the count of the program that passes its bound, the length first
-abbrev pub IsComposed : Parts → List PassView → Result Made Refusal → Type 0
+abbrev pub IsComposed : CoreParts → List PassView → Result Composed Refusal → Type 0
 IsComposed core passes (Ok made) = HasNormal core × (made ≡ composed core passes)
 IsComposed core passes (Err (refusal.NoFit (fit.Ops n))) = (most_ops < length_of core) × (n ≡ length_of core)
 IsComposed core passes (Err (refusal.NoFit (fit.Size n))) = (length_of core ≤ most_ops) × (largest < size_of core) × (n ≡ size_of core)
@@ -59,7 +59,7 @@ IsComposed core passes (Err r) = ⊥
 -- ---- the placed code
 
 -- where first fit places the code within these limits, or the first cause why it doesn't
-abbrev pub IsPlaced : Parts → Limits → code.Parts → Result PlacedParts Refusal → Type 0
+abbrev pub IsPlaced : CoreParts → Limits → code.CodeParts → Result PlacedParts Refusal → Type 0
 IsPlaced core limits from (Ok placed) = IsLayout from limits placed
 IsPlaced core limits from (Err (refusal.NoFit (fit.Ops n))) = IsRefused from limits (cause.Ops n)
 IsPlaced core limits from (Err (refusal.NoFit (fit.Bits n))) = IsRefused from limits (cause.Fields n)
@@ -69,7 +69,7 @@ IsPlaced core limits from (Err (refusal.NoFit (fit.Node i))) = IsRefused from li
 IsPlaced core limits from (Err r) = ⊥
 
 -- where the code has no place for a node, none of the places that first fit tries has room for it
-abbrev pub NoRoomIn : {X : Type 0} → Limits → code.Parts → Result X Refusal → Type 0
+abbrev pub NoRoomIn : {X : Type 0} → Limits → code.CodeParts → Result X Refusal → Type 0
 NoRoomIn limits from (Err (refusal.NoFit (fit.Node i))) = NoRoom from.ops limits [] (works from.ops) i
 NoRoomIn limits from other = Unit {0}
 
@@ -87,7 +87,7 @@ fit_of gone placed = record { placed = placed; gone = gone }
 abbrev pub fit_view : Fitting → Fit
 fit_view f = fit_of f.gone.items f.placed
 
-abbrev pub IsFitted : Parts → Limits → List PassView → Result Fit Refusal → Type 0
+abbrev pub IsFitted : CoreParts → Limits → List PassView → Result Fit Refusal → Type 0
 IsFitted core limits passes o =
     FollowedBy (IsComposed core passes)
     (λ made. FollowedBy (IsPlaced core limits made.code) (λ placed p. p ≡ Ok (fit_of made.gone placed))) o

@@ -23,7 +23,7 @@ passes_view name gives removed passes = map (pass_view name gives removed) passe
 
 -- The first n of the old passes ran, one after another, from this code on: the new are the same in the same order, and of those that ran
 -- the counts rose by what went in each.
-pub record Ran (n : ℕ) (from : code.Parts) (old new : List PassView) : Type 0 where
+pub record Ran (n : ℕ) (from : code.CodeParts) (old new : List PassView) : Type 0 where
   pub names : map PassView.name new ≡ map PassView.name old
   pub same : map PassView.gives new ≡ map PassView.gives old
   pub counts : map PassView.removed new ≡ raised (map PassView.removed old) (take n (gone (map PassView.gives old) from))
@@ -35,10 +35,10 @@ RanOut other = ⊥
 
 -- What a call makes of its passes that runs them on code with `runs`: where there is none, or memory ran out, they may be as they were;
 -- else they ran on it, all of them unless memory ran out.
-abbrev pub PassesRun : {X : Type 0} → (code.Parts → Type 0) → List PassView → List PassView → Result X Refusal → Type 0
+abbrev pub PassesRun : {X : Type 0} → (code.CodeParts → Type 0) → List PassView → List PassView → Result X Refusal → Type 0
 PassesRun runs old new end =
-    ((new ≡ old) × ((from : code.Parts) → runs from → RanOut end))
-    ⊎ ((from : code.Parts) × runs from × (n : ℕ) × Ran n from old new × (RanOut end ⊎ (n ≡ length old)))
+    ((new ≡ old) × ((from : code.CodeParts) → runs from → RanOut end))
+    ⊎ ((from : code.CodeParts) × runs from × (n : ℕ) × Ran n from old new × (RanOut end ⊎ (n ≡ length old)))
 
 -- where nodes stand behind what they read, they do so in what each of these makes
 abbrev pub KeepNodes : List Rewrite → Type 0

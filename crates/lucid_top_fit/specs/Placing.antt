@@ -10,7 +10,7 @@ use Rattle.lucid_audit.specs.PlanFile.{Answers, Refuses, plan_read}
 use Rattle.lucid_audit.specs.Refused as refused
 use Rattle.lucid_code.specs.Parts as code
 use Rattle.lucid_conf.specs.declared.limits.Limits.{Limits}
-use Rattle.lucid_core.specs.Parts.{Parts}
+use Rattle.lucid_core.specs.Parts.{CoreParts}
 use Rattle.lucid_layout.specs.declared.error.FitError.TheVariants as layout
 use Rattle.lucid_layout.specs.Counts.{CountsFit}
 use Rattle.lucid_layout.specs.Layout.{IsRefused}
@@ -25,7 +25,7 @@ use Rattle.lucid_top_fit.specs.Causes.{array_name}
 -- ---- counts
 
 -- code whose counts keep their limits, or the first count that doesn't; whether its nodes have places isn't asked
-abbrev pub IsCounted : Parts → Limits → code.Parts → Result code.Parts Refusal → Type 0
+abbrev pub IsCounted : CoreParts → Limits → code.CodeParts → Result code.CodeParts Refusal → Type 0
 IsCounted core limits from (Ok counted) = CountsFit from limits × (counted ≡ from)
 IsCounted core limits from (Err (refusal.NoFit (fit.Ops n))) = IsRefused from limits (layout.Ops n)
 IsCounted core limits from (Err (refusal.NoFit (fit.Bits n))) = IsRefused from limits (layout.Fields n)
@@ -48,7 +48,7 @@ IsPlan text nodes (Err (refusal.Placement (placement.Item i))) = Refuses (error.
 IsPlan text nodes (Err r) = ⊥
 
 -- the placed code of these places; or the first rule that they break
-abbrev pub IsAudited : Limits → code.Parts → Plan → Result PlacedParts Refusal → Type 0
+abbrev pub IsAudited : Limits → code.CodeParts → Plan → Result PlacedParts Refusal → Type 0
 IsAudited limits from plan (Ok placed) = audit.IsAudited from limits (pairs_of plan.pairs) placed
 IsAudited limits from plan (Err (refusal.Placement (placement.Range i))) =
     refused.IsRefused from limits (pairs_of plan.pairs) (cause.Range i)

@@ -10,7 +10,7 @@ use Rattle.lucid_code.specs.Valid.{IsValid}
 use Rattle.lucid_conf.specs.declared.limits.Limits.{Limits}
 use Rattle.lucid_conf.specs.Kept.{AreLimits}
 use Rattle.lucid_core.specs.declared.defs.HandlerDef.{HandlerDef}
-use Rattle.lucid_core.specs.Parts.{Parts}
+use Rattle.lucid_core.specs.Parts.{CoreParts}
 use Rattle.lucid_core.specs.Valid.{IsValidFlat}
 use Rattle.lucid_effects_order.specs.Order.{IsAccepted}
 use Rattle.lucid_inline.proofs.Accepted.{flat_is_accepted}
@@ -27,7 +27,7 @@ use Rattle.lucid_pass_stands.specs.Core.{CodeStands}
 use Rattle.lucid_tables.specs.Placed.{IsPlaced, PlacedParts}
 use Rattle.lucid_tables.specs.Stages.{pass}
 use Rattle.lucid_tables.proofs.Passing.{pass_is_run}
-use Rattle.lucid_top_fit.specs.Fit.{Fit, IsComposed, IsPlaced as PlacesAs, Made, fit_of, normal_of}
+use Rattle.lucid_top_fit.specs.Fit.{Fit, IsComposed, IsPlaced as PlacesAs, Composed, fit_of, normal_of}
 use Rattle.lucid_top_fit.specs.Passes.{PassView}
 use Rattle.lucid_top_words.specs.declared.refusal.Refusal.{Refusal}
 use Rattle.lucid_top_words.specs.Outcome.{After, FollowedBy}
@@ -39,7 +39,7 @@ abbrev PassesAsRun : PlacedParts → Type 0
 PassesAsRun placed = (cells : List (List ℕ)) (now me : ℕ) (event : Event) → IsInput placed.code me event →
     pass placed.code placed.stages cells now me event ≡ run_code placed.code cells now me event
 
-pub runs_whole : (placed : PlacedParts) (core : Parts) → PassesAsRun placed → StandsFor placed.code core → RunsWhole placed core
+pub runs_whole : (placed : PlacedParts) (core : CoreParts) → PassesAsRun placed → StandsFor placed.code core → RunsWhole placed core
 runs_whole placed core passes stands = record {
   cells = λ cells now me event h. ap (λ (d : Done). d.cells) (passes cells now me event (stands.takes me event h)) ∙ stands.cells cells now me event h;
   outs = λ cells now me event h. ap (λ (d : Done). d.outs) (passes cells now me event (stands.takes me event h)) ∙ stands.outs cells now me event h;
@@ -47,7 +47,7 @@ runs_whole placed core passes stands = record {
 
 -- ---- the normal form of an accepted program
 
-pub normal_is_valid : (core : Parts) → KeepsOrder core → IsValidFlat (flat_of core) → All (λ (h : HandlerDef). h.event < 2 ^ 32) core.handlers → IsAccepted core → IsValid (normal_of core)
+pub normal_is_valid : (core : CoreParts) → KeepsOrder core → IsValidFlat (flat_of core) → All (λ (h : HandlerDef). h.event < 2 ^ 32) core.handlers → IsAccepted core → IsValid (normal_of core)
 normal_is_valid core order valid small accepted =
     valid_code (flat_of core) valid (flat_is_accepted core order accepted) (All-map (λ (h : HandlerDef). h.event < 2 ^ 32) (flat_handler core.funs) core.handlers small)
 
@@ -59,19 +59,19 @@ only_fit x y same = cc
 no_fit : (x : Fit) (r : Refusal) → ◌≡◌ {A = Result Fit Refusal} (Ok x) (Err r) → ⊥
 no_fit x r same = cc
 
-module _ (core : Parts) (stand : CodeStands core) (replace : ListsReplace) (acting : ProductsAct) (naming : ProductsName) (contradicting : GuardsContradict)
+module _ (core : CoreParts) (stand : CodeStands core) (replace : ListsReplace) (acting : ProductsAct) (naming : ProductsName) (contradicting : GuardsContradict)
     (valid : IsValid (normal_of core)) where
-  placed_runs : (limits : Limits) → AreLimits limits → (from : code.Parts) → MayReplace (normal_of core) from → (placed : PlacedParts) → IsLayout from limits placed → RunsWhole placed core
+  placed_runs : (limits : Limits) → AreLimits limits → (from : code.CodeParts) → MayReplace (normal_of core) from → (placed : PlacedParts) → IsLayout from limits placed → RunsWhole placed core
   placed_runs limits ranges from may placed layout =
       let keeps : IsPlaced from (stages_of from limits layout.fit.0) = fit_keeps acting naming contradicting from limits layout.fit.0 may.valid ranges layout.fit.1 in
       let is_placed : IsPlaced placed.code placed.stages =
-      subst (λ (c : code.Parts). IsPlaced c placed.stages) (sym layout.code_is) (subst (IsPlaced from) (sym layout.fit.2) keeps) in
+      subst (λ (c : code.CodeParts). IsPlaced c placed.stages) (sym layout.code_is) (subst (IsPlaced from) (sym layout.fit.2) keeps) in
       let valid_placed : IsValid placed.code = subst IsValid (sym layout.code_is) may.valid in
       runs_whole placed core (λ cells now me event input. pass_is_run placed.code placed.stages valid_placed is_placed cells now me event input)
-      (subst (λ (c : code.Parts). StandsFor c core) (sym layout.code_is) (stand.stands from may))
+      (subst (λ (c : code.CodeParts). StandsFor c core) (sym layout.code_is) (stand.stands from may))
 
   -- what places tell of the fit
-  after_places : (limits : Limits) → AreLimits limits → (made : Made) → MayReplace (normal_of core) made.code → (fit : Fit) (end : Result PlacedParts Refusal) →
+  after_places : (limits : Limits) → AreLimits limits → (made : Composed) → MayReplace (normal_of core) made.code → (fit : Fit) (end : Result PlacedParts Refusal) →
       PlacesAs core limits made.code end → After end (λ placed p. p ≡ Ok (fit_of made.gone placed)) (Ok fit) → RunsWhole fit.placed core
   after_places limits ranges made may fit (Ok placed) places after =
       let same : fit ≡ fit_of made.gone placed = only_fit fit (fit_of made.gone placed) after in
@@ -79,11 +79,11 @@ module _ (core : Parts) (stand : CodeStands core) (replace : ListsReplace) (acti
   after_places limits ranges made may fit (Err r) places after = absurd (no_fit fit r after)
 
   -- and what the composed code tells
-  after_passes : (limits : Limits) → AreLimits limits → (passes : List PassView) (fit : Fit) (end : Result Made Refusal) → IsComposed core passes end →
+  after_passes : (limits : Limits) → AreLimits limits → (passes : List PassView) (fit : Fit) (end : Result Composed Refusal) → IsComposed core passes end →
       After end (λ made. FollowedBy (PlacesAs core limits made.code) (λ placed p. p ≡ Ok (fit_of made.gone placed))) (Ok fit) → RunsWhole fit.placed core
   after_passes limits ranges passes fit (Ok made) composed after =
       let may : MayReplace (normal_of core) made.code =
-      subst (λ (m : Made). MayReplace (normal_of core) m.code) (sym composed.1) (replace (map PassView.gives passes) (normal_of core) valid) in
+      subst (λ (m : Composed). MayReplace (normal_of core) m.code) (sym composed.1) (replace (map PassView.gives passes) (normal_of core) valid) in
       after_places limits ranges made may fit after.0 after.1 after.2
   after_passes limits ranges passes fit (Err r) composed after = absurd (no_fit fit r after)
 

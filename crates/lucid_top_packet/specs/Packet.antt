@@ -3,7 +3,7 @@ use Rattle.std.specs.Prelude.{◌≡◌, ℕ, List, Ok}
 use Rattle.lucid_base.specs.declared.event.Event.{Event}
 use Rattle.lucid_conf.specs.declared.limits.Limits.{Limits}
 use Rattle.lucid_conf.specs.Kept.{AreLimits}
-use Rattle.lucid_core.specs.Parts.{Parts}
+use Rattle.lucid_core.specs.Parts.{CoreParts}
 use Rattle.lucid_core.specs.Step.{step}
 use Rattle.lucid_normal_form.specs.Stands.{Happens}
 use Rattle.lucid_tables.specs.Placed.{PlacedParts}
@@ -13,12 +13,12 @@ use Rattle.lucid_top_fit.specs.Passes.{PassView}
 
 -- A packet that passes all stages leaves the cells, and sends what the handler does that runs whole: from all cells, at every tick, at every
 -- switch and with every event that fits the program.
-pub record RunsWhole (placed : PlacedParts) (core : Parts) : Type 0 where
+pub record RunsWhole (placed : PlacedParts) (core : CoreParts) : Type 0 where
   pub cells : (cells : List (List ℕ)) (now me : ℕ) (event : Event) → Happens core me event →
       (pass placed.code placed.stages cells now me event).cells ≡ (step core cells now me event).cells
   pub outs : (cells : List (List ℕ)) (now me : ℕ) (event : Event) → Happens core me event →
       (pass placed.code placed.stages cells now me event).outs ≡ (step core cells now me event).outs
 
 -- Whatever the passes, where first fit places what they make of the program, it is so.
-abbrev pub FitsRunWhole : Parts → Type 0
+abbrev pub FitsRunWhole : CoreParts → Type 0
 FitsRunWhole core = (limits : Limits) → AreLimits limits → (passes : List PassView) (fit : Fit) → IsFitted core limits passes (Ok fit) → RunsWhole fit.placed core

@@ -2,7 +2,7 @@
 ghost use Rattle.std.specs.Prelude.{◌<◌, ◌^◌, All};
 ghost use Rattle.lucid_effects_order.specs.Order.{IsAccepted};
 ghost use Rattle.lucid_normal_form.specs.Stands.{StandsFor};
-ghost use Rattle.lucid_core.specs.Parts.{Parts};
+ghost use Rattle.lucid_core.specs.Parts.{CoreParts};
 ghost use Rattle.lucid_top_packet.specs.Packet.{FitsRunWhole, RunsWhole};
 
 use lucid_core::{Core, HandlerDef};
@@ -29,7 +29,7 @@ pub fn fits_run_whole(core: &Core)
 
 /// A law: so it is in all placed code that stands for a program, whoever placed it.
 pub fn placements_run_whole(placed: &Placed)
-    ensures { (core : Parts) → StandsFor placed.now.code core → RunsWhole placed.now core }
+    ensures { (core : CoreParts) → StandsFor placed.now.code core → RunsWhole placed.now core }
 {
     let _code = placed.code();
 }

@@ -8,7 +8,7 @@ use Rattle.lucid_conf.specs.declared.error.ConfError.{ConfError}
 use Rattle.lucid_conf.specs.declared.error.ConfError.TheVariants as conf
 use Rattle.lucid_conf.specs.declared.limits.Limits.{Limits}
 use Rattle.lucid_conf.specs.declared.scene.Scene.{Scene}
-use Rattle.lucid_core.specs.Parts.{Parts}
+use Rattle.lucid_core.specs.Parts.{CoreParts}
 use Rattle.lucid_top_words.specs.declared.refusal.Refusal.{Refusal}
 use Rattle.lucid_top_words.specs.declared.refusal.Refusal.TheVariants as refusal
 use Rattle.lucid_top_words.specs.Outcome.{Alike, IsTheAnswer, Declines}
@@ -65,7 +65,7 @@ not-limits text (conf.BadField key place) is = record { is = (place, is); only =
 
 -- ---- scenarios
 
-pub scenario-read : (core : Parts) (text : List ℕ) (scene : Scene) → Answers (Ok scene) (scene_read core) text → IsTheAnswer (IsScenario core text) (Ok scene)
+pub scenario-read : (core : CoreParts) (text : List ℕ) (scene : Scene) → Answers (Ok scene) (scene_read core) text → IsTheAnswer (IsScenario core text) (Ok scene)
 scenario-read core text scene is = record { is = is; only = only }
   where
     only : (p : Result Scene Refusal) → IsScenario core text p → Alike p (Ok scene)
@@ -75,7 +75,7 @@ scenario-read core text scene is = record { is = is; only = only }
         absurd (no_fault scene (key, place) (one_reading (scene_read core) text is.0 o.0 (Ok scene) (Err (key, place)) is.1 is.2 o.1 o.2))
     only (Err r) o = absurd o
 
-pub not-scenario : (core : Parts) (text : List ℕ) (e : ConfError) → Refuses e (scene_read core) text → Declines (IsScenario core text) (of_scene e)
+pub not-scenario : (core : CoreParts) (text : List ℕ) (e : ConfError) → Refuses e (scene_read core) text → Declines (IsScenario core text) (of_scene e)
 not-scenario core text conf.Memory is = tt
 not-scenario core text conf.NotJson is = record { is = is; only = only }
   where

@@ -1,6 +1,6 @@
 -- What the parser and the elaborator answered is what the tree and the core of a text are.
 use Rattle.std.proofs.Common.{◌≡◌, ◌≢◌, ℕ, List, Some, None, Result, Ok, Err, sym, ap, refl}
-use Rattle.lucid_core.specs.Parts.{Parts}
+use Rattle.lucid_core.specs.Parts.{CoreParts}
 use Rattle.lucid_parse_grammar.specs.Lexemes.{lexemes_of}
 use Rattle.lucid_lex.specs.declared.token.Token.{Token}
 use Rattle.lucid_parse.specs.Nesting.{too_deep}
@@ -57,10 +57,10 @@ not-parsed text ts (parse.NoTree m) deep fault trees deeps faults = record { is 
 
 -- ---- cores
 
-pub elaborated : (tree : Tree) (core : Parts) → IsTyped tree core → IsDetermined tree → IsTheAnswer (IsElaborated tree) (Ok core)
+pub elaborated : (tree : Tree) (core : CoreParts) → IsTyped tree core → IsDetermined tree → IsTheAnswer (IsElaborated tree) (Ok core)
 elaborated tree core typed one = record { is = typed; only = only }
   where
-    only : (p : Result Parts Refusal) → IsElaborated tree p → Alike p (Ok core)
+    only : (p : Result CoreParts Refusal) → IsElaborated tree p → Alike p (Ok core)
     only (Ok c) o = one.one_core c core o typed
     only (Err (refusal.NoRule d l)) o = one.never_both core d l None typed o
     only (Err (refusal.PassesLimit w d l)) o = one.never_both core d l (Some w) typed o
@@ -70,14 +70,14 @@ pub not-elaborated : (tree : Tree) (e : TypeError) → Tells tree e → IsDeterm
 not-elaborated tree types.Memory tells one = tt
 not-elaborated tree (types.NoRule decl line) tells one = record { is = tells; only = only }
   where
-    only : (p : Result Parts Refusal) → IsElaborated tree p → Alike p (Err (refusal.NoRule decl line))
+    only : (p : Result CoreParts Refusal) → IsElaborated tree p → Alike p (Err (refusal.NoRule decl line))
     only (Ok c) o = one.never_both c decl line None o tells
     only (Err (refusal.NoRule d l)) o = let same = one.one_refusal d l decl line None None o tells in cc
     only (Err (refusal.PassesLimit w d l)) o = let same = one.one_refusal d l decl line (Some w) None o tells in absurd (cc)
     only (Err r) o = absurd o
 not-elaborated tree (types.Limit what decl line) tells one = record { is = tells; only = only }
   where
-    only : (p : Result Parts Refusal) → IsElaborated tree p → Alike p (Err (refusal.PassesLimit what decl line))
+    only : (p : Result CoreParts Refusal) → IsElaborated tree p → Alike p (Err (refusal.PassesLimit what decl line))
     only (Ok c) o = one.never_both c decl line (Some what) o tells
     only (Err (refusal.NoRule d l)) o = let same = one.one_refusal d l decl line None (Some what) o tells in absurd (cc)
     only (Err (refusal.PassesLimit w d l)) o = let same = one.one_refusal d l decl line (Some w) (Some what) o tells in cc

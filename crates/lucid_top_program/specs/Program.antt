@@ -4,7 +4,7 @@ use Rattle.std.specs.List.{find}
 use Rattle.std.specs.Option.{option_and_then, option_or, unwrap_or}
 use Rattle.lucid_base.specs.declared.array.ArrayName.{ArrayName}
 use Rattle.lucid_base.specs.declared.array.ArrayName.TheVariants.{Global, Param}
-use Rattle.lucid_core.specs.Parts.{Parts}
+use Rattle.lucid_core.specs.Parts.{CoreParts}
 use Rattle.lucid_parse_grammar.specs.Lexemes.{lexemes_of}
 use Rattle.lucid_lex.specs.declared.token.Token.{Token}
 use Rattle.lucid_lex.specs.Reading.{Reads, StopsAt}
@@ -51,7 +51,7 @@ IsParsed text ts (Err (refusal.NoTree n)) = (too_deep (kinds_of ts) ≡ None) ×
 IsParsed text ts (Err r) = ⊥
 
 -- the core that the typing rules give the tree; or the first declaration that has no rule, or passes a limit
-abbrev pub IsElaborated : Tree → Result Parts Refusal → Type 0
+abbrev pub IsElaborated : Tree → Result CoreParts Refusal → Type 0
 IsElaborated tree (Ok core) = IsTyped tree core
 IsElaborated tree (Err (refusal.NoRule decl line)) = IsRefused tree decl line None
 IsElaborated tree (Err (refusal.PassesLimit what decl line)) = IsRefused tree decl line (Some what)
@@ -60,7 +60,7 @@ IsElaborated tree (Err r) = ⊥
 -- ---- the order of arrays
 
 -- the line on which the function or handler of this number begins
-abbrev pub declared_line : Parts → ℕ → ℕ
+abbrev pub declared_line : CoreParts → ℕ → ℕ
 declared_line core decl =
     let of_fun = option_map (λ f. f.line) (find (λ f. nat_eq f.decl decl) core.funs) in
     let of_handler = option_map (λ h. h.line) (find (λ h. nat_eq h.decl decl) core.handlers) in
@@ -77,13 +77,13 @@ param_of i (kind.Fun answer name ps body) = array_param i ps
 param_of i k = None
 
 -- the name of an array, as declaration `decl` of the tree, from 1, has it
-abbrev pub array_name : Tree → Parts → ℕ → ArrayName → Bytes
+abbrev pub array_name : Tree → CoreParts → ℕ → ArrayName → Bytes
 array_name tree core decl (Global i) = unwrap_or (option_map (λ a. a.name) (slice_get core.arrays i)) []
 array_name tree core decl (Param i) = unwrap_or (option_and_then (λ d. param_of i d.kind) (slice_get tree.decls (decl - 1))) []
 
 -- Each function and handler touches arrays in order; or this declaration is the first that doesn't, and these are the names of a cycle
 -- of its arrays, each of which is needed before the next and the last before the first.
-abbrev pub IsOrdered : Tree → Parts → Result Parts Refusal → Type 0
+abbrev pub IsOrdered : Tree → CoreParts → Result CoreParts Refusal → Type 0
 IsOrdered tree core (Ok ordered) = IsAccepted core × (ordered ≡ core)
 IsOrdered tree core (Err (refusal.NoOrder decl line cycle)) =
     (first : ArrayName) × (others : List ArrayName) × IsFirstRefused core decl first others
@@ -93,16 +93,16 @@ IsOrdered tree core (Err r) = ⊥
 -- ---- the whole
 
 -- the program of the tree, or the reason why it has none
-abbrev pub IsProgramOf : Tree → Result Parts Refusal → Type 0
+abbrev pub IsProgramOf : Tree → Result CoreParts Refusal → Type 0
 IsProgramOf tree o = FollowedBy (IsElaborated tree) (IsOrdered tree) o
 
-abbrev pub IsProgramFrom : Bytes → List Token → Result Parts Refusal → Type 0
+abbrev pub IsProgramFrom : Bytes → List Token → Result CoreParts Refusal → Type 0
 IsProgramFrom text ts o = FollowedBy (IsParsed text ts) IsProgramOf o
 
 -- the program of a source; its tokens are those of the expansion, so they are never refused
-abbrev pub IsRead : Bytes → Result Parts Refusal → Type 0
+abbrev pub IsRead : Bytes → Result CoreParts Refusal → Type 0
 IsRead source o = FollowedBy (AreTokens source) (IsProgramFrom source) o
 
 -- the program of the text, or the reason why it has none
-abbrev pub IsProgram : Bytes → Result Parts Refusal → Type 0
+abbrev pub IsProgram : Bytes → Result CoreParts Refusal → Type 0
 IsProgram text o = FollowedBy (IsSource text) IsRead o

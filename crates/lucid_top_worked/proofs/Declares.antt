@@ -1,7 +1,7 @@
 -- The program `event e();`.
 use Rattle.std.proofs.Common.{◌≡◌, ℕ, [], ◌∷◌, None, Some, codes, drop, refl, subst, arith}
 use Rattle.std.proofs.lemmas.List.Elements.{All-nil}
-use Rattle.lucid_core.specs.Parts.{Parts}
+use Rattle.lucid_core.specs.Parts.{CoreParts}
 use Rattle.lucid_lex.proofs.Fronts.{IsFrontOf, cut}
 use Rattle.lucid_lex.proofs.Longest.{front_of-is}
 use Rattle.lucid_lex.specs.declared.sign.Sign.TheVariants as sign
@@ -17,7 +17,7 @@ use Rattle.lucid_parse_tree.specs.declared.tree.Decl.{Decl}
 use Rattle.lucid_parse_tree.specs.declared.tree.DeclKind.TheVariants as decl
 use Rattle.lucid_parse_tree.specs.declared.tree.Tree.{Tree}
 use Rattle.lucid_types_rules.specs.declared.scope.Entry.TheVariants as entry
-use Rattle.lucid_types_rules.specs.Declaration.{Made, parts_of, start}
+use Rattle.lucid_types_rules.specs.Declaration.{Definitions, parts_of, start}
 use Rattle.lucid_types_rules.specs.Declaration.Declared.{event}
 use Rattle.lucid_types_rules.specs.Makes.{IsTyped}
 use Rattle.lucid_types_rules.specs.Makes.Makes.{done, one_more}
@@ -107,13 +107,13 @@ declaration = record { kind = decl.Event (codes "e") []; line = 1 }
 abbrev pub tree : Tree
 tree = record { decls = declaration ∷ [] }
 
-abbrev made : Made
+abbrev made : Definitions
 made = record start {
   names = called (codes "e") (entry.Event 0 []) ∷ [];
   events = record { name = codes "e"; params = []; handler = None } ∷ [];
 }
 
-abbrev pub core : Parts
+abbrev pub core : CoreParts
 core = parts_of made
 
 typed : IsTyped tree core

@@ -1,7 +1,7 @@
 -- The program of an empty text.
 use Rattle.std.proofs.Common.{[], refl, arith}
 use Rattle.std.proofs.lemmas.List.Elements.{All-nil}
-use Rattle.lucid_core.specs.Parts.{Parts}
+use Rattle.lucid_core.specs.Parts.{CoreParts}
 use Rattle.lucid_parse_tree.specs.declared.tree.Tree.{Tree}
 use Rattle.lucid_types_rules.specs.Declaration.{parts_of, start}
 use Rattle.lucid_types_rules.specs.Makes.Makes.{done}
@@ -10,7 +10,7 @@ use Rattle.lucid_top_worked.proofs.Programs.{Worked}
 abbrev pub tree : Tree
 tree = record { decls = [] }
 
-abbrev pub core : Parts
+abbrev pub core : CoreParts
 core = parts_of start
 
 pub worked : Worked [] [] tree core

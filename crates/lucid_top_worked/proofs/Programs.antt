@@ -1,6 +1,6 @@
 -- A program, from its parts.
 use Rattle.std.proofs.Common.{◌≡◌, ◌≤◌, List, None, Ok, length, refl}
-use Rattle.lucid_core.specs.Parts.{Parts}
+use Rattle.lucid_core.specs.Parts.{CoreParts}
 use Rattle.lucid_effects_order.specs.Order.{IsAccepted}
 use Rattle.lucid_lex.specs.declared.token.Token.{Token}
 use Rattle.lucid_lex.specs.Reading.{Reads}
@@ -13,7 +13,7 @@ use Rattle.lucid_top_words.specs.Words.{Bytes}
 use Rattle.lucid_types_rules.specs.Makes.{IsTyped}
 
 -- what the parts of a program without templates are
-pub record Worked (text : Bytes) (tokens : List Token) (tree : Tree) (core : Parts) : Type 0 where
+pub record Worked (text : Bytes) (tokens : List Token) (tree : Tree) (core : CoreParts) : Type 0 where
   pub reads : Reads text tokens
   pub within : length text ≤ most
   pub shallow : too_deep (kinds_of tokens) ≡ None
@@ -22,6 +22,6 @@ pub record Worked (text : Bytes) (tokens : List Token) (tree : Tree) (core : Par
   pub accepted : IsAccepted core
 
 -- they make the text this program, where it is its own expansion
-pub is_program : (text : Bytes) (tokens : List Token) (tree : Tree) (core : Parts) → Worked text tokens tree core → ExpandsTo text tokens text → IsProgram text (Ok core)
+pub is_program : (text : Bytes) (tokens : List Token) (tree : Tree) (core : CoreParts) → Worked text tokens tree core → ExpandsTo text tokens text → IsProgram text (Ok core)
 is_program text tokens tree core w expands =
     (Ok text, (Ok tokens, w.reads, (expands, w.within)), (Ok tokens, w.reads, (Ok tree, (w.shallow, w.is_tree), (Ok core, w.typed, (w.accepted, refl)))))

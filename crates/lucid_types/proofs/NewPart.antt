@@ -15,7 +15,7 @@ use Rattle.lucid_parse_tree.specs.declared.tree.Size.{Size}
 use Rattle.lucid_parse_tree.specs.declared.tree.Tree.{Tree}
 use Rattle.lucid_parse_tree.specs.declared.tree.Ty.{Ty}
 use Rattle.lucid_types_rules.specs.declared.limit.What.{What}
-use Rattle.lucid_types_rules.specs.Declaration.{Declared, Made, parts_of}
+use Rattle.lucid_types_rules.specs.Declaration.{Declared, Definitions, parts_of}
 use Rattle.lucid_types_rules.specs.Declaration as rule
 use Rattle.lucid_types_rules.specs.Found.{Computes}
 use Rattle.lucid_types_rules.specs.Limits.{passed}
@@ -35,19 +35,19 @@ newest xs x o h =
 
 -- ---- what each declaration passes
 
-array_is : (number line : ℕ) (m l : Made) (short : Bool) (w : ℕ) (n : List ℕ) (size : Size) → NewAlone (parts_of m) →
+array_is : (number line : ℕ) (m l : Definitions) (short : Bool) (w : ℕ) (n : List ℕ) (size : Size) → NewAlone (parts_of m) →
     Declared number line m (d.Global short w n size) l → (passed (d.Global short w n size) (parts_of l) ≡ array_passes (length l.arrays)) × (l.funs ≡ m.funs)
 array_is number line m _ _ _ _ _ new (rule.global short w n size k ok sized least most) =
     let long = length-append m.arrays (record { name = n; width = w; size = k } ∷ []) in
     (new.array (d.Global short w n size) (record { name = n; width = w; size = k }) refl ∙ ap array_passes (sym long), refl)
 
-event_is : (number line : ℕ) (m l : Made) (n : List ℕ) (ps : List P) (o : Option EventDef) → NewAlone (parts_of m) →
+event_is : (number line : ℕ) (m l : Definitions) (n : List ℕ) (ps : List P) (o : Option EventDef) → NewAlone (parts_of m) →
     Declared number line m (d.Event n ps) l → slice_get l.events (length l.events - 1) ≡ o → (passed (d.Event n ps) (parts_of l) ≡ option_and_then event_passes o) × (l.funs ≡ m.funs)
 event_is number line m _ _ _ o new (rule.event n ps ws s of) last =
     let def : EventDef = record { name = n; params = ws; handler = None } in
     (new.event (d.Event n ps) def refl ∙ ap (option_and_then event_passes) (newest m.events def o last), refl)
 
-handler_is : (number line : ℕ) (m l : Made) (n : List ℕ) (ps : List P) (body : List S) (o : Option HandlerDef) → NewAlone (parts_of m) →
+handler_is : (number line : ℕ) (m l : Definitions) (n : List ℕ) (ps : List P) (body : List S) (o : Option HandlerDef) → NewAlone (parts_of m) →
     Declared number line m (d.Handle n ps body) l → slice_get l.handlers (length l.handlers - 1) ≡ o →
     (passed (d.Handle n ps body) (parts_of l) ≡ option_and_then (λ h. handler_passes (funs_outs [] m.funs) h body) o) × (l.funs ≡ m.funs)
 handler_is number line m _ _ _ _ o new (rule.handle n ps body i ws e s b k seen there free of block) last =
@@ -57,7 +57,7 @@ handler_is number line m _ _ _ _ o new (rule.handle n ps body i ws e s b k seen 
       refl,
     )
 
-fun_is : (number line : ℕ) (m l : Made) (a : Option Ty) (n : List ℕ) (ps : List P) (body : List S) (o : Option FunDef) → NewAlone (parts_of m) →
+fun_is : (number line : ℕ) (m l : Definitions) (a : Option Ty) (n : List ℕ) (ps : List P) (body : List S) (o : Option FunDef) → NewAlone (parts_of m) →
     Declared number line m (d.Fun a n ps body) l → slice_get l.funs (length l.funs - 1) ≡ o →
     (passed (d.Fun a n ps body) (parts_of l) ≡ option_and_then (λ f. fun_passes (funs_outs [] m.funs) f body) o) × (l.funs ≡ m.funs ++ option_to_list o)
 fun_is number line m _ _ _ _ _ o new (rule.fun a n ps body t qs s b k answers of block) last =
@@ -76,26 +76,26 @@ fun_is number line m _ _ _ _ _ o new (rule.fun a n ps body t qs s b k answers of
       ap (λ (x : Option FunDef). m.funs ++ option_to_list x) same,
     )
 
-constant_is : (number line : ℕ) (t : Ty) (n : List ℕ) (v : ℕ) (m l : Made) → NewAlone (parts_of m) → Declared number line m (d.Const t n v) l →
+constant_is : (number line : ℕ) (t : Ty) (n : List ℕ) (v : ℕ) (m l : Definitions) → NewAlone (parts_of m) → Declared number line m (d.Const t n v) l →
     (passed (d.Const t n v) (parts_of l) ≡ None) × (l.funs ≡ m.funs)
 constant_is number line _ _ _ m _ new (rule.constant t w n v means fits) = (new.nothing (d.Const t n v) refl, refl)
 
-memop_is : (number line : ℕ) (m l : Made) (n : List ℕ) (first second : Ty × List ℕ) (body : List S) → NewAlone (parts_of m) →
+memop_is : (number line : ℕ) (m l : Definitions) (n : List ℕ) (first second : Ty × List ℕ) (body : List S) → NewAlone (parts_of m) →
     Declared number line m (d.Memop n first second body) l → (passed (d.Memop n first second body) (parts_of l) ≡ None) × (l.funs ≡ m.funs)
 memop_is number line m _ _ _ _ _ new (rule.memop t u w n x y body steps alu means also of shaped) =
     (new.nothing (d.Memop n (t, x) (u, y) body) refl, refl)
 
-group_is : (number line : ℕ) (m l : Made) (n : List ℕ) (members : List ℕ) → NewAlone (parts_of m) → Declared number line m (d.Group n members) l →
+group_is : (number line : ℕ) (m l : Definitions) (n : List ℕ) (members : List ℕ) → NewAlone (parts_of m) → Declared number line m (d.Group n members) l →
     (passed (d.Group n members) (parts_of l) ≡ None) × (l.funs ≡ m.funs)
 group_is number line m _ _ _ new (rule.group n members ok) = (new.nothing (d.Group n members) refl, refl)
 
 -- ---- the same of a declaration that is known to be of this form
 
-module _ (alone : OnlyTheNew) (computes : Computes declaration) (x : DeclKind) (l : Made) (limits : Limits) where
-  declared : (number line : ℕ) (m : Made) (y : DeclKind) → x ≡ y → declaration number line x m ≡ Some l → Declared number line m y l
+module _ (alone : OnlyTheNew) (computes : Computes declaration) (x : DeclKind) (l : Definitions) (limits : Limits) where
+  declared : (number line : ℕ) (m : Definitions) (y : DeclKind) → x ≡ y → declaration number line x m ≡ Some l → Declared number line m y l
   declared number line m y e made = computes.sound number line m l y (ap (λ z. declaration number line z m) (sym e) ∙ made)
 
-  told : (m : Made) (y : DeclKind) (w v : Option What) → x ≡ y → v ≡ w → (passed y (parts_of l) ≡ w) × (l.funs ≡ m.funs) → Knows m.funs limits →
+  told : (m : Definitions) (y : DeclKind) (w v : Option What) → x ≡ y → v ≡ w → (passed y (parts_of l) ≡ w) × (l.funs ≡ m.funs) → Knows m.funs limits →
       Passes (Ok v) x l limits
   told m y w v e answers is knows =
       (answers ∙ sym is.0 ∙ ap (λ z. passed z (parts_of l)) (sym e), λ none. knows ∙ ap (funs_outs []) (sym is.1))
@@ -141,7 +141,7 @@ module _ (alone : OnlyTheNew) (computes : Computes declaration) (x : DeclKind) (
 
   fun_facts : (a : Option Ty) (n : List ℕ) (ps : List P) (body : List S) (o : Option FunDef) → x ≡ d.Fun a n ps body →
       slice_get l.funs (length l.funs - 1) ≡ o →
-      (front : Tree) (number line : ℕ) (m : Made) → IsTyped front (parts_of m) → Knows m.funs limits → declaration number line x m ≡ Some l →
+      (front : Tree) (number line : ℕ) (m : Definitions) → IsTyped front (parts_of m) → Knows m.funs limits → declaration number line x m ≡ Some l →
       (option_and_then (λ f. fun_passes limits.outs.items f body) o ≡ passed x (parts_of l)) × (l.funs ≡ m.funs ++ option_to_list o)
   fun_facts a n ps body o e last front number line m typed knows made =
       let y : DeclKind = d.Fun a n ps body in

@@ -5,7 +5,7 @@ use Rattle.lucid_parse_tree.specs.declared.tree.Decl.{Decl}
 use Rattle.lucid_parse_tree.specs.declared.tree.DeclKind.{DeclKind}
 use Rattle.lucid_parse_tree.specs.declared.tree.Tree.{Tree}
 use Rattle.lucid_types_rules.specs.declared.limit.What.{What}
-use Rattle.lucid_types_rules.specs.Declaration.{Made, parts_of}
+use Rattle.lucid_types_rules.specs.Declaration.{Definitions, parts_of}
 use Rattle.lucid_types_rules.specs.Found.{Refusal, on_made}
 use Rattle.lucid_types_rules.specs.Limits.{passed}
 use Rattle.lucid_types_rules.specs.Makes.{IsRefused, IsTyped}
@@ -22,23 +22,23 @@ Tells tree (Limit what decl line) = IsRefused tree decl line (Some what)
 Tells tree Memory = Unit {0}
 
 -- What is found of declarations is this refusal.
-abbrev pub IsTold : TypeError → Result Made Refusal → Type 0
+abbrev pub IsTold : TypeError → Result Definitions Refusal → Type 0
 IsTold (NoRule decl line) r = r ≡ Err (record { decl = decl; line = line; limit = None })
 IsTold (Limit what decl line) r = r ≡ Err (record { decl = decl; line = line; limit = Some what })
 IsTold Memory r = Unit {0}
 
 -- Whatever follows the declaration: it follows what the declaration makes, or the refusal is found.
-abbrev pub Adds : Result (Unit {0}) TypeError → ℕ → Decl → Made → Made → Limits → Type 0
+abbrev pub Adds : Result (Unit {0}) TypeError → ℕ → Decl → Definitions → Definitions → Limits → Type 0
 Adds (Ok u) number x m l limits =
-    ((next : Made → Result Made Refusal) → on_made number x (declaration number x.line x.kind m) next ≡ next l) × Knows l.funs limits
-Adds (Err e) number x m l limits = (next : Made → Result Made Refusal) → IsTold e (on_made number x (declaration number x.line x.kind m) next)
+    ((next : Definitions → Result Definitions Refusal) → on_made number x (declaration number x.line x.kind m) next ≡ next l) × Knows l.funs limits
+Adds (Err e) number x m l limits = (next : Definitions → Result Definitions Refusal) → IsTold e (on_made number x (declaration number x.line x.kind m) next)
 
 -- The limit that a declaration passes which makes this; what the next one asks is known, where it passes none.
-abbrev pub Passes : Result (Option What) WantOfMemory → DeclKind → Made → Limits → Type 0
+abbrev pub Passes : Result (Option What) WantOfMemory → DeclKind → Definitions → Limits → Type 0
 Passes (Ok w) x l limits = (w ≡ passed x (parts_of l)) × (w ≡ None → Knows l.funs limits)
 Passes (Err e) x l limits = Unit {0}
 
 -- Whatever was made before, behind typed declarations whose outs are known: where this declaration made l of it, the limit that it passes.
-abbrev pub Judges : Result (Option What) WantOfMemory → DeclKind → Made → Limits → Limits → Type 0
+abbrev pub Judges : Result (Option What) WantOfMemory → DeclKind → Definitions → Limits → Limits → Type 0
 Judges r x l old new =
-    (front : Tree) (number line : ℕ) (m : Made) → IsTyped front (parts_of m) → Knows m.funs old → declaration number line x m ≡ Some l → Passes r x l new
+    (front : Tree) (number line : ℕ) (m : Definitions) → IsTyped front (parts_of m) → Knows m.funs old → declaration number line x m ≡ Some l → Passes r x l new

@@ -1,10 +1,10 @@
 -- How far a program was read.
 use Rattle.std.specs.Prelude.{◌≡◌, ℕ, ◌+◌, List, ◌++◌, take}
 use Rattle.lucid_parse_tree.specs.declared.tree.Decl.{Decl}
-use Rattle.lucid_types_rules.specs.Declaration.{Made, start}
+use Rattle.lucid_types_rules.specs.Declaration.{Definitions, start}
 use Rattle.lucid_types_rules.specs.Found.{found}
 use Rattle.lucid_types_function.specs.Declaration.{declaration}
 
 -- Whatever follows the first `count` declarations, it follows what they made.
-abbrev pub SoFar : List Decl → ℕ → Made → Type 0
+abbrev pub SoFar : List Decl → ℕ → Definitions → Type 0
 SoFar decls count m = (rest : List Decl) → found declaration 1 start (take count decls ++ rest) ≡ found declaration (count + 1) m rest

@@ -3,7 +3,7 @@ use Rattle.std.proofs.Common.{◌≡◌, ℕ, List, Option, None, Some, Bool, tr
 use Rattle.lucid_core.specs.Typing.{◌>>=◌, same}
 use Rattle.lucid_parse_tree.specs.declared.tree.P.{P}
 use Rattle.lucid_parse_tree.specs.declared.tree.S.{S}
-use Rattle.lucid_types_rules.specs.Declaration.{Made}
+use Rattle.lucid_types_rules.specs.Declaration.{Definitions}
 use Rattle.lucid_types_rules.specs.Names.{seen}
 use Rattle.lucid_types_function.specs.Declaration.{event_at, handle, int_params, parameters}
 use Rattle.lucid_types_function.specs.Partial.{when}
@@ -25,7 +25,7 @@ regrouped true None f h g = refl
 regrouped true (Some a) f h g = grouped (f a) (h a) g
 regrouped false o f h g = refl
 
-pub handle_is : (decl line : ℕ) (n : List ℕ) (ps : List P) (body : List S) (m : Made) →
+pub handle_is : (decl line : ℕ) (n : List ℕ) (ps : List P) (body : List S) (m : Definitions) →
     handle decl line n ps body m ≡ (event_at (seen n m.names) >>= (λ y. handle_event decl line y.0 y.1 ps body m))
 handle_is decl line n ps body m =
     under (event_at (seen n m.names)) _ _ (λ y. under (slice_get m.events y.0) _ _ (λ e.

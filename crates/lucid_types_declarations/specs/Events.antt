@@ -7,7 +7,7 @@ use Rattle.lucid_parse_tree.specs.declared.tree.P.{P}
 use Rattle.lucid_parse_tree.specs.declared.tree.S.{S}
 use Rattle.lucid_types_rules.specs.declared.body.Body.{Body}
 use Rattle.lucid_types_rules.specs.Block.{Numbered}
-use Rattle.lucid_types_rules.specs.Declaration.{Made}
+use Rattle.lucid_types_rules.specs.Declaration.{Definitions}
 use Rattle.lucid_types_rules.specs.Names.{Names}
 use Rattle.lucid_types_function.specs.Declaration.{int_params, parameters}
 use Rattle.lucid_types_function.specs.Partial.{when}
@@ -26,7 +26,7 @@ handler_of widths ps body s forms = do
   when (same ws widths) (body_of body None qs.1 (record { locals = widths; forms = forms }))
 
 -- A handler of event i of these widths.
-abbrev pub handle_event : ℕ → ℕ → ℕ → List ℕ → List P → List S → Made → Option Made
+abbrev pub handle_event : ℕ → ℕ → ℕ → List ℕ → List P → List S → Definitions → Option Definitions
 handle_event decl line i widths ps body m = do
   e ← slice_get m.events i
   b ← when (is_none e.handler) (handler_of widths ps body m.names m.forms)
@@ -42,7 +42,7 @@ Handles (Ok b) old new o = (o ≡ Some (b, numbered_of new.numbering)) × (new �
 Handles (Err f) old new o = Fails f o
 
 -- With a handler of event i, which was e.
-abbrev pub with_handler : ℕ → EventDef → ℕ → ℕ → List ℕ → List Stmt → Made → Made
+abbrev pub with_handler : ℕ → EventDef → ℕ → ℕ → List ℕ → List Stmt → Definitions → Definitions
 with_handler i e decl line locals body m = record m {
   events = slice_set m.events i (record e { handler = Some (length m.handlers) });
   handlers = m.handlers ++ record { event = i; locals = locals; body = body; decl = decl; line = line } ∷ [];

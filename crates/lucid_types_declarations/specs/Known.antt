@@ -1,11 +1,11 @@
 -- What is known while declarations are typed, as the rules have it.
 use Rattle.std.specs.Prelude.{◌≡◌, Option, Some, Result, Ok, Err}
-use Rattle.lucid_types_rules.specs.Declaration.{Made}
+use Rattle.lucid_types_rules.specs.Declaration.{Definitions}
 use Rattle.lucid_types_expressions.specs.declared.fault.Fault.{Fault}
 use Rattle.lucid_types_expressions.specs.Gives.{Fails}
 use Rattle.lucid_types_declarations.specs.declared.known.Known.{Known}
 
-abbrev pub made_of : Known → Made
+abbrev pub made_of : Known → Definitions
 made_of k = record {
   names = k.scope;
   arrays = k.arrays.items;
@@ -17,6 +17,6 @@ made_of k = record {
 }
 
 -- A declaration makes this of what was known.
-abbrev pub Declares : Result (Unit {0}) Fault → Known → Option Made → Type 0
+abbrev pub Declares : Result (Unit {0}) Fault → Known → Option Definitions → Type 0
 Declares (Ok u) new o = o ≡ Some (made_of new)
 Declares (Err f) new o = Fails f o

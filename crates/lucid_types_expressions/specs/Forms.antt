@@ -12,7 +12,7 @@ use Rattle.lucid_types_rules.specs.declared.scope.ValueType.TheVariants as vt
 use Rattle.lucid_types_rules.specs.Names.{Names, seen}
 use Rattle.lucid_types_function.specs.declared.arguments.Arguments.{Arguments}
 use Rattle.lucid_types_function.specs.Partial.{given}
-use Rattle.lucid_types_function.specs.Reading.{Reading, ReadingCall, Touching, array_at, at_bool, at_int, called, get_at, getm_at, same_type, set_at, setm_at, touch_value, unary, update_at, value_of}
+use Rattle.lucid_types_function.specs.Reading.{Elaboration, CallElaboration, Touching, array_at, at_bool, at_int, called, get_at, getm_at, same_type, set_at, setm_at, touch_value, unary, update_at, value_of}
 
 abbrev pub is_int : ValueType → Bool
 is_int (Int w) = true
@@ -25,28 +25,28 @@ truth_core b t = at_bool (Some (core.Fixed (bits_of 1 (bit_of b)))) t
 abbrev pub word_core : Expr → ValueType → Option Expr
 word_core c t = given (same_type (Int 32) t) c
 
-abbrev pub shift_core : Bool → ℕ → Reading → Names → ValueType → Option Expr
+abbrev pub shift_core : Bool → ℕ → Elaboration → Names → ValueType → Option Expr
 shift_core left k f s t = at_int (λ w. unary (if left then Shl k else Shr k) (f.core s (Int w))) t
 
-abbrev pub called_value : List ℕ → List Reading → Names → ValueType → Option Expr
+abbrev pub called_value : List ℕ → List Elaboration → Names → ValueType → Option Expr
 called_value n fs s t = called n fs s >>= value_of t
 
-abbrev pub touched_value : ReadingCall → Names → ValueType → Option Expr
+abbrev pub touched_value : CallElaboration → Names → ValueType → Option Expr
 touched_value f s t = f.touch s >>= touch_value t
 
-abbrev pub get_of : List ℕ → Reading → Names → Option Touching
+abbrev pub get_of : List ℕ → Elaboration → Names → Option Touching
 get_of n i s = array_at (seen n s) >>= (λ a. get_at a i s)
 
-abbrev pub set_of : List ℕ → Reading → Reading → Names → Option Touching
+abbrev pub set_of : List ℕ → Elaboration → Elaboration → Names → Option Touching
 set_of n i x s = array_at (seen n s) >>= (λ a. set_at a i x s)
 
-abbrev pub getm_of : List ℕ → Reading → List ℕ → Reading → Names → Option Touching
+abbrev pub getm_of : List ℕ → Elaboration → List ℕ → Elaboration → Names → Option Touching
 getm_of n i m x s = array_at (seen n s) >>= (λ a. getm_at a i m x s)
 
-abbrev pub setm_of : List ℕ → Reading → List ℕ → Reading → Names → Option Touching
+abbrev pub setm_of : List ℕ → Elaboration → List ℕ → Elaboration → Names → Option Touching
 setm_of n i m x s = array_at (seen n s) >>= (λ a. setm_at a i m x s)
 
-abbrev pub update_of : List ℕ → Reading → List ℕ → Reading → List ℕ → Reading → Names → Option Touching
+abbrev pub update_of : List ℕ → Elaboration → List ℕ → Elaboration → List ℕ → Elaboration → Names → Option Touching
 update_of n i m x k y s = array_at (seen n s) >>= (λ a. update_at a i m x k y s)
 
 -- ---- what loops have so far, before what is left

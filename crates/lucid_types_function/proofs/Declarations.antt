@@ -25,7 +25,7 @@ use Rattle.lucid_types_rules.specs.declared.scope.Param.TheVariants as param
 use Rattle.lucid_types_rules.specs.declared.scope.ValueType.{ValueType}
 use Rattle.lucid_types_rules.specs.declared.scope.ValueType.TheVariants.{Int}
 use Rattle.lucid_types_rules.specs.declared.scope.ValueType.TheVariants as vt
-use Rattle.lucid_types_rules.specs.Declaration.{Declared, Made, Sized}
+use Rattle.lucid_types_rules.specs.Declaration.{Declared, Definitions, Sized}
 use Rattle.lucid_types_rules.specs.Declaration as rule
 use Rattle.lucid_types_rules.specs.Found.{Computes}
 use Rattle.lucid_types_rules.specs.Memop.{memop_names}
@@ -134,7 +134,7 @@ no_handler (Some k) h = absurd (cc)
 
 -- ---- from the rules to the function
 
-declared : {number line : ℕ} {m l : Made} {x : DeclKind} → Declared number line m x l → declaration number line x m ≡ Some l
+declared : {number line : ℕ} {m l : Definitions} {x : DeclKind} → Declared number line m x l → declaration number line x m ≡ Some l
 declared (rule.constant t w n v of fits) = rw (int of, lt-ltb v (2 ^ w) fits) refl
 declared {m = m} (rule.global short w n x k ok of least most) =
     rw (sized of, fits_width w ok, le-leb 1 k least, le-leb k 65536 most) refl
@@ -149,13 +149,13 @@ declared (rule.group n members ok) = rw ok refl
 
 -- ---- from the function to the rules
 
-constant : (number line : ℕ) (t : Ty) (n : List ℕ) (v : ℕ) (m l : Made) → take.constant t n v m ≡ Some l → Declared number line m (d.Const t n v) l
+constant : (number line : ℕ) (t : Ty) (n : List ℕ) (v : ℕ) (m l : Definitions) → take.constant t n v m ≡ Some l → Declared number line m (d.Const t n v) l
 constant number line t n v m l h =
     let w = bound (int_of t) _ l h in
     let parts = was (nat_lt v (2 ^ w.0)) (take.with_constant n w.0 v m) l w.2 in
     subst (Declared number line m (d.Const t n v)) parts.1 (rule.constant t w.0 n v (is_int t w.0 w.1) (ltb-true v (2 ^ w.0) parts.0))
 
-global : (number line : ℕ) (short : Bool) (w : ℕ) (n : List ℕ) (x : Size) (m l : Made) → take.global w n x m ≡ Some l → Declared number line m (d.Global short w n x) l
+global : (number line : ℕ) (short : Bool) (w : ℕ) (n : List ℕ) (x : Size) (m l : Definitions) → take.global w n x m ≡ Some l → Declared number line m (d.Global short w n x) l
 global number line short w n x m l h =
     let k = bound (size_of m.names x) _ l h in
     let parts = was (is_width w && is_size k.0) _ l k.2 in
@@ -164,7 +164,7 @@ global number line short w n x m l h =
     subst (Declared number line m (d.Global short w n x)) parts.1
     (rule.global short w n x k.0 (width_is w both.0) (is_sized m.names x k.0 k.1) (leb-true 1 k.0 fits.0) (leb-true k.0 65536 fits.1))
 
-memop : (number line : ℕ) (n : List ℕ) (first second : Ty × List ℕ) (body : List S) (m l : Made) → take.memop n first second body m ≡ Some l →
+memop : (number line : ℕ) (n : List ℕ) (first second : Ty × List ℕ) (body : List S) (m l : Definitions) → take.memop n first second body m ≡ Some l →
     Declared number line m (d.Memop n first second body) l
 memop number line n first second body m l h =
     let w = bound (int_of first.0) _ l h in
@@ -177,7 +177,7 @@ memop number line n first second body m l h =
     (subst (λ (u : ℕ). Means second.0 (Int u)) (sym (eqb-true w.0 v.0 parts.0)) (is_int second.0 v.0 v.1))
     (is_memop w.0 (memop_names w.0 first.1 second.1 m.names) body steps.0 parts.1) (shape.is_shape w.0 steps.0 alu.0 alu.1))
 
-event : (number line : ℕ) (n : List ℕ) (ps : List P) (m l : Made) → take.event n ps m ≡ Some l → Declared number line m (d.Event n ps) l
+event : (number line : ℕ) (n : List ℕ) (ps : List P) (m l : Definitions) → take.event n ps m ≡ Some l → Declared number line m (d.Event n ps) l
 event number line n ps m l h =
     let qs = bound (parameters 0 0 m.names ps) _ l h in
     let ws = bound (int_params qs.0.0) _ l qs.2 in
@@ -185,7 +185,7 @@ event number line n ps m l h =
     (rule.event n ps ws.0 qs.0.1
     (subst (λ (rs : List Param). Parameters 0 0 m.names ps rs qs.0.1) (are_ints qs.0.0 ws.0 ws.1) (are_params 0 0 m.names ps qs.0 qs.1)))
 
-handle : (number line : ℕ) (n : List ℕ) (ps : List P) (body : List S) (m l : Made) → take.handle number line n ps body m ≡ Some l →
+handle : (number line : ℕ) (n : List ℕ) (ps : List P) (body : List S) (m l : Definitions) → take.handle number line n ps body m ≡ Some l →
     Declared number line m (d.Handle n ps body) l
 handle number line n ps body m l h =
     let y = bound (event_at (seen n m.names)) _ l h in
@@ -201,7 +201,7 @@ handle number line n ps body m l h =
     (rule.handle n ps body y.0.0 y.0.1 e.0 qs.0.1 b.0.0 b.0.1 (event_by n m.names y.0 (seen n m.names) refl y.1) e.1 (no_handler e.0.handler free.0) of
     (sound.block_of None qs.0.1 _ body b.0.0 b.0.1 repeats.1))
 
-fun : (number line : ℕ) (a : Option Ty) (n : List ℕ) (ps : List P) (body : List S) (m l : Made) → take.fun number line a n ps body m ≡ Some l →
+fun : (number line : ℕ) (a : Option Ty) (n : List ℕ) (ps : List P) (body : List S) (m l : Definitions) → take.fun number line a n ps body m ≡ Some l →
     Declared number line m (d.Fun a n ps body) l
 fun number line a n ps body m l h =
     let t = bound (answer_of a) _ l h in
@@ -212,12 +212,12 @@ fun number line a n ps body m l h =
     (rule.fun a n ps body t.0 qs.0.0 qs.0.1 b.0.0 b.0.1 (is_answer a t.0 b.0.0.ending t.1 parts.0) (are_params 0 0 m.names ps qs.0 qs.1)
     (sound.block_of t.0 qs.0.1 _ body b.0.0 b.0.1 b.1))
 
-group : (number line : ℕ) (n members : List ℕ) (m l : Made) → take.group n members m ≡ Some l → Declared number line m (d.Group n members) l
+group : (number line : ℕ) (n members : List ℕ) (m l : Definitions) → take.group n members m ≡ Some l → Declared number line m (d.Group n members) l
 group number line n members m l h =
     let parts = was (are_members members) _ l h in
     subst (Declared number line m (d.Group n members)) parts.1 (rule.group n members parts.0)
 
-is_declared : (number line : ℕ) (x : DeclKind) (m l : Made) → declaration number line x m ≡ Some l → Declared number line m x l
+is_declared : (number line : ℕ) (x : DeclKind) (m l : Definitions) → declaration number line x m ≡ Some l → Declared number line m x l
 is_declared number line (d.Const t n v) m l h = constant number line t n v m l h
 is_declared number line (d.Global short w n x) m l h = global number line short w n x m l h
 is_declared number line (d.Memop n first second body) m l h = memop number line n first second body m l h

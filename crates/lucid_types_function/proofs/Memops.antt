@@ -22,7 +22,7 @@ use Rattle.lucid_types_rules.specs.Memop as rule
 use Rattle.lucid_types_rules.specs.Names.{Names}
 use Rattle.lucid_types_rules.specs.Operators.{comparison}
 use Rattle.lucid_types_function.specs.Memop.{choice_form, memop_body, memop_form, one_return, return_form, second_form}
-use Rattle.lucid_types_function.specs.Reading.{Reading, condition_core, core_of, reading}
+use Rattle.lucid_types_function.specs.Reading.{Elaboration, condition_core, core_of, reading}
 use Rattle.lucid_types_function.proofs.Complete as complete
 use Rattle.lucid_types_function.proofs.Forms.{array_is, call_is, cast_is, condition_at, hash_is, infix_is, me_is, name_is, number_is, paren_is, prefix_is, shift_is, time_is, truth_is}
 use Rattle.lucid_types_function.proofs.Sound as sound
@@ -59,7 +59,7 @@ memop {s} {w} (rule.guard x ys zs c cs ds of first second) =
 abbrev P : E → Type 0
 P x = (s : Names) (w : ℕ) (c : Expr) → (reading x).condition s w ≡ Some c → Compared s w x c
 
-none : (x : E) (r : Reading) → reading x ≡ r → ((s : Names) (w : ℕ) → r.condition s w ≡ None) → P x
+none : (x : E) (r : Elaboration) → reading x ≡ r → ((s : Names) (w : ℕ) → r.condition s w ≡ None) → P x
 none x r is no_condition s w c h = let none : None ≡ Some c = sym (no_condition s w) ∙ sym (condition_at is s w) ∙ h in absurd (cc)
 
 compare_by : (sign : Infix) (x y : E) (s : Names) (w : ℕ) (c : Expr) (o : Option CmpOp) → comparison sign ≡ o → condition_core o (reading x) (reading y) s w ≡ Some c →

@@ -37,7 +37,7 @@ use Rattle.lucid_types_rules.specs.Types.{stated}
 use Rattle.lucid_types_function.specs.declared.arguments.Arguments.{Arguments}
 use Rattle.lucid_types_function.specs.Lead.{or_32}
 use Rattle.lucid_types_function.specs.Reading as read
-use Rattle.lucid_types_function.specs.Reading.{Calling, Reading, Touching, core_of, given_all, is_width, reading, same_type, touch_of}
+use Rattle.lucid_types_function.specs.Reading.{Calling, Elaboration, Touching, core_of, given_all, is_width, reading, same_type, touch_of}
 use Rattle.lucid_types_function.proofs.Forms.{array_is, bare_at, call_is, cast_is, core_at, get_is, getm_is, hash_is, infix_is, me_is, name_is, number_is, paren_is, prefix_is, set_is, setm_is, shift_is, time_is, touch_at, truth_is, update_is}
 use Rattle.lucid_types_function.proofs.Leads.{free_width, shared_width, width_is}
 use Rattle.lucid_types_function.proofs.Parts.{held, was}
@@ -173,7 +173,7 @@ hash w (x ∷ xs) all s t c h =
 abbrev BareIs : E → Type 0
 BareIs x = (n : List ℕ) → (reading x).bare ≡ Some n → x ≡ e.Name n
 
-bare : (x : E) (f : Reading) → reading x ≡ f → f.bare ≡ None → BareIs x
+bare : (x : E) (f : Elaboration) → reading x ≡ f → f.bare ≡ None → BareIs x
 bare x f is none n h = let no : None ≡ Some n = sym none ∙ bare_at (sym is) ∙ h in absurd (cc)
 
 name_bare : (m : List ℕ) → BareIs (e.Name m)

@@ -21,7 +21,7 @@ use Rattle.lucid_types_rules.specs.declared.scope.Param.{Param}
 use Rattle.lucid_types_rules.specs.declared.scope.Param.TheVariants as param
 use Rattle.lucid_types_rules.specs.declared.scope.ValueType.{ValueType}
 use Rattle.lucid_types_rules.specs.declared.scope.ValueType.TheVariants.{Int}
-use Rattle.lucid_types_rules.specs.Declaration.{Made}
+use Rattle.lucid_types_rules.specs.Declaration.{Definitions}
 use Rattle.lucid_types_rules.specs.Memop.{memop_names}
 use Rattle.lucid_types_rules.specs.Names.{Names, called, seen}
 use Rattle.lucid_types_rules.specs.Types.{answer_width, cell_widths, value_widths}
@@ -82,10 +82,10 @@ abbrev pub event_at : Option Entry → Option (ℕ × List ℕ)
 event_at (Some (entry.Event i ws)) = Some (i, ws)
 event_at _ = None
 
-abbrev pub with_constant : List ℕ → ℕ → ℕ → Made → Made
+abbrev pub with_constant : List ℕ → ℕ → ℕ → Definitions → Definitions
 with_constant n w v m = record m { names = called n (entry.Constant (bits_of w v)) ∷ m.names }
 
-abbrev pub constant : Ty → List ℕ → ℕ → Made → Option Made
+abbrev pub constant : Ty → List ℕ → ℕ → Definitions → Option Definitions
 constant t n v m = do
   w ← int_of t
   given (nat_lt v (2 ^ w)) (with_constant n w v m)
@@ -93,7 +93,7 @@ constant t n v m = do
 abbrev pub is_size : ℕ → Bool
 is_size k = nat_le 1 k && nat_le k 65536
 
-abbrev pub global : ℕ → List ℕ → Size → Made → Option Made
+abbrev pub global : ℕ → List ℕ → Size → Definitions → Option Definitions
 global w n x m = do
   k ← size_of m.names x
   given (is_width w && is_size k) (record m {
@@ -101,7 +101,7 @@ global w n x m = do
     arrays = m.arrays ++ record { name = n; width = w; size = k } ∷ [];
   })
 
-abbrev pub memop : List ℕ → Ty × List ℕ → Ty × List ℕ → List S → Made → Option Made
+abbrev pub memop : List ℕ → Ty × List ℕ → Ty × List ℕ → List S → Definitions → Option Definitions
 memop n first second body m = do
   w ← int_of first.0
   v ← int_of second.0
@@ -112,7 +112,7 @@ memop n first second body m = do
     memops = m.memops ++ record { name = n; alu = alu } ∷ [];
   })
 
-abbrev pub event : List ℕ → List P → Made → Option Made
+abbrev pub event : List ℕ → List P → Definitions → Option Definitions
 event n ps m = do
   qs ← parameters 0 0 m.names ps
   ws ← int_params qs.0
@@ -121,7 +121,7 @@ event n ps m = do
     events = m.events ++ record { name = n; params = ws; handler = None } ∷ [];
   })
 
-abbrev pub handle : ℕ → ℕ → List ℕ → List P → List S → Made → Option Made
+abbrev pub handle : ℕ → ℕ → List ℕ → List P → List S → Definitions → Option Definitions
 handle number line n ps body m = do
   y ← event_at (seen n m.names)
   e ← slice_get m.events y.0
@@ -134,7 +134,7 @@ handle number line n ps body m = do
     forms = b.1.forms;
   })
 
-abbrev pub fun : ℕ → ℕ → Option Ty → List ℕ → List P → List S → Made → Option Made
+abbrev pub fun : ℕ → ℕ → Option Ty → List ℕ → List P → List S → Definitions → Option Definitions
 fun number line a n ps body m = do
   t ← answer_of a
   qs ← parameters 0 0 m.names ps
@@ -154,11 +154,11 @@ fun number line a n ps body m = do
     forms = b.1.forms;
   })
 
-abbrev pub group : List ℕ → List ℕ → Made → Option Made
+abbrev pub group : List ℕ → List ℕ → Definitions → Option Definitions
 group n members m = given (are_members members) (record m { names = called n (entry.Group members) ∷ m.names })
 
 -- What declaration `number`, which begins on this line, makes behind what was made before.
-abbrev pub declaration : ℕ → ℕ → DeclKind → Made → Option Made
+abbrev pub declaration : ℕ → ℕ → DeclKind → Definitions → Option Definitions
 declaration number line (d.Const t n v) m = constant t n v m
 declaration number line (d.Global short w n x) m = global w n x m
 declaration number line (d.Memop n first second body) m = memop n first second body m

@@ -35,7 +35,7 @@ use Rattle.lucid_types_function.specs.Partial.{given, when}
 
 -- The width of its first leaf that is no number, its name where it is a bare one, its core at a place that asks for a type, and as the
 -- condition of a memop of a width.
-pub record Reading : Type 0 where
+pub record Elaboration : Type 0 where
   pub lead : Lead
   pub bare : Option (List ℕ)
   pub core : Names → ValueType → Option Expr
@@ -45,7 +45,7 @@ pub record Reading : Type 0 where
 abbrev pub Touching : Type 0
 Touching = Option ℕ × Touch
 
-pub record ReadingCall : Type 0 where
+pub record CallElaboration : Type 0 where
   pub lead : Lead
   pub touch : Names → Option Touching
 
@@ -72,13 +72,13 @@ at_bool o (Int w) = None
 at_bool o vt.Bool = o
 
 -- At a free place of this width.
-abbrev pub free_at : ℕ → Reading → Names → Option Expr
+abbrev pub free_at : ℕ → Elaboration → Names → Option Expr
 free_at w f s = when (is_width w) (f.core s (Int w))
 
-abbrev pub free : Reading → Names → Option Expr
+abbrev pub free : Elaboration → Names → Option Expr
 free f s = free_at (or_32 (f.lead s)) f s
 
-abbrev pub all_free : List Reading → Names → Option (List Expr)
+abbrev pub all_free : List Elaboration → Names → Option (List Expr)
 all_free [] s = Some []
 all_free (f ∷ fs) s = do
   c ← free f s
@@ -112,26 +112,26 @@ compared op o p = do
   d ← p
   Some (core.Cmp op c d)
 
-abbrev pub prefix_core : Pre → Reading → Names → ValueType → Option Expr
+abbrev pub prefix_core : Pre → Elaboration → Names → ValueType → Option Expr
 prefix_core Minus f s t = at_int (λ w. unary Neg (f.core s (Int w))) t
 prefix_core Tilde f s t = at_int (λ w. unary Flip (f.core s (Int w))) t
 prefix_core Not f s t = at_bool (unary Flip (f.core s vt.Bool)) t
 
 -- Two sides that are one free place of this width.
-abbrev pub compared_at : ℕ → CmpOp → Reading → Reading → Names → Option Expr
+abbrev pub compared_at : ℕ → CmpOp → Elaboration → Elaboration → Names → Option Expr
 compared_at w op f g s = when (is_width w) (compared op (f.core s (Int w)) (g.core s (Int w)))
 
-abbrev pub shared_width : Reading → Reading → Names → ℕ
+abbrev pub shared_width : Elaboration → Elaboration → Names → ℕ
 shared_width f g s = or_32 (either_lead f.lead g.lead s)
 
 -- By what the sign is: of arithmetic, a comparison, or of logic.
-abbrev pub infix_core : Option BinOp → Option CmpOp → Option BinOp → Reading → Reading → Names → ValueType → Option Expr
+abbrev pub infix_core : Option BinOp → Option CmpOp → Option BinOp → Elaboration → Elaboration → Names → ValueType → Option Expr
 infix_core (Some op) c l f g s t = at_int (λ w. binary op (f.core s (Int w)) (g.core s (Int w))) t
 infix_core None (Some op) l f g s t = at_bool (compared_at (shared_width f g s) op f g s) t
 infix_core None None (Some op) f g s t = at_bool (binary op (f.core s vt.Bool) (g.core s vt.Bool)) t
 infix_core None None None f g s t = None
 
-abbrev pub condition_core : Option CmpOp → Reading → Reading → Names → ℕ → Option Expr
+abbrev pub condition_core : Option CmpOp → Elaboration → Elaboration → Names → ℕ → Option Expr
 condition_core None f g s w = None
 condition_core (Some op) f g s w = compared op (f.core s (Int w)) (g.core s (Int w))
 
@@ -144,7 +144,7 @@ abbrev pub hash_of : ℕ → ValueType → List Expr → Option Expr
 hash_of w t [] = None
 hash_of w t (c ∷ cs) = given (same_type (Int w) t && is_width w) (core.Hash w (c ∷ cs))
 
-abbrev pub hash_core : ℕ → List Reading → Names → ValueType → Option Expr
+abbrev pub hash_core : ℕ → List Elaboration → Names → ValueType → Option Expr
 hash_core w fs s t = all_free fs s >>= hash_of w t
 
 -- ---- calls
@@ -164,7 +164,7 @@ named_array w (Some n) s = do
   x ← array_at (seen n s)
   given (nat_eq x.1 w) x.0
 
-abbrev pub given_all : List Param → List Reading → Names → Option Arguments
+abbrev pub given_all : List Param → List Elaboration → Names → Option Arguments
 given_all [] [] s = Some (record { names = []; values = [] })
 given_all [] (f ∷ fs) s = None
 given_all (x ∷ ps) [] s = None
@@ -177,13 +177,13 @@ given_all (param.Array w ∷ ps) (f ∷ fs) s = do
   rest ← given_all ps fs s
   Some (record rest { names = name ∷ rest.names })
 
-abbrev pub called_at : Option Entry → List Reading → Names → Option Calling
+abbrev pub called_at : Option Entry → List Elaboration → Names → Option Calling
 called_at (Some (entry.Fun k ps t)) fs s = do
   all ← given_all ps fs s
   Some (t, core.Fun k all.names all.values)
 called_at _ fs s = None
 
-abbrev pub called : List ℕ → List Reading → Names → Option Calling
+abbrev pub called : List ℕ → List Elaboration → Names → Option Calling
 called n fs s = called_at (seen n s) fs s
 
 -- The value of a call at a place that asks for this type.
@@ -195,32 +195,32 @@ abbrev pub touch_value : ValueType → Touching → Option Expr
 touch_value t (None, c) = None
 touch_value t (Some w, c) = given (same_type (Int w) t) (core.Array c)
 
-abbrev pub get_at : ArrayName × ℕ → Reading → Names → Option Touching
+abbrev pub get_at : ArrayName × ℕ → Elaboration → Names → Option Touching
 get_at a i s = do
   j ← free i s
   Some (Some a.1, touching a.0 j (returning a.1 Stored) (zero_of a.1) (returning a.1 Stored) (zero_of a.1) true)
 
-abbrev pub set_at : ArrayName × ℕ → Reading → Reading → Names → Option Touching
+abbrev pub set_at : ArrayName × ℕ → Elaboration → Elaboration → Names → Option Touching
 set_at a i x s = do
   j ← free i s
   c ← x.core s (Int a.1)
   Some (None, touching a.0 j (returning a.1 Stored) (zero_of a.1) (returning a.1 Arg) c false)
 
-abbrev pub getm_at : ArrayName × ℕ → Reading → List ℕ → Reading → Names → Option Touching
+abbrev pub getm_at : ArrayName × ℕ → Elaboration → List ℕ → Elaboration → Names → Option Touching
 getm_at a i m x s = do
   j ← free i s
   memop ← memop_at a.1 (seen m s)
   c ← x.core s (Int a.1)
   Some (Some a.1, touching a.0 j memop c (returning a.1 Stored) (zero_of a.1) true)
 
-abbrev pub setm_at : ArrayName × ℕ → Reading → List ℕ → Reading → Names → Option Touching
+abbrev pub setm_at : ArrayName × ℕ → Elaboration → List ℕ → Elaboration → Names → Option Touching
 setm_at a i m x s = do
   j ← free i s
   memop ← memop_at a.1 (seen m s)
   c ← x.core s (Int a.1)
   Some (None, touching a.0 j (returning a.1 Stored) (zero_of a.1) memop c false)
 
-abbrev pub update_at : ArrayName × ℕ → Reading → List ℕ → Reading → List ℕ → Reading → Names → Option Touching
+abbrev pub update_at : ArrayName × ℕ → Elaboration → List ℕ → Elaboration → List ℕ → Elaboration → Names → Option Touching
 update_at a i m x n y s = do
   j ← free i s
   get ← memop_at a.1 (seen m s)
@@ -231,28 +231,28 @@ update_at a i m x n y s = do
 
 -- ---- the forms
 
-abbrev pub touch_step : A-F ReadingCall Reading → Names → Option Touching
+abbrev pub touch_step : A-F CallElaboration Elaboration → Names → Option Touching
 touch_step (A-F.Get n i) s = array_at (seen n s) >>= (λ a. get_at a i s)
 touch_step (A-F.Set n i x) s = array_at (seen n s) >>= (λ a. set_at a i x s)
 touch_step (A-F.Getm n i m x) s = array_at (seen n s) >>= (λ a. getm_at a i m x s)
 touch_step (A-F.Setm n i m x) s = array_at (seen n s) >>= (λ a. setm_at a i m x s)
 touch_step (A-F.Update n i m x k y) s = array_at (seen n s) >>= (λ a. update_at a i m x k y s)
 
-abbrev pub call_lead : A-F ReadingCall Reading → Lead
+abbrev pub call_lead : A-F CallElaboration Elaboration → Lead
 call_lead (A-F.Get n i) = array_lead n
 call_lead (A-F.Set n i x) = λ s. None
 call_lead (A-F.Getm n i m x) = array_lead n
 call_lead (A-F.Setm n i m x) = λ s. None
 call_lead (A-F.Update n i m x k y) = array_lead n
 
-abbrev pub call_step : A-F ReadingCall Reading → ReadingCall
+abbrev pub call_step : A-F CallElaboration Elaboration → CallElaboration
 call_step x = record { lead = call_lead x; touch = touch_step x }
 
 abbrev pub no_condition : Names → ℕ → Option Expr
 no_condition s w = None
 
 -- What is no bare name and no condition of a memop.
-abbrev pub plain : Lead → (Names → ValueType → Option Expr) → Reading
+abbrev pub plain : Lead → (Names → ValueType → Option Expr) → Elaboration
 plain lead core = record { lead = lead; bare = None; core = core; condition = no_condition }
 
 abbrev pub no_lead : Lead
@@ -261,7 +261,7 @@ no_lead s = None
 abbrev pub lead_of : ℕ → Lead
 lead_of w s = Some w
 
-abbrev pub step : E-F ReadingCall Reading → Reading
+abbrev pub step : E-F CallElaboration Elaboration → Elaboration
 step (E-F.Number n) = plain no_lead (λ s. number_core n)
 step (E-F.Truth b) = plain no_lead (λ s. at_bool (Some (core.Fixed (bits_of 1 (bit_of b)))))
 step E-F.Me = plain (lead_of 32) (λ s t. given (same_type (Int 32) t) core.Me)
@@ -281,11 +281,11 @@ step (E-F.Infix sign f g) = record {
   condition = condition_core (comparison sign) f g;
 }
 
-abbrev pub reading : E → Reading
-reading = fold-E ReadingCall Reading call_step step
+abbrev pub reading : E → Elaboration
+reading = fold-E CallElaboration Elaboration call_step step
 
-abbrev pub reading_call : A → ReadingCall
-reading_call = fold-A ReadingCall Reading call_step step
+abbrev pub reading_call : A → CallElaboration
+reading_call = fold-A CallElaboration Elaboration call_step step
 
 abbrev pub core_of : E → Names → ValueType → Option Expr
 core_of x = (reading x).core

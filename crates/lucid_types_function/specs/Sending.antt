@@ -11,7 +11,7 @@ use Rattle.lucid_types_rules.specs.declared.scope.Entry.TheVariants as entry
 use Rattle.lucid_types_rules.specs.Names.{Names, seen}
 use Rattle.lucid_types_rules.specs.Types.{ints}
 use Rattle.lucid_types_function.specs.Partial.{given, when}
-use Rattle.lucid_types_function.specs.Reading.{Reading, free, given_all, reading}
+use Rattle.lucid_types_function.specs.Reading.{Elaboration, free, given_all, reading}
 
 abbrev pub is_none : {A : Type 0} → Option A → Bool
 is_none None = true
@@ -21,7 +21,7 @@ abbrev pub is_here : Destination → Bool
 is_here Here = true
 is_here _ = false
 
-abbrev pub event_at : Option Entry → List Reading → Names → Option Sending
+abbrev pub event_at : Option Entry → List Elaboration → Names → Option Sending
 event_at (Some (entry.Event i ws)) fs s = do
   all ← given_all (ints ws) fs s
   Some (record { event = i; args = all.values; delay = None; to = Here; delay_first = false })
@@ -36,21 +36,21 @@ abbrev pub named_group : Option (List ℕ) → Names → Option (List ℕ)
 named_group None s = None
 named_group (Some n) s = group_at (seen n s)
 
-abbrev pub delayed : Reading → Names → Sending → Option Sending
+abbrev pub delayed : Elaboration → Names → Sending → Option Sending
 delayed f s g = do
   c ← free f s
   given (is_none g.delay) (record g { delay = Some c })
 
-abbrev pub switch_of : Reading → Names → Sending → Option Sending
+abbrev pub switch_of : Elaboration → Names → Sending → Option Sending
 switch_of f s g = do
   c ← free f s
   Some (record g { to = Switch c; delay_first = is_some g.delay })
 
-abbrev pub target_of : Option (List ℕ) → Reading → Names → Sending → Option Sending
+abbrev pub target_of : Option (List ℕ) → Elaboration → Names → Sending → Option Sending
 target_of None f s g = switch_of f s g
 target_of (Some members) f s g = Some (record g { to = Group members })
 
-abbrev pub located : Reading → Names → Sending → Option Sending
+abbrev pub located : Elaboration → Names → Sending → Option Sending
 located f s g = when (is_here g.to) (target_of (named_group f.bare s) f s g)
 
 abbrev pub Sends : Type 0

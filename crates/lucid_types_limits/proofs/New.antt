@@ -9,7 +9,7 @@ use Rattle.lucid_core.specs.declared.defs.FunDef.{FunDef}
 use Rattle.lucid_core.specs.declared.defs.HandlerDef.{HandlerDef}
 use Rattle.lucid_core.specs.OutCount.{body_outs, funs_outs, outs_are_few}
 use Rattle.lucid_core.specs.Names.{stmt_names}
-use Rattle.lucid_core.specs.Parts.{Parts}
+use Rattle.lucid_core.specs.Parts.{CoreParts}
 use Rattle.lucid_core.specs.Scope.{each, handler_scope}
 use Rattle.lucid_core.specs.Valid.{IsValid}
 use Rattle.lucid_core.specs.Few.{arguments_are_few}
@@ -18,7 +18,7 @@ use Rattle.lucid_parse_tree.specs.declared.tree.DeclKind.{DeclKind}
 use Rattle.lucid_parse_tree.specs.declared.tree.Tree.{Tree}
 use Rattle.lucid_types_rules.specs.declared.limit.What.{What}
 use Rattle.lucid_types_rules.specs.declared.limit.What.TheVariants as what
-use Rattle.lucid_types_rules.specs.Declaration.{Made, parts_of}
+use Rattle.lucid_types_rules.specs.Declaration.{Definitions, parts_of}
 use Rattle.lucid_types_rules.specs.Limits.{body_of, cases_are_few, first_passed, limits, passed}
 use Rattle.lucid_types_rules.specs.Makes.{IsTyped, Makes}
 use Rattle.lucid_types_rules.specs.Makes as made
@@ -31,7 +31,7 @@ use Rattle.lucid_types_limits.proofs.Stays.{handlers_stay}
 
 -- ---- what was made before passes none
 
-record Within (m : Parts) : Type 0 where
+record Within (m : CoreParts) : Type 0 where
   arrays : nat_le (length m.arrays) 64 ≡ true
   array_params : list_all (λ (f : FunDef). nat_le (length f.arrays) 8) m.funs ≡ true
   event_params : list_all (λ (e : EventDef). nat_le (length e.params) 8) m.events ≡ true
@@ -46,7 +46,7 @@ all_kept [] none = refl
 all_kept ((w, true) ∷ ls) none = all_kept ls none
 all_kept ((w, false) ∷ ls) none = absurd (cc)
 
-within : (x : DeclKind) (m : Parts) → passed x m ≡ None → Within m
+within : (x : DeclKind) (m : CoreParts) → passed x m ≡ None → Within m
 within x m none =
     let a = and_parts _ _ (all_kept (limits x m) none) in
     let b = and_parts _ _ a.1 in
@@ -58,11 +58,11 @@ within x m none =
     let outs = and_parts _ _ e.0 in
     record { arrays = a.0; array_params = b.0; event_params = values.0; fun_params = values.1; funs = few.0; handlers = few.1; outs = outs.0; handler_outs = outs.1 }
 
-made_within : {number : ℕ} {m k : Made} {xs : List Decl} → Makes number m xs k → Within (parts_of m) → Within (parts_of k)
+made_within : {number : ℕ} {m k : Definitions} {xs : List Decl} → Makes number m xs k → Within (parts_of m) → Within (parts_of k)
 made_within (made.done number m) kept = kept
 made_within (made.one_more number m l k x xs of none rest) kept = made_within rest (within x.kind (parts_of l) none)
 
-typed_within : (tree : Tree) (m : Parts) → IsTyped tree m → Within m
+typed_within : (tree : Tree) (m : CoreParts) → IsTyped tree m → Within m
 typed_within tree m typed =
     subst Within typed.2 (made_within typed.1 (record { arrays = refl; array_params = refl; event_params = refl; fun_params = refl; funs = refl; handlers = refl; outs = refl; handler_outs = refl }))
 
@@ -105,7 +105,7 @@ length-funs_outs counted (f ∷ fs) =
 
 -- ---- the law
 
-module _ (m : Parts) (lim : Within m) (there : list_all (λ (h : HandlerDef). each (map stmt_names h.body) (handler_scope m h)) m.handlers ≡ true) where
+module _ (m : CoreParts) (lim : Within m) (there : list_all (λ (h : HandlerDef). each (map stmt_names h.body) (handler_scope m h)) m.handlers ≡ true) where
   no_part : (x : DeclKind) → body_of x ≡ [] → passed x m ≡ None
   no_part x none = alike _ _ _ _ _ _ true true true true true true lim.arrays lim.array_params (and_from _ _ lim.event_params lim.fun_params) (and_from _ _ lim.funs lim.handlers)
       (and_from _ _ lim.outs lim.handler_outs) (no_cases x none)
@@ -159,7 +159,7 @@ module _ (m : Parts) (lim : Within m) (there : list_all (λ (h : HandlerDef). ea
   new_alone : NewAlone m
   new_alone = record { nothing = no_part; array = one_array; event = one_event; handler = one_handler; fun = one_fun }
 
-calls_are_there : (m : Parts) → IsValid m → list_all (λ (h : HandlerDef). each (map stmt_names h.body) (handler_scope m h)) m.handlers ≡ true
+calls_are_there : (m : CoreParts) → IsValid m → list_all (λ (h : HandlerDef). each (map stmt_names h.body) (handler_scope m h)) m.handlers ≡ true
 calls_are_there m valid = (and_parts _ _ (and_parts _ _ valid.sound.names).0).1
 
 pub only_the_new : OnlyTheNew

@@ -14,7 +14,7 @@ use Rattle.lucid_core.specs.Names as n
 use Rattle.lucid_core.specs.Names.{expr_names, stmt_names, touch_names}
 use Rattle.lucid_core.specs.OutCount as o
 use Rattle.lucid_core.specs.OutCount.{Count, body_outs, expr_outs, stmt_outs, total, touch_outs}
-use Rattle.lucid_core.specs.Parts.{Parts}
+use Rattle.lucid_core.specs.Parts.{CoreParts}
 use Rattle.lucid_core.specs.Scope.{Scope, Test, each, handler_scope}
 use Rattle.lucid_core.proofs.Fine.{both_pass}
 use Rattle.lucid_types_limits.proofs.Tallies.{total-append}
@@ -178,7 +178,7 @@ module _ (scope : Scope) (counts more : List ℕ) (long : length scope.funs ≡ 
   body_same (e ∷ es) there = let parts = and_parts _ _ there in ap₂ (λ (a b : ℕ). a + b) (stmt_same e parts.0) (body_same es parts.1)
 
 -- Handlers that send few out still do.
-pub handlers_stay : (m : Parts) (counts more : List ℕ) → length m.funs ≡ length counts → (hs : List HandlerDef) →
+pub handlers_stay : (m : CoreParts) (counts more : List ℕ) → length m.funs ≡ length counts → (hs : List HandlerDef) →
     list_all (λ (h : HandlerDef). each (map stmt_names h.body) (handler_scope m h)) hs ≡ true →
     list_all (λ (h : HandlerDef). nat_le (body_outs h.body counts) 8) hs ≡ true → list_all (λ (h : HandlerDef). nat_le (body_outs h.body (counts ++ more)) 8) hs ≡ true
 handlers_stay m counts more long [] there few = refl

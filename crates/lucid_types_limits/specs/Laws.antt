@@ -5,7 +5,7 @@ use Rattle.lucid_core.specs.declared.defs.EventDef.{EventDef}
 use Rattle.lucid_core.specs.declared.defs.FunDef.{FunDef}
 use Rattle.lucid_core.specs.declared.defs.HandlerDef.{HandlerDef}
 use Rattle.lucid_core.specs.OutCount.{funs_outs}
-use Rattle.lucid_core.specs.Parts.{Parts}
+use Rattle.lucid_core.specs.Parts.{CoreParts}
 use Rattle.lucid_parse_tree.specs.declared.tree.DeclKind.{DeclKind}
 use Rattle.lucid_parse_tree.specs.declared.tree.Tree.{Tree}
 use Rattle.lucid_types_rules.specs.Limits.{body_of, passed}
@@ -13,7 +13,7 @@ use Rattle.lucid_types_rules.specs.Makes.{IsTyped}
 use Rattle.lucid_types_limits.specs.NewPart.{array_passes, event_passes, fun_passes, handler_passes}
 
 -- The limit that any declaration passes which makes this behind what was made before. Memops and texts have no limit.
-pub record NewAlone (m : Parts) : Type 0 where
+pub record NewAlone (m : CoreParts) : Type 0 where
   pub nothing : (x : DeclKind) → body_of x ≡ [] → passed x m ≡ None
   pub array : (x : DeclKind) (a : ArrayDef) → body_of x ≡ [] → passed x (record m { arrays = m.arrays ++ a ∷ [] }) ≡ array_passes (length m.arrays + 1)
   pub event : (x : DeclKind) (e : EventDef) → body_of x ≡ [] → passed x (record m { events = m.events ++ e ∷ [] }) ≡ event_passes e
@@ -25,4 +25,4 @@ pub record NewAlone (m : Parts) : Type 0 where
 
 -- What was made before is typed. So no limit was passed, and handlers call functions that were made, whose outs are not changed by others.
 abbrev pub OnlyTheNew : Type 0
-OnlyTheNew = (tree : Tree) (m : Parts) → IsTyped tree m → NewAlone m
+OnlyTheNew = (tree : Tree) (m : CoreParts) → IsTyped tree m → NewAlone m

@@ -24,7 +24,7 @@ use Rattle.lucid_types_rules.specs.declared.scope.ValueType.{ValueType}
 use Rattle.lucid_types_rules.specs.declared.scope.ValueType.TheVariants.{Int}
 use Rattle.lucid_types_rules.specs.Block.{Block, Numbered}
 use Rattle.lucid_types_rules.specs.Block as block
-use Rattle.lucid_types_rules.specs.Declaration.{Declared, Made, Sized}
+use Rattle.lucid_types_rules.specs.Declaration.{Declared, Definitions, Sized}
 use Rattle.lucid_types_rules.specs.Declaration as rule
 use Rattle.lucid_types_rules.specs.Memop.{MemopBody, Returned, memop_names}
 use Rattle.lucid_types_rules.specs.Memop as memop
@@ -38,31 +38,31 @@ use Rattle.lucid_types_rules.proofs.RefusedStatements.{bool_only, width_of_int}
 
 -- ---- what the rule of each kind asks
 
-constant_is : {number line : ℕ} {m : Made} {t : Ty} {n : List ℕ} {v : ℕ} {l : Made} → Declared number line m (d.Const t n v) l → (w : ℕ) × Means t (Int w) × (v < 2 ^ w)
+constant_is : {number line : ℕ} {m : Definitions} {t : Ty} {n : List ℕ} {v : ℕ} {l : Definitions} → Declared number line m (d.Const t n v) l → (w : ℕ) × Means t (Int w) × (v < 2 ^ w)
 constant_is (rule.constant t w n v ok fits) = (w, ok, fits)
 
-global_is : {number line : ℕ} {m : Made} {short : Bool} {w : ℕ} {n : List ℕ} {size : Size} {l : Made} → Declared number line m (d.Global short w n size) l →
+global_is : {number line : ℕ} {m : Definitions} {short : Bool} {w : ℕ} {n : List ℕ} {size : Size} {l : Definitions} → Declared number line m (d.Global short w n size) l →
     IsWidth w × ((k : ℕ) × Sized m.names size k × (1 ≤ k) × (k ≤ 65536))
 global_is (rule.global short w n size k ok is low high) = (ok, (k, is, low, high))
 
-memop_is : {number line : ℕ} {m : Made} {t u : Ty} {n first second : List ℕ} {body : List S} {l : Made} → Declared number line m (d.Memop n (t, first) (u, second) body) l →
+memop_is : {number line : ℕ} {m : Definitions} {t u : Ty} {n first second : List ℕ} {body : List S} {l : Definitions} → Declared number line m (d.Memop n (t, first) (u, second) body) l →
     (w : ℕ) × Means t (Int w) × Means u (Int w) × ((steps : List Stmt) × MemopBody (memop_names w first second m.names) w body steps)
 memop_is (rule.memop t u w n first second body steps alu one two of shape) = (w, one, two, (steps, of))
 
-event_is : {number line : ℕ} {m : Made} {n : List ℕ} {ps : List P} {l : Made} → Declared number line m (d.Event n ps) l → (ws : List ℕ) × (s : Names) × Parameters 0 0 m.names ps (ints ws) s
+event_is : {number line : ℕ} {m : Definitions} {n : List ℕ} {ps : List P} {l : Definitions} → Declared number line m (d.Event n ps) l → (ws : List ℕ) × (s : Names) × Parameters 0 0 m.names ps (ints ws) s
 event_is (rule.event n ps ws s of) = (ws, s, of)
 
-handle_is : {number line : ℕ} {m : Made} {n : List ℕ} {ps : List P} {body : List S} {l : Made} → Declared number line m (d.Handle n ps body) l →
+handle_is : {number line : ℕ} {m : Definitions} {n : List ℕ} {ps : List P} {body : List S} {l : Definitions} → Declared number line m (d.Handle n ps body) l →
     (i : ℕ) × (ws : List ℕ) × (seen n m.names ≡ Some (entry.Event i ws)) × ((e : EventDef) × (slice_get m.events i ≡ Some e) × (e.handler ≡ None))
     × ((s : Names) × Parameters 0 0 m.names ps (ints ws) s)
 handle_is (rule.handle n ps body i ws e s b k is there free params of) = (i, ws, is, (e, there, free), (s, params))
 
-fun_is : {number line : ℕ} {m : Made} {a : Option Ty} {n : List ℕ} {ps : List P} {body : List S} {l : Made} → Declared number line m (d.Fun a n ps body) l →
+fun_is : {number line : ℕ} {m : Definitions} {a : Option Ty} {n : List ℕ} {ps : List P} {body : List S} {l : Definitions} → Declared number line m (d.Fun a n ps body) l →
     (t : Option ValueType) × (qs : List Param) × (s : Names) × (b : Body) × Answers a t b.ending × Parameters 0 0 m.names ps qs s
     × ((m : Numbered) × (k : Numbered) × Block t s m body b k)
 fun_is (rule.fun a n ps body t qs s b k answers params of) = (t, qs, s, b, answers, params, (_, k, of))
 
-group_is : {number line : ℕ} {m : Made} {n members : List ℕ} {l : Made} → Declared number line m (d.Group n members) l → are_members members ≡ true
+group_is : {number line : ℕ} {m : Definitions} {n members : List ℕ} {l : Definitions} → Declared number line m (d.Group n members) l → are_members members ≡ true
 group_is (rule.group n members ok) = ok
 
 -- ---- their parts

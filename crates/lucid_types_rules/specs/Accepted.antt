@@ -20,7 +20,7 @@ use Rattle.lucid_types_rules.specs.Block.{Block, Numbered, if_of}
 use Rattle.lucid_core.specs.declared.defs.EventDef.{EventDef}
 use Rattle.lucid_core.specs.declared.defs.FunDef.{FunDef}
 use Rattle.lucid_core.specs.ExamplePrograms.{array, assign, generate, number, plus, say}
-use Rattle.lucid_core.specs.Parts.{Parts}
+use Rattle.lucid_core.specs.Parts.{CoreParts}
 use Rattle.lucid_parse_tree.specs.declared.tree.A.TheVariants as a
 use Rattle.lucid_parse_tree.specs.declared.tree.DeclKind.{DeclKind}
 use Rattle.lucid_parse_tree.specs.declared.tree.DeclKind.TheVariants as d
@@ -169,7 +169,7 @@ pub record SentEvents : Type 0 where
 
 -- ---- limits
 
-abbrev pub nothing : Parts
+abbrev pub nothing : CoreParts
 nothing = parts_of start
 
 abbrev pub event_of : ℕ → EventDef

@@ -11,7 +11,7 @@ use Rattle.lucid_core.specs.declared.defs.FunDef.{FunDef}
 use Rattle.lucid_core.specs.declared.defs.HandlerDef.{HandlerDef}
 use Rattle.lucid_core.specs.declared.defs.MemopDef.{MemopDef}
 use Rattle.lucid_core.specs.Limits.{are_members}
-use Rattle.lucid_core.specs.Parts.{Parts, made_of}
+use Rattle.lucid_core.specs.Parts.{CoreParts, made_of}
 use Rattle.lucid_memop.specs.Shape.{Shaped}
 use Rattle.lucid_parse_tree.specs.declared.tree.DeclKind.{DeclKind}
 use Rattle.lucid_parse_tree.specs.declared.tree.DeclKind.TheVariants as d
@@ -31,7 +31,7 @@ use Rattle.lucid_types_rules.specs.Names.{Names, called, seen}
 use Rattle.lucid_types_rules.specs.Types.{Answers, IsWidth, Means, Parameters, answer_width, cell_widths, ints, value_widths}
 
 -- What declarations make: the names in scope behind them, and the parts of a core.
-pub record Made : Type 0 where
+pub record Definitions : Type 0 where
   pub names : Names
   pub arrays : List ArrayDef
   pub memops : List MemopDef
@@ -40,10 +40,10 @@ pub record Made : Type 0 where
   pub handlers : List HandlerDef
   pub forms : List (List ℕ)
 
-abbrev pub start : Made
+abbrev pub start : Definitions
 start = record { names = []; arrays = []; memops = []; events = []; funs = []; handlers = []; forms = [] }
 
-abbrev pub parts_of : Made → Parts
+abbrev pub parts_of : Definitions → CoreParts
 parts_of m = made_of m.arrays m.memops m.events m.funs m.handlers m.forms
 
 -- An array's size: written, or a constant.
@@ -52,7 +52,7 @@ pub data Sized (s : Names) : Size → ℕ → Type 0 where
   constant : (n : List ℕ) (b : Bits) → seen n s ≡ Some (entry.Constant b) → Sized s (size.Named n) b.value
 
 -- Declaration `number`, from 1, which begins on this line, makes this behind what was made before.
-pub data Declared (number line : ℕ) (m : Made) : DeclKind → Made → Type 0 where
+pub data Declared (number line : ℕ) (m : Definitions) : DeclKind → Definitions → Type 0 where
   constant : (t : Ty) (w : ℕ) (n : List ℕ) (v : ℕ) → Means t (Int w) → v < 2 ^ w →
       Declared number line m (d.Const t n v) (record m { names = called n (entry.Constant (bits_of w v)) ∷ m.names })
   global : (short : Bool) (w : ℕ) (n : List ℕ) (size : Size) (k : ℕ) → IsWidth w → Sized m.names size k → 1 ≤ k → k ≤ 65536 →

@@ -9,7 +9,7 @@ use Rattle.lucid_core.specs.declared.body.Expr.TheOpen.{Expr-F}
 use Rattle.lucid_core.specs.declared.body.Expr.TheViews.{roll-Expr, roll-Touch}
 use Rattle.lucid_core.specs.declared.body.Stmt.{Stmt}
 use Rattle.lucid_core.specs.ExamplePrograms.{assign, call, choose, local, number, plus, return, say, to_each_after}
-use Rattle.lucid_core.specs.Parts.{Parts}
+use Rattle.lucid_core.specs.Parts.{CoreParts}
 use Rattle.lucid_parse_tree.specs.declared.tree.A.TheVariants as a
 use Rattle.lucid_parse_tree.specs.declared.tree.DeclKind.TheVariants as d
 use Rattle.lucid_parse_tree.specs.declared.tree.E.{E}
@@ -119,7 +119,7 @@ pkt_steps =
     ∷ [])
     ∷ []
 
-abbrev pub worked_core : Parts
+abbrev pub worked_core : CoreParts
 worked_core = record {
   arrays = record { name = codes "seen"; width = 32; size = 10 } ∷ [];
   memops = record { name = codes "plus"; alu = plus } ∷ [];

@@ -4,7 +4,7 @@ use Rattle.std.specs.List.{list_all}
 use Rattle.std.specs.Option.{option_map_or}
 use Rattle.lucid_core.specs.Numbers.{all_hold}
 use Rattle.lucid_core.specs.OutCount.{outs_are_few}
-use Rattle.lucid_core.specs.Parts.{Parts}
+use Rattle.lucid_core.specs.Parts.{CoreParts}
 use Rattle.lucid_core.specs.Few.{arguments_are_few}
 use Rattle.lucid_parse_tree.specs.declared.tree.DeclKind.{DeclKind}
 use Rattle.lucid_parse_tree.specs.declared.tree.DeclKind.TheVariants as d
@@ -40,7 +40,7 @@ body_of x = []
 -- ---- all limits
 
 -- In the order in which they are tried, each with whether it is kept by all that was made, this declaration the last.
-abbrev pub limits : DeclKind → Parts → List (What × Bool)
+abbrev pub limits : DeclKind → CoreParts → List (What × Bool)
 limits x m =
     (what.Arrays, nat_le (length m.arrays) 64)
     ∷ (what.ArrayParameters, list_all (λ f. nat_le (length f.arrays) 8) m.funs)
@@ -55,5 +55,5 @@ first_passed [] = None
 first_passed (l ∷ ls) = if l.1 then first_passed ls else Some l.0
 
 -- The limit that the declaration passes, the first of several.
-abbrev pub passed : DeclKind → Parts → Option What
+abbrev pub passed : DeclKind → CoreParts → Option What
 passed x m = first_passed (limits x m)

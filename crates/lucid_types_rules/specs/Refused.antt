@@ -27,7 +27,7 @@ use Rattle.lucid_types_rules.specs.declared.scope.ValueType.{ValueType}
 use Rattle.lucid_types_rules.specs.declared.scope.ValueType.TheVariants.{Int}
 use Rattle.lucid_types_rules.specs.declared.scope.ValueType.TheVariants as vt
 use Rattle.lucid_types_rules.specs.Block.{Block, Numbered, if_of}
-use Rattle.lucid_types_rules.specs.Declaration.{Declared, Made, start}
+use Rattle.lucid_types_rules.specs.Declaration.{Declared, Definitions, start}
 use Rattle.lucid_types_rules.specs.Examples.{int, int_of, name}
 use Rattle.lucid_types_rules.specs.Names.{Names, called}
 use Rattle.lucid_types_rules.specs.Typed.{Typed, returning}
@@ -144,7 +144,7 @@ pub record RefusedStatements : Type 0 where
 -- ---- declarations
 
 -- Event `out` has no handler yet, `done` has one.
-abbrev pub before : Made
+abbrev pub before : Definitions
 before = record start {
   names = top;
   events = record { name = codes "out"; params = 32 ∷ []; handler = None }
@@ -153,7 +153,7 @@ before = record start {
 }
 
 abbrev pub NoRule : DeclKind → Type 0
-NoRule x = (l : Made) → Declared 1 1 before x l → ⊥
+NoRule x = (l : Definitions) → Declared 1 1 before x l → ⊥
 
 pub record RefusedDeclarations : Type 0 where
   pub constant_fits : NoRule (d.Const (int_of 8) (codes "x") 256)

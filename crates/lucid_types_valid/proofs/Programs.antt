@@ -16,7 +16,7 @@ use Rattle.lucid_core.specs.Events.{event_params}
 use Rattle.lucid_core.specs.Limits.{is_between}
 use Rattle.lucid_core.specs.Numbers.{are_in, is_in, places}
 use Rattle.lucid_core.specs.OutCount.{outs_are_few}
-use Rattle.lucid_core.specs.Parts.{Parts}
+use Rattle.lucid_core.specs.Parts.{CoreParts}
 use Rattle.lucid_core.specs.Uses.{body_uses}
 use Rattle.lucid_core.specs.Valid.{IsValid}
 use Rattle.lucid_core.proofs.Grown.{get_last}
@@ -38,7 +38,7 @@ use Rattle.lucid_types_rules.specs.declared.scope.Entry.TheVariants as entry
 use Rattle.lucid_types_rules.specs.declared.scope.Param.{Param}
 use Rattle.lucid_types_rules.specs.declared.scope.ValueType.{ValueType}
 use Rattle.lucid_types_rules.specs.Block.{Block, Numbered}
-use Rattle.lucid_types_rules.specs.Declaration.{Declared, Made, parts_of, start}
+use Rattle.lucid_types_rules.specs.Declaration.{Declared, Definitions, parts_of, start}
 use Rattle.lucid_types_rules.specs.Declaration as rule
 use Rattle.lucid_types_rules.specs.Limits.{first_passed, limits, passed}
 use Rattle.lucid_types_rules.specs.Makes.{Makes}
@@ -59,25 +59,25 @@ use Rattle.lucid_types_valid.proofs.Tops.{Few, Tops, TopHolds, TopsGrow, TopSuit
 
 -- ---- lists of bodies
 
-funs_end : (q : Parts) (before fs : List FunDef) (f : FunDef) → KeepFuns false q before fs → KeepsFun false q (before ++ fs) f → KeepFuns false q before (fs ++ f ∷ [])
+funs_end : (q : CoreParts) (before fs : List FunDef) (f : FunDef) → KeepFuns false q before fs → KeepsFun false q (before ++ fs) f → KeepFuns false q before (fs ++ f ∷ [])
 funs_end q before [] f all keeps = (subst (λ (gs : List FunDef). KeepsFun false q gs f) (append-nil before) keeps, tt)
 funs_end q before (g ∷ fs) f all keeps =
     (all.0, funs_end q (before ++ g ∷ []) fs f all.1 (subst (λ (gs : List FunDef). KeepsFun false q gs f) (sym (append_assoc before (g ∷ []) fs)) keeps))
 
-handlers_end : (q : Parts) (hs : List HandlerDef) (h : HandlerDef) → KeepHandlers false q hs → KeepsHandler false q h → KeepHandlers false q (hs ++ h ∷ [])
+handlers_end : (q : CoreParts) (hs : List HandlerDef) (h : HandlerDef) → KeepHandlers false q hs → KeepsHandler false q h → KeepHandlers false q (hs ++ h ∷ [])
 handlers_end q [] h all keeps = (keeps, tt)
 handlers_end q (g ∷ hs) h all keeps = (all.0, handlers_end q hs h all.1 keeps)
 
 -- ---- what is made grows
 
-abbrev tops : Parts → Tops
+abbrev tops : CoreParts → Tops
 tops q = record { arrays = map (λ (a : ArrayDef). a.width) q.arrays; events = map (λ (e : EventDef). e.params) q.events; funs = q.funs }
 
-record Steps (m l : Made) : Type 0 where
+record Steps (m l : Definitions) : Type 0 where
   grow : TopsGrow (tops (parts_of m)) (tops (parts_of l))
   forms : Grows m.forms l.forms
 
-steps : {number line : ℕ} {m l : Made} {x : DeclKind} → Declared number line m x l → Steps m l
+steps : {number line : ℕ} {m l : Definitions} {x : DeclKind} → Declared number line m x l → Steps m l
 steps {m = m} (rule.constant t w n v ok fits) = record { grow = same_tops (tops (parts_of m)); forms = λ i x h. h }
 steps {m = m} (rule.global short w n size k ok is low high) = record {
   grow = record { arrays = grows_map (λ (a : ArrayDef). a.width) m.arrays _ (grows_end m.arrays _); events = λ i x h. h; funs = λ i x h. h };
@@ -103,12 +103,12 @@ steps {m = m} (rule.fun a n ps body t qs s b k answers params of) = record {
 steps {m = m} (rule.group n members ok) = record { grow = same_tops (tops (parts_of m)); forms = λ i x h. h }
 
 -- A program that has all that was made.
-record Extends (m : Made) (q : Parts) : Type 0 where
+record Extends (m : Definitions) (q : CoreParts) : Type 0 where
   grow : TopsGrow (tops (parts_of m)) (tops q)
   forms : Grows m.forms q.forms
   few : Few (tops q)
 
-extends_before : {m l : Made} (q : Parts) → Steps m l → Extends l q → Extends m q
+extends_before : {m l : Definitions} (q : CoreParts) → Steps m l → Extends l q → Extends m q
 extends_before q s e = record {
   grow = record {
     arrays = λ i x h. e.grow.arrays i x (s.grow.arrays i x h);
@@ -122,7 +122,7 @@ extends_before q s e = record {
 -- ---- one body
 
 -- The names of a body, at its place in a program that has what its names at the top stand for.
-body_suits : (m : Made) (t : Tops) (arrays locals : List ℕ) (forms : List (List ℕ)) (known : List ℕ) {ps : List P} {qs : List Param} {s : Names} →
+body_suits : (m : Definitions) (t : Tops) (arrays locals : List ℕ) (forms : List (List ℕ)) (known : List ℕ) {ps : List P} {qs : List Param} {s : Names} →
     TopSuits (tops (parts_of m)) m.names → TopsGrow (tops (parts_of m)) t → (few : Few t) → Parameters 0 0 m.names ps qs s →
     Grows (value_widths qs) locals → known ≡ places (value_widths qs) → Grows (cell_widths qs) arrays → Suits (place t arrays locals forms known) s
 body_suits m t arrays locals forms known names grow few params vs ks cs =
@@ -138,9 +138,9 @@ always : {a : Option Ty} {t : Option ValueType} {r : Ending} → Answers a t r �
 always (types.void r) h = absurd (cc)
 always (types.value t v of) h = refl
 
-fun_keeps : (number line : ℕ) (m : Made) (n : List ℕ) (b : Body) (k : Numbered) {a : Option Ty} {t : Option ValueType} {ps : List P} {qs : List Param} {s : Names} {body : List S} →
+fun_keeps : (number line : ℕ) (m : Definitions) (n : List ℕ) (b : Body) (k : Numbered) {a : Option Ty} {t : Option ValueType} {ps : List P} {qs : List Param} {s : Names} {body : List S} →
     TopSuits (tops (parts_of m)) m.names → Answers a t b.ending → Parameters 0 0 m.names ps qs s → Block t s (record { locals = value_widths qs; forms = m.forms }) body b k →
-    (q : Parts) → TopsGrow (tops (parts_of m)) (record (tops q) { funs = m.funs }) → Grows k.forms q.forms → Few (tops q) →
+    (q : CoreParts) → TopsGrow (tops (parts_of m)) (record (tops q) { funs = m.funs }) → Grows k.forms q.forms → Few (tops q) →
     KeepsFun false q m.funs (record { name = n; arrays = cell_widths qs; params = length (value_widths qs); locals = k.locals; answer = answer_width t; body = b.steps; decl = number; line = line })
 fun_keeps number line m n b k {qs = qs} names answers params of q grow forms few =
     let vs = value_widths qs in
@@ -169,9 +169,9 @@ no_arrays : (ws : List ℕ) → cell_widths (ints ws) ≡ []
 no_arrays [] = refl
 no_arrays (w ∷ ws) = no_arrays ws
 
-handler_keeps : (number line : ℕ) (m : Made) (i : ℕ) (ws : List ℕ) (b : Body) (k : Numbered) {ps : List P} {s : Names} {body : List S} →
+handler_keeps : (number line : ℕ) (m : Definitions) (i : ℕ) (ws : List ℕ) (b : Body) (k : Numbered) {ps : List P} {s : Names} {body : List S} →
     TopSuits (tops (parts_of m)) m.names → Parameters 0 0 m.names ps (ints ws) s → Block None s (record { locals = ws; forms = m.forms }) body b k →
-    (q : Parts) → TopsGrow (tops (parts_of m)) (tops q) → Grows k.forms q.forms → Few (tops q) → slice_get (tops q).events i ≡ Some ws →
+    (q : CoreParts) → TopsGrow (tops (parts_of m)) (tops q) → Grows k.forms q.forms → Few (tops q) → slice_get (tops q).events i ≡ Some ws →
     KeepsHandler false q (record { event = i; locals = k.locals; body = b.steps; decl = number; line = line })
 handler_keeps number line m i ws b k names params of q grow forms few there =
     let longer = (block_grows of).locals in
@@ -190,10 +190,10 @@ handler_keeps number line m i ws b k names params of q grow forms few there =
 
 -- ---- what holds all along
 
-record Stands (number : ℕ) (m : Made) : Type 0 where
+record Stands (number : ℕ) (m : Definitions) : Type 0 where
   names : TopSuits (tops (parts_of m)) m.names
-  funs : (q : Parts) → Extends m q → KeepFuns false q [] m.funs
-  handlers : (q : Parts) → Extends m q → KeepHandlers false q m.handlers
+  funs : (q : CoreParts) → Extends m q → KeepFuns false q [] m.funs
+  handlers : (q : CoreParts) → Extends m q → KeepHandlers false q m.handlers
   handled : Handled m.events m.handlers
   handles : Handles m.events m.handlers
   memops : list_all (λ d. memop_fits d.alu) m.memops ≡ true
@@ -212,12 +212,12 @@ begun = record {
   counted = record { first = omega arith; funs_rise = refl; handlers_rise = refl; funs_before = refl; handlers_before = refl; apart = refl };
 }
 
-module _ {number : ℕ} {m l : Made} (s : Steps m l) (inv : Stands number m) where
+module _ {number : ℕ} {m l : Definitions} (s : Steps m l) (inv : Stands number m) where
   -- What was made before keeps the rules in every program that has what is made now.
-  old_funs : (q : Parts) → Extends l q → KeepFuns false q [] m.funs
+  old_funs : (q : CoreParts) → Extends l q → KeepFuns false q [] m.funs
   old_funs q ext = inv.funs q (extends_before q s ext)
 
-  old_handlers : (q : Parts) → Extends l q → KeepHandlers false q m.handlers
+  old_handlers : (q : CoreParts) → Extends l q → KeepHandlers false q m.handlers
   old_handlers q ext = inv.handlers q (extends_before q s ext)
 
   old_names : TopSuits (tops (parts_of l)) m.names
@@ -226,7 +226,7 @@ module _ {number : ℕ} {m l : Made} (s : Steps m l) (inv : Stands number m) whe
   one_name : (n : List ℕ) (d : Entry) → TopHolds (tops (parts_of l)) d → TopSuits (tops (parts_of l)) (called n d ∷ m.names)
   one_name n d h = top_more (tops (parts_of m)) (tops (parts_of l)) m.names n d s.grow inv.names h
 
-one_more : {number line : ℕ} {m l : Made} {x : DeclKind} → Declared number line m x l → Steps m l → Stands number m → Stands (number + 1) l
+one_more : {number line : ℕ} {m l : Definitions} {x : DeclKind} → Declared number line m x l → Steps m l → Stands number m → Stands (number + 1) l
 one_more {number} {m = m} (rule.constant t w n v ok fits) s inv = record {
   names = one_name s inv n _ tt;
   funs = old_funs s inv;
@@ -315,7 +315,7 @@ one_more {number} {m = m} (rule.group n members ok) s inv = record {
 
 -- ---- limits
 
-record Within (q : Parts) : Type 0 where
+record Within (q : CoreParts) : Type 0 where
   arrays : nat_le (length q.arrays) 64 ≡ true
   array_params : list_all (λ (f : FunDef). nat_le (length f.arrays) 8) q.funs ≡ true
   event_params : list_all (λ (e : EventDef). nat_le (length e.params) 8) q.events ≡ true
@@ -329,7 +329,7 @@ all_kept [] none = refl
 all_kept ((w, true) ∷ ls) none = all_kept ls none
 all_kept ((w, false) ∷ ls) none = absurd (cc)
 
-within : (x : DeclKind) (q : Parts) → passed x q ≡ None → Within q
+within : (x : DeclKind) (q : CoreParts) → passed x q ≡ None → Within q
 within x q none =
     let a = and_parts _ _ (all_kept (limits x q) none) in
     let b = and_parts _ _ a.1 in
@@ -342,11 +342,11 @@ within x q none =
 
 -- ---- the law
 
-stands : {number : ℕ} {m k : Made} {xs : List Decl} → Makes number m xs k → Stands number m → Within (parts_of m) → (n : ℕ) × Stands n k × Within (parts_of k)
+stands : {number : ℕ} {m k : Definitions} {xs : List Decl} → Makes number m xs k → Stands number m → Within (parts_of m) → (n : ℕ) × Stands n k × Within (parts_of k)
 stands (made.done number m) inv limits = (number, inv, limits)
 stands (made.one_more number m l k x xs of kept rest) inv limits = stands rest (one_more of (steps of) inv) (within x.kind (parts_of l) kept)
 
-built : (number : ℕ) (m : Made) → Stands number m → Within (parts_of m) → IsBuilt false (parts_of m)
+built : (number : ℕ) (m : Definitions) → Stands number m → Within (parts_of m) → IsBuilt false (parts_of m)
 built number m inv limits =
     let q = parts_of m in
     let ext : Extends m q = record {

@@ -1,5 +1,5 @@
 use Rattle.std.proofs.Common.{◌≡◌, ◌+◌, ◌*◌, ◌≤◌, length, take, []}
-use Rattle.lucid_core.specs.Parts.{Parts}
+use Rattle.lucid_core.specs.Parts.{CoreParts}
 use Rattle.lucid_core.specs.Valid.{IsSound}
 use Rattle.lucid_effects_order.specs.Order.{fun_bodies}
 use Rattle.lucid_effects_order.specs.Size.{fun_nodes}
@@ -12,5 +12,5 @@ abbrev pub invariant-loop-f : goal.invariant-loop-f
 invariant-loop-f g l = record {
   schemes : l.schemes.items ≡ schemes_of (take l.f-index l.funs);
   first : IsFirst l.arrays (fun_bodies [] (take l.f-index l.funs)) l.first;
-  most : (parts : Parts) → IsSound parts → parts.funs ≡ l.funs → length parts.arrays ≡ l.arrays → l.steps ≤ l.fn.steps + fun_nodes (take l.f-index l.funs) * steps_a_node l.arrays;
+  most : (parts : CoreParts) → IsSound parts → parts.funs ≡ l.funs → length parts.arrays ≡ l.arrays → l.steps ≤ l.fn.steps + fun_nodes (take l.f-index l.funs) * steps_a_node l.arrays;
 }

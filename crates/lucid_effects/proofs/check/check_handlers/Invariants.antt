@@ -1,6 +1,6 @@
 use Rattle.std.proofs.Common.{◌≡◌, ◌++◌, List, take, ◌+◌, ◌*◌, ◌≤◌, length}
 use Rattle.lucid_core.specs.declared.defs.FunDef.{FunDef}
-use Rattle.lucid_core.specs.Parts.{Parts}
+use Rattle.lucid_core.specs.Parts.{CoreParts}
 use Rattle.lucid_core.specs.Valid.{IsSound}
 use Rattle.lucid_effects_order.specs.Size.{handler_nodes}
 use Rattle.lucid_effects_schemes.specs.Laws.{steps_a_node}
@@ -13,5 +13,5 @@ abbrev pub invariant-loop-h : goal.invariant-loop-h
 invariant-loop-h g l = record {
   schemes : l.schemes.items ≡ l.initial.schemes.items ++ handler_schemes l.initial.schemes.items (take l.h-index l.handlers);
   first : (funs : List FunDef) → l.initial.schemes.items ≡ schemes_of funs → (bs : List Body) → IsFirst l.arrays bs l.initial.first → IsFirst l.arrays (bs ++ handler_bodies funs (take l.h-index l.handlers)) l.first;
-  most : (parts : Parts) → IsSound parts → l.initial.schemes.items ≡ schemes_of parts.funs → parts.handlers ≡ l.handlers → length parts.arrays ≡ l.arrays → l.steps ≤ l.fn.steps + handler_nodes (take l.h-index l.handlers) * steps_a_node l.arrays;
+  most : (parts : CoreParts) → IsSound parts → l.initial.schemes.items ≡ schemes_of parts.funs → parts.handlers ≡ l.handlers → length parts.arrays ≡ l.arrays → l.steps ≤ l.fn.steps + handler_nodes (take l.h-index l.handlers) * steps_a_node l.arrays;
 }

@@ -1,5 +1,5 @@
 use Rattle.std.proofs.Common.{◌≡◌, sym, subst}
-use Rattle.lucid_core.specs.Parts.{Parts}
+use Rattle.lucid_core.specs.Parts.{CoreParts}
 use Rattle.lucid_inline_form.specs.Flat.{flat_of}
 use Rattle.lucid_effects_order.specs.Order.{IsAccepted}
 use Rattle.lucid_inline.proofs.Accepted.{flat_is_accepted}
@@ -8,4 +8,4 @@ use Rattle.lucid_inline.proofs.limits.inline.Goals as goal
 pub returns-clause-accepted : goal.returns-clause-accepted
 returns-clause-accepted c = λ accepted.
     let is : c.in_ok-flatten.field-0 ≡ flat_of c.args.core.now = c.in_ok-flatten.ensures in
-    subst (λ (parts : Parts). IsAccepted parts) (sym is) (flat_is_accepted c.args.core.now c.keeps_order.ensures accepted)
+    subst (λ (parts : CoreParts). IsAccepted parts) (sym is) (flat_is_accepted c.args.core.now c.keeps_order.ensures accepted)

@@ -9,7 +9,7 @@ abbrev pub invariant-loop-change : goal.invariant-loop-change
 invariant-loop-change l = record {
   env : with_locals l.env (changes_joined l.at.level l.at.condition (drop l.change-index l.changes) l.env.held l.env.widths)
       ≡ with_locals l.fn.env (changes_joined l.at.level l.at.condition l.changes l.fn.env.held l.fn.env.widths);
-  ops : added l.site.guard.now l.work.ops.items (changes_joined l.at.level l.at.condition (drop l.change-index l.changes) l.env.held l.env.widths).ops
-      ≡ added l.site.guard.now l.fn.work.ops.items (changes_joined l.at.level l.at.condition l.changes l.fn.env.held l.fn.env.widths).ops;
+  ops : added l.context.guard.now l.work.ops.items (changes_joined l.at.level l.at.condition (drop l.change-index l.changes) l.env.held l.env.widths).ops
+      ≡ added l.context.guard.now l.fn.work.ops.items (changes_joined l.at.level l.at.condition l.changes l.fn.env.held l.fn.env.widths).ops;
   back : before l.work.notes.items l.env.held ≡ before l.fn.work.notes.items l.fn.env.held;
 }

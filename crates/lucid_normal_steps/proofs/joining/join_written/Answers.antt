@@ -10,5 +10,5 @@ returns-clause-env c =
 
 pub returns-clause-ops : goal.returns-clause-ops
 returns-clause-ops c =
-    on_ok_weaker c.join_changes.result (λ h. h ∙ joined_ops c.args.at.level c.args.at.condition c.args.site.guard.now c.args.work.now.ops.items c.args.env.now.held c.changes_of.new.held c.args.first
+    on_ok_weaker c.join_changes.result (λ h. h ∙ joined_ops c.args.at.level c.args.at.condition c.args.context.guard.now c.args.work.now.ops.items c.args.env.now.held c.changes_of.new.held c.args.first
     c.args.second c.in_ok-changes.changes.items c.args.env.now.widths c.in_ok-changes.ensures.held c.in_ok-changes.ensures.changes) (rw c.as_slice.ensures.value at c.join_changes.ensures.ops)

@@ -1,7 +1,7 @@
 use Rattle.std.proofs.Common.{◌≡◌, ◌-◌, ◌∷◌, ◌++◌, [], length, sym, ap, ap₂, ◌∙◌, rules, List}
 use Rattle.std.proofs.lemmas.List.{length-set}
 use Rattle.lucid_code.specs.declared.op.Op.{Op}
-use Rattle.lucid_code.specs.Parts.{Parts}
+use Rattle.lucid_code.specs.Parts.{CodeParts}
 use Rattle.lucid_pass.proofs.Running.{stops, one_failed, one_ran, told_as, ap₂_le, on_err}
 use Rattle.lucid_pass.proofs.run.run_passes_told.Goals as goal
 
@@ -37,7 +37,7 @@ returns-in_err-push-clause-stopped g c =
 pub gone-requires : goal.gone-requires
 gone-requires g c =
     let gives = (goal.Pass-dyn g (c.index_mut.result.now.vtable, c.index_mut.result.now.value)).gives c.index_mut.result.now.value in
-    ap₂_le (c.ops.ensures.value ∙ ap (λ (p : Parts). p.ops) c.in_ok-code.ensures.gives) c.ops-before.ensures.value (gives.keeps c.loop-i.code c.ops-before.ensures.valid).few
+    ap₂_le (c.ops.ensures.value ∙ ap (λ (p : CodeParts). p.ops) c.in_ok-code.ensures.gives) c.ops-before.ensures.value (gives.keeps c.loop-i.code c.ops-before.ensures.valid).few
 
 pub loop-i-preserved : goal.loop-i-preserved
 loop-i-preserved g c =

@@ -1,10 +1,10 @@
 use Rattle.std.proofs.Common.{◌≡◌, ℕ, List, length}
-use Rattle.lucid_code.specs.Parts.{Parts}
+use Rattle.lucid_code.specs.Parts.{CodeParts}
 use Rattle.lucid_pass_form.specs.Replace.{Rewrite}
 use Rattle.lucid_pass.proofs.Running.{Ran}
 use Rattle.lucid_pass.proofs.run.run_passes_told.Given as goal
 
-pub record Turn {X : Type 0} (named : X → List ℕ) (gives : X → Rewrite) (count : X → ℕ) (before now : List X) (start code : Parts) (told : List ℕ) (i end : ℕ) : Type 0 where
+pub record Turn {X : Type 0} (named : X → List ℕ) (gives : X → Rewrite) (count : X → ℕ) (before now : List X) (start code : CodeParts) (told : List ℕ) (i end : ℕ) : Type 0 where
   pub long : end ≡ length now
   pub ran : Ran named gives count before now start code told i
 

@@ -11,10 +11,10 @@ returns-in-Ok-clause-audited c = audited-is c.args.limits.now c.args.code c.args
 
 pub returns-in-Ok-clause-stands : goal.returns-in-Ok-clause-stands
 returns-in-Ok-clause-stands c =
-    subst (λ (p : code.Parts). StandsFor p c.args.core.now) (sym c.in-Ok.ensures.ok.code_is) (c.code_stands.ensures.stands c.args.code c.requires.replaces)
+    subst (λ (p : code.CodeParts). StandsFor p c.args.core.now) (sym c.in-Ok.ensures.ok.code_is) (c.code_stands.ensures.stands c.args.code c.requires.replaces)
 
 pub returns-in-Ok-clause-arrays : goal.returns-in-Ok-clause-arrays
-returns-in-Ok-clause-arrays c = ap (λ (p : code.Parts). p.arrays) c.in-Ok.ensures.ok.code_is ∙ c.code_stands.ensures.arrays c.args.code c.requires.replaces
+returns-in-Ok-clause-arrays c = ap (λ (p : code.CodeParts). p.arrays) c.in-Ok.ensures.ok.code_is ∙ c.code_stands.ensures.arrays c.args.code c.requires.replaces
 
 pub returns-in-Ok-clause-stages : goal.returns-in-Ok-clause-stages
 returns-in-Ok-clause-stages c = stages-audited c.args.limits.now c.args.code c.args.plan.now _ c.in-Ok.ensures.ok

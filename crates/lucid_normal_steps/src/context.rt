@@ -9,28 +9,28 @@ use std::alloc::Global;
 
 /// The memory that operations take, and the guard that all of them have, its outermost literal first.
 #[derive(Clone, Copy)]
-pub struct Site<'a> {
+pub struct Context<'a> {
     pub alloc: Global,
     pub guard: &'a [Literal],
 }
 
 /// An operation of this level.
-pub fn put(site: Site, ops: &mut Vec<Op>, level: u32, act: Act) -> Result<(), Memory>
-    ensures { OnOk result (ops.new.items ≡ added site.entry.guard.now ops.old.items (op_of level act ∷ [])) }
+pub fn put(context: Context, ops: &mut Vec<Op>, level: u32, act: Act) -> Result<(), Memory>
+    ensures { OnOk result (ops.new.items ≡ added context.entry.guard.now ops.old.items (op_of level act ∷ [])) }
 {
     ops.push(Op {
-        guard: Items::from_slice(site.alloc, site.guard)?,
+        guard: Items::from_slice(context.alloc, context.guard)?,
         level,
         act,
     })?;
     Ok(())
 }
 
-/// The guard of the site, and that the field has this value.
-pub fn within(site: Site, field: u32, value: u64) -> Result<Items<Literal>, Memory>
-    ensures { IfOk result (λ guard. guard ≡ site.entry.guard.now ++ record { field = field; equal = true; value = value } ∷ []) }
+/// The guard of all operations here, and that the field has this value.
+pub fn within(context: Context, field: u32, value: u64) -> Result<Items<Literal>, Memory>
+    ensures { IfOk result (λ guard. guard ≡ context.entry.guard.now ++ record { field = field; equal = true; value = value } ∷ []) }
 {
-    let mut guard = Items::from_slice(site.alloc, site.guard)?;
+    let mut guard = Items::from_slice(context.alloc, context.guard)?;
     guard.push(Literal {
         field,
         equal: true,
