@@ -4,6 +4,7 @@
 // lucid_types_valid for what the rules say of the whole.
 #![tactic(auto)]
 
+mod depth;
 mod error;
 mod limit;
 mod parts;

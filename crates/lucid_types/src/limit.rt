@@ -4,6 +4,7 @@ ghost use Rattle.std.specs.Option.{option_copied};
 ghost use Rattle.lucid_types_declarations.specs.Known.{made_of};
 ghost use Rattle.lucid_types.specs.Answers.{Judges};
 
+use crate::depth::{MOST, stand_within};
 use lucid_base::Memory;
 use lucid_parse_tree::DeclKind;
 use lucid_types_declarations::Known;
@@ -17,6 +18,7 @@ pub fn passed(limits: &mut Limits, known: &Known, x: &DeclKind) -> Result<Option
 {
     declarations_are_computed();
     only_the_new_counts();
+    is_shallow(known, x)?;
     match x {
         DeclKind::Const(_, _, _) => Ok(None),
         DeclKind::Global {
@@ -53,6 +55,21 @@ pub fn passed(limits: &mut Limits, known: &Known, x: &DeclKind) -> Result<Option
             None => Ok(None),
         },
         DeclKind::Group(_, _) => Ok(None),
+    }
+}
+
+/// Tells Memory where blocks of this declaration, which made what is known the last, stand too deep in one another.
+fn is_shallow(known: &Known, x: &DeclKind) -> Result<(), Memory> {
+    match x {
+        DeclKind::Handle { .. } => match newest(&known.handlers) {
+            Some(handler) => stand_within(MOST, handler.body.as_slice()),
+            None => Ok(()),
+        },
+        DeclKind::Fun { .. } => match newest(&known.funs) {
+            Some(fun) => stand_within(MOST, fun.body.as_slice()),
+            None => Ok(()),
+        },
+        _ => Ok(()),
     }
 }
 
