@@ -13,7 +13,7 @@ use Rattle.lucid_audit.specs.declared.plan.PlanKey.TheVariants as key
 use Rattle.lucid_audit.specs.Audit.{pairs_of}
 use Rattle.lucid_audit.specs.Audit as audit
 use Rattle.lucid_audit.specs.Laws.{AuditsAreOne}
-use Rattle.lucid_audit.specs.PlanFile.{Answers, Reading, Refuses, plan_read}
+use Rattle.lucid_audit.specs.PlanFile.{Answers, OrKey, Refuses, plan_read}
 use Rattle.lucid_audit.specs.Refused as refused
 use Rattle.lucid_code.specs.Parts as code
 use Rattle.lucid_conf.specs.Answers.{Reads}
@@ -33,20 +33,20 @@ use Rattle.lucid_top_words.specs.Outcome.{Alike, IsTheAnswer, Declines}
 -- ---- files
 
 -- a text has one reading
-one_reading : {A : Type 0} (reading : Data → Reading A) (text : List ℕ) (d e : Data) (p q : Reading A) →
+one_reading : {A : Type 0} (reading : Data → OrKey A) (text : List ℕ) (d e : Data) (p q : OrKey A) →
     Reads text d → reading d ≡ p → Reads text e → reading e ≡ q → p ≡ q
 one_reading reading text d e p q first at_d second at_e =
     let both : Some d ≡ Some e = sym first.1 ∙ second.1 in
     let same : d ≡ e = cc in
     sym at_d ∙ ap reading same ∙ at_e
 
-value_of : {A : Type 0} (x y : A) → ◌≡◌ {A = Reading A} (Ok x) (Ok y) → x ≡ y
+value_of : {A : Type 0} (x y : A) → ◌≡◌ {A = OrKey A} (Ok x) (Ok y) → x ≡ y
 value_of x y same = cc
 
-no_fault : {A : Type 0} (x : A) (k : PlanKey) (place : Option ℕ) → ◌≡◌ {A = Reading A} (Ok x) (Err (k, place)) → ⊥
+no_fault : {A : Type 0} (x : A) (k : PlanKey) (place : Option ℕ) → ◌≡◌ {A = OrKey A} (Ok x) (Err (k, place)) → ⊥
 no_fault x k place same = cc
 
-fault_of : (A : Type 0) (f g : PlanKey × Option ℕ) → ◌≡◌ {A = Reading A} (Err f) (Err g) → f ≡ g
+fault_of : (A : Type 0) (f g : PlanKey × Option ℕ) → ◌≡◌ {A = OrKey A} (Err f) (Err g) → f ≡ g
 fault_of A f g same = cc
 
 module _ (text : List ℕ) (nodes : ℕ) where
