@@ -10,6 +10,7 @@ pub mod Idle
 mod Loading
 pub mod Moves
 mod OutLists
+mod Parted
 mod Passes
 mod Places
 pub mod Settles

@@ -11,9 +11,9 @@ use Rattle.lucid_base.specs.declared.event.Event.{Event}
 use Rattle.lucid_code.specs.Parts.{CodeParts}
 use Rattle.lucid_tables.specs.Numbers.{is_in, all_differ}
 use Rattle.lucid_tables.specs.Placed.{PlacedParts, stage_of}
-use Rattle.lucid_pipe.specs.declared.block.Block.{Block}
 use Rattle.lucid_pipe.specs.declared.passed.Passed.{Passed}
 use Rattle.lucid_pipe.specs.declared.slots.Slot.{Slot}
+use Rattle.lucid_pipe.specs.Blocks.{Block}
 use Rattle.lucid_pipe.specs.Packets.{Packet, left_by, told, entering}
 use Rattle.lucid_pipe.specs.Pipe.{PipeParts, empty_pipe, packet_at, gone, comes_out, runs_stage, sizes}
 use Rattle.lucid_pipe.specs.Laws.{MovesKeep}
@@ -36,7 +36,7 @@ module _ (placed : PlacedParts) (cells later : List (List ℕ)) (blocks : List B
   pub record Runs : Type 0 where
     pub pipe : IsPipe placed cells blocks slots
     pub taken : block_at slots k ≡ Some b
-    pub was : x ≡ slice_index_or blocks b x
+    pub was : slice_get blocks b ≡ Some x
     pub is : IsBlock placed.code y
     pub packet : packet_of placed.code y ≡ left_by (runs_stage placed.code placed.stages cells k (packet_of placed.code x)) (packet_of placed.code x)
     pub idle : (g : ℕ) → stage_of placed.stages g ≡ None → row_of later g ≡ row_of cells g
@@ -57,7 +57,7 @@ module _ (placed : PlacedParts) (cells later : List (List ℕ)) (blocks : List B
   }
 
   pub found : Runs → packet_at (pipe_of placed cells blocks slots) k ≡ Some (packet_of placed.code x)
-  found r = packet_in placed.code blocks slots k b x (below r) r.was r.taken
+  found r = packet_in placed.code blocks slots k b x r.was r.taken
 
   now_is : Runs → pipe_of placed later (slice_set blocks b y) (handed slots k) ≡ gone (pipe_of placed cells blocks slots) k (packet_of placed.code x)
   now_is r =

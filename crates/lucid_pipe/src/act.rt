@@ -5,14 +5,14 @@ ghost use Rattle.lucid_pipe.specs.Blocks.{on_registers, CanAct};
 
 use crate::read::{arguments, hash, put, target, value};
 use crate::sent::Sent;
-use lucid_base::{Bits, Cells, Event, Items, Out, Width, apply_bin, apply_un, compare};
+use lucid_base::{Bits, Cells, Event, Out, Width, apply_bin, apply_un, compare};
 use lucid_code::Act;
 
 /// Does what an act by register does. Each register has its width.
 pub(crate) fn act(
     widths: &[Width],
     act: &Act,
-    registers: &mut Items<u64>,
+    registers: &mut [u64],
     cells: &mut Cells,
     sent: &mut Sent,
 )
@@ -23,17 +23,17 @@ pub(crate) fn act(
 {
     match act {
         Act::Un(op, width, a, k) => {
-            let a = Bits::low(*width, value(registers.as_slice(), *a));
+            let a = Bits::low(*width, value(registers, *a));
             put(widths, registers, *k, apply_un(*op, a).value);
         }
         Act::Bin(op, width, a, b, k) => {
-            let a = Bits::low(*width, value(registers.as_slice(), *a));
-            let b = Bits::low(*width, value(registers.as_slice(), *b));
+            let a = Bits::low(*width, value(registers, *a));
+            let b = Bits::low(*width, value(registers, *b));
             put(widths, registers, *k, apply_bin(*op, a, b).value);
         }
         Act::Cmp(op, width, a, b, k) => {
-            let a = Bits::low(*width, value(registers.as_slice(), *a));
-            let b = Bits::low(*width, value(registers.as_slice(), *b));
+            let a = Bits::low(*width, value(registers, *a));
+            let b = Bits::low(*width, value(registers, *b));
             put(
                 widths,
                 registers,
@@ -42,15 +42,15 @@ pub(crate) fn act(
             );
         }
         Act::Cast(a, k) => {
-            let v = value(registers.as_slice(), *a);
+            let v = value(registers, *a);
             put(widths, registers, *k, v);
         }
         Act::Hash(xs, k) => {
-            let v = hash(registers.as_slice(), xs.as_slice());
+            let v = hash(registers, xs.as_slice());
             put(widths, registers, *k, v);
         }
         Act::Move(a, k) => {
-            let v = value(registers.as_slice(), *a);
+            let v = value(registers, *a);
             put(widths, registers, *k, v);
         }
         Act::Touch {
@@ -62,9 +62,9 @@ pub(crate) fn act(
             set_arg,
             to,
         } => {
-            let index = value(registers.as_slice(), *index);
-            let get_arg = value(registers.as_slice(), *get_arg);
-            let set_arg = value(registers.as_slice(), *set_arg);
+            let index = value(registers, *index);
+            let get_arg = value(registers, *get_arg);
+            let set_arg = value(registers, *set_arg);
             let stored = cells.get(*array, index);
             cells.set(*array, index, set.apply_low(stored, set_arg).value);
             if let Some(k) = to {
@@ -80,14 +80,14 @@ pub(crate) fn act(
         } => {
             let event = Event {
                 id: *event,
-                args: arguments(registers.as_slice(), args.as_slice()),
+                args: arguments(registers, args.as_slice()),
             };
-            let delay = value(registers.as_slice(), *delay);
-            let to = target(registers.as_slice(), *to);
+            let delay = value(registers, *delay);
+            let to = target(registers, *to);
             sent.put(*slot, Out::Gen { event, delay, to });
         }
         Act::Say { slot, form, args } => {
-            let args = arguments(registers.as_slice(), args.as_slice());
+            let args = arguments(registers, args.as_slice());
             sent.put(*slot, Out::Say { form: *form, args });
         }
     }

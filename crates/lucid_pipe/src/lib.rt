@@ -9,6 +9,7 @@
 
 mod act;
 mod block;
+mod head;
 mod laws;
 mod moving;
 mod passed;

@@ -1,21 +1,18 @@
 // How packets move in the memory of a pipe. A slot has a block whether it is taken or not, so that each slot has one of its own: a packet
 // that moves on hands the number of its block to the next slot and takes back the number that stood there. No field is copied.
 // Contracts see the pipe that the memory stands for.
-ghost use Rattle.std.specs.Prelude.{◌≡◌, ℕ, ◌+◌, ◌<◌, ◌≤◌, ◌↔◌, None, Some, Err, length, nat_lt, if◌then◌else◌, map, slice_set, IsSome, IfOk, OnOk, OnErr, IfSome};
-ghost use Rattle.lucid_base.specs.Cells.{row_of};
-ghost use Rattle.lucid_tables.specs.Placed.{stage_of};
+ghost use Rattle.std.specs.Prelude.{◌≡◌, ◌+◌, ◌<◌, ◌≤◌, ◌↔◌, None, Some, Err, length, nat_lt, if◌then◌else◌, map, slice_set, IsSome, IfOk, OnOk, OnErr, IfSome};
 ghost use Rattle.lucid_pipe.specs.declared.passed.Stuck.TheVariants as stuck;
-ghost use Rattle.lucid_pipe.specs.Packets.{left_by, entering};
-ghost use Rattle.lucid_pipe.specs.Pipe.{packet_at, gone, comes_out, runs_stage};
+ghost use Rattle.lucid_pipe.specs.Packets.{entering};
+ghost use Rattle.lucid_pipe.specs.Pipe.{packet_at, gone, comes_out};
 ghost use Rattle.lucid_pipe.specs.Settled.{settled, with_left, with_pass};
 ghost use Rattle.lucid_pipe.specs.Slots.{block_at};
-ghost use Rattle.lucid_pipe.specs.Views.{packet_of, in_slot, pipe_of, told_by, IsBlock, IsPipe};
+ghost use Rattle.lucid_pipe.specs.Views.{in_slot, pipe_of, told_by, IsPipe};
 
 use crate::Stuck;
-use crate::block::Block;
+use crate::block::Blocks;
 use crate::laws::moves_keep;
 use crate::slots::{Slot, block_at, hand_on};
-use crate::stage::execute;
 use lucid_base::{Cells, Event};
 use lucid_tables::Placed;
 
@@ -23,24 +20,24 @@ use lucid_tables::Placed;
 pub(crate) fn enter(
     placed: &Placed,
     cells: &Cells,
-    blocks: &mut Vec<Block>,
+    blocks: &mut Blocks,
     slots: &mut Vec<Slot>,
     event: Event,
     now: u64,
     me: u32,
 )
-    requires pipe { IsPipe placed.now cells.now blocks.old.items slots.old.items }
+    requires pipe { IsPipe placed.now cells.now blocks.old slots.old.items }
     requires few { length event.args ≤ placed.now.code.inputs.args }
     requires free { block_at slots.old.items 0 ≡ None }
-    ensures pipe { IsPipe placed.now cells.now blocks.new.items slots.new.items }
-    ensures enters { map (in_slot placed.now.code blocks.new.items) slots.new.items
-        ≡ slice_set (map (in_slot placed.now.code blocks.old.items) slots.old.items) 0 (Some (entering placed.now.code event now me)) }
-    ensures settles { settled (pipe_of placed.now cells.now blocks.new.items slots.new.items)
-        ≡ with_pass placed.now event now me (settled (pipe_of placed.now cells.now blocks.old.items slots.old.items)) }
+    ensures pipe { IsPipe placed.now cells.now blocks.new slots.new.items }
+    ensures enters { map (in_slot placed.now.code blocks.new) slots.new.items
+        ≡ slice_set (map (in_slot placed.now.code blocks.old) slots.old.items) 0 (Some (entering placed.now.code event now me)) }
+    ensures settles { settled (pipe_of placed.now cells.now blocks.new slots.new.items)
+        ≡ with_pass placed.now event now me (settled (pipe_of placed.now cells.now blocks.old slots.old.items)) }
 {
     moves_keep(placed);
     let here = slots[0];
-    blocks[here.block].load(placed, event, now, me);
+    blocks.load(here.block, placed, event, now, me);
     slots[0] = Slot {
         block: here.block,
         taken: true,
@@ -51,23 +48,23 @@ pub(crate) fn enter(
 pub(crate) fn go_on(
     placed: &Placed,
     cells: &mut Cells,
-    blocks: &mut Vec<Block>,
+    blocks: &mut Blocks,
     slots: &mut Vec<Slot>,
     k: usize,
 ) -> Result<Option<usize>, Stuck>
-    requires { IsPipe placed.now cells.old blocks.old.items slots.old.items }
-    ensures pipe { IsPipe placed.now cells.new blocks.new.items slots.new.items }
-    ensures empty { (result ≡ Err stuck.Empty) ↔ (packet_at (pipe_of placed.now cells.old blocks.old.items slots.old.items) k ≡ None) }
-    ensures ahead { let old = pipe_of placed.now cells.old blocks.old.items slots.old.items in
+    requires { IsPipe placed.now cells.old blocks.old slots.old.items }
+    ensures pipe { IsPipe placed.now cells.new blocks.new slots.new.items }
+    ensures empty { (result ≡ Err stuck.Empty) ↔ (packet_at (pipe_of placed.now cells.old blocks.old slots.old.items) k ≡ None) }
+    ensures ahead { let old = pipe_of placed.now cells.old blocks.old slots.old.items in
         (result ≡ Err stuck.Ahead) ↔ (IsSome (packet_at old k) × IsSome (packet_at old (k + 1))) }
-    ensures stuck { OnErr result (pipe_of placed.now cells.new blocks.new.items slots.new.items ≡ pipe_of placed.now cells.old blocks.old.items slots.old.items) }
-    ensures goes { let old = pipe_of placed.now cells.old blocks.old.items slots.old.items in
-        OnOk result (IfSome (packet_at old k) (λ p. pipe_of placed.now cells.new blocks.new.items slots.new.items ≡ gone old k p)) }
-    ensures there { IfOk result (λ out. IfSome out (λ number. number < length blocks.new.items)) }
-    ensures out { let old = pipe_of placed.now cells.old blocks.old.items slots.old.items in
-        IfOk result (λ out. IfSome (packet_at old k) (λ p. told_by blocks.new.items out ≡ comes_out old k p)) }
-    ensures settles { IfOk result (λ out. settled (pipe_of placed.now cells.old blocks.old.items slots.old.items)
-        ≡ with_left (told_by blocks.new.items out) (settled (pipe_of placed.now cells.new blocks.new.items slots.new.items))) }
+    ensures stuck { OnErr result (pipe_of placed.now cells.new blocks.new slots.new.items ≡ pipe_of placed.now cells.old blocks.old slots.old.items) }
+    ensures goes { let old = pipe_of placed.now cells.old blocks.old slots.old.items in
+        OnOk result (IfSome (packet_at old k) (λ p. pipe_of placed.now cells.new blocks.new slots.new.items ≡ gone old k p)) }
+    ensures there { IfOk result (λ out. IfSome out (λ number. number < length blocks.new)) }
+    ensures out { let old = pipe_of placed.now cells.old blocks.old slots.old.items in
+        IfOk result (λ out. IfSome (packet_at old k) (λ p. told_by blocks.new out ≡ comes_out old k p)) }
+    ensures settles { IfOk result (λ out. settled (pipe_of placed.now cells.old blocks.old slots.old.items)
+        ≡ with_left (told_by blocks.new out) (settled (pipe_of placed.now cells.new blocks.new slots.new.items))) }
 {
     let Some(number) = block_at(slots.as_slice(), k) else {
         return Err(Stuck::Empty);
@@ -82,25 +79,25 @@ pub(crate) fn go_on(
 fn pass_on(
     placed: &Placed,
     cells: &mut Cells,
-    blocks: &mut Vec<Block>,
+    blocks: &mut Blocks,
     slots: &mut Vec<Slot>,
     k: usize,
     number: usize,
 ) -> Option<usize>
-    requires pipe { IsPipe placed.now cells.old blocks.old.items slots.old.items }
+    requires pipe { IsPipe placed.now cells.old blocks.old slots.old.items }
     requires taken { block_at slots.old.items k ≡ Some number }
     requires free { block_at slots.old.items (k + 1) ≡ None }
-    ensures pipe { IsPipe placed.now cells.new blocks.new.items slots.new.items }
-    ensures goes { let old = pipe_of placed.now cells.old blocks.old.items slots.old.items in
-        IfSome (packet_at old k) (λ p. pipe_of placed.now cells.new blocks.new.items slots.new.items ≡ gone old k p) }
-    ensures there { IfSome result (λ number. number < length blocks.new.items) }
-    ensures out { let old = pipe_of placed.now cells.old blocks.old.items slots.old.items in
-        IfSome (packet_at old k) (λ p. told_by blocks.new.items result ≡ comes_out old k p) }
-    ensures settles { settled (pipe_of placed.now cells.old blocks.old.items slots.old.items)
-        ≡ with_left (told_by blocks.new.items result) (settled (pipe_of placed.now cells.new blocks.new.items slots.new.items)) }
+    ensures pipe { IsPipe placed.now cells.new blocks.new slots.new.items }
+    ensures goes { let old = pipe_of placed.now cells.old blocks.old slots.old.items in
+        IfSome (packet_at old k) (λ p. pipe_of placed.now cells.new blocks.new slots.new.items ≡ gone old k p) }
+    ensures there { IfSome result (λ number. number < length blocks.new) }
+    ensures out { let old = pipe_of placed.now cells.old blocks.old slots.old.items in
+        IfSome (packet_at old k) (λ p. told_by blocks.new result ≡ comes_out old k p) }
+    ensures settles { settled (pipe_of placed.now cells.old blocks.old slots.old.items)
+        ≡ with_left (told_by blocks.new result) (settled (pipe_of placed.now cells.new blocks.new slots.new.items)) }
 {
     moves_keep(placed);
-    run(placed, k, &mut blocks[number], cells);
+    blocks.run(number, placed, k, cells);
     hand_on(slots, k);
     comes_out(slots.len(), k, number)
 }
@@ -111,19 +108,4 @@ fn comes_out(count: usize, k: usize, number: usize) -> Option<usize>
     ensures { result ≡ (if nat_lt (k + 1) count then None else Some number) }
 {
     if k + 1 < count { None } else { Some(number) }
-}
-
-/// The packet of a block executes stage `k`.
-#[tactic(auto, using(crate::proofs::Idle::idle_stays))]
-fn run(placed: &Placed, k: usize, block: &mut Block, cells: &mut Cells)
-    requires block { IsBlock placed.now.code block.old }
-    requires there { k < length placed.now.stages }
-    ensures block { IsBlock placed.now.code block.new }
-    ensures packet { let before = packet_of placed.now.code block.old in
-        packet_of placed.now.code block.new ≡ left_by (runs_stage placed.now.code placed.now.stages cells.old k before) before }
-    ensures cells { cells.new ≡ (runs_stage placed.now.code placed.now.stages cells.old k (packet_of placed.now.code block.old)).cells }
-    ensures idle { (g : ℕ) → stage_of placed.now.stages g ≡ None → row_of cells.new g ≡ row_of cells.old g }
-{
-    placed.stages();
-    execute(placed, k, &mut block.registers, cells, &mut block.sent);
 }

@@ -14,7 +14,7 @@ ghost use Rattle.lucid_pipe.specs.Pipe.{empty_pipe, packet_at, gone, comes_out, 
 ghost use Rattle.lucid_pipe.specs.Settled.{settled, with_left, with_pass};
 ghost use Rattle.lucid_pipe.specs.Sights.{sight_of, PlacesFall};
 
-use crate::block::{Block, new_blocks, passed};
+use crate::block::Blocks;
 use crate::laws::{moves_as_rows, moves_keep};
 use crate::moving::{enter, go_on};
 use crate::slots::{Slot, block_at, free_slots, places, taken_slots};
@@ -30,7 +30,7 @@ pub struct Pipe<'a> {
     placed: &'a Placed,
     cells: Cells,
     /// As many blocks as slots: the memory of the packets.
-    blocks: Vec<Block>,
+    blocks: Blocks,
     slots: Vec<Slot>,
 }
 
@@ -40,9 +40,9 @@ impl<'a> Model for Pipe<'a> {
 
     ghost Value = { PipeParts };
 
-    ghost view = { λ p. pipe_of p.placed.now p.cells p.blocks.items p.slots.items };
+    ghost view = { λ p. pipe_of p.placed.now p.cells p.blocks p.slots.items };
 
-    ghost invariant = { λ p. IsPipe p.placed.now p.cells p.blocks.items p.slots.items };
+    ghost invariant = { λ p. IsPipe p.placed.now p.cells p.blocks p.slots.items };
 }
 
 impl<'a> Pipe<'a> {
@@ -54,7 +54,7 @@ impl<'a> Pipe<'a> {
     {
         let cells = Cells::zeros(alloc, placed.code().arrays())?;
         let count = placed.stages().len();
-        let blocks = new_blocks(alloc, placed, count)?;
+        let blocks = Blocks::new(alloc, placed, count)?;
         let slots = free_slots(alloc, count)?;
         Ok(Pipe {
             placed,
@@ -118,7 +118,7 @@ impl<'a> Pipe<'a> {
         ) {
             Err(stuck) => Err(stuck),
             Ok(None) => Ok(None),
-            Ok(Some(number)) => Ok(Some(passed(&self.blocks[number]))),
+            Ok(Some(number)) => Ok(Some(self.blocks.passed(number))),
         }
     }
 

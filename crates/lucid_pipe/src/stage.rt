@@ -19,7 +19,7 @@ use lucid_tables::{Placed, Row};
 pub(crate) fn execute(
     placed: &Placed,
     k: usize,
-    registers: &mut Items<u64>,
+    registers: &mut [u64],
     cells: &mut Cells,
     sent: &mut Sent,
 )
@@ -41,7 +41,7 @@ pub(crate) fn execute(
 fn run_all_rows(
     placed: &Placed,
     tables: &[Items<Row>],
-    registers: &mut Items<u64>,
+    registers: &mut [u64],
     cells: &mut Cells,
     sent: &mut Sent,
 )
@@ -59,7 +59,7 @@ fn run_all_rows(
 fn run_rows(
     placed: &Placed,
     rows: &[Row],
-    registers: &mut Items<u64>,
+    registers: &mut [u64],
     cells: &mut Cells,
     sent: &mut Sent,
 )
@@ -69,7 +69,7 @@ fn run_rows(
     ensures long { length registers.new ≡ length registers.old }
 {
     for row in rows {
-        if all_hold(registers.as_slice(), row.pattern.as_slice()) {
+        if all_hold(registers, row.pattern.as_slice()) {
             run_ops(placed, row.ops.as_slice(), registers, cells, sent);
             return;
         }
@@ -89,13 +89,7 @@ fn all_hold(registers: &[u64], pattern: &[Literal]) -> bool
 }
 
 /// The operations of these numbers, one after another.
-fn run_ops(
-    placed: &Placed,
-    ops: &[u32],
-    registers: &mut Items<u64>,
-    cells: &mut Cells,
-    sent: &mut Sent,
-)
+fn run_ops(placed: &Placed, ops: &[u32], registers: &mut [u64], cells: &mut Cells, sent: &mut Sent)
     requires long { length registers.old ≡ length (registers_of placed.now.code) }
     ensures machine { on_registers registers.new cells.new sent.new
         ≡ fold (run_number placed.now.code) (on_registers registers.old cells.old sent.old) ops.now }
@@ -108,13 +102,7 @@ fn run_ops(
 
 /// The operation of this number.
 #[tactic(auto, using(crate::proofs::Carried::can_act_at, crate::proofs::Carried::runs_at, crate::proofs::Carried::runs_past, crate::proofs::Carried::width_each))]
-fn run_op(
-    placed: &Placed,
-    number: u32,
-    registers: &mut Items<u64>,
-    cells: &mut Cells,
-    sent: &mut Sent,
-)
+fn run_op(placed: &Placed, number: u32, registers: &mut [u64], cells: &mut Cells, sent: &mut Sent)
     requires long { length registers.old ≡ length (registers_of placed.now.code) }
     ensures machine { on_registers registers.new cells.new sent.new
         ≡ run_number placed.now.code (on_registers registers.old cells.old sent.old) number }
