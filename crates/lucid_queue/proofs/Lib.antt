@@ -1,4 +1,6 @@
-mod Entries
-mod Firsts
+mod ByKey
 mod InOrder
-mod Places
+mod Lists
+mod Putting
+mod Reaching
+mod Seeking

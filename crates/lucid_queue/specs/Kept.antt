@@ -1,35 +1,38 @@
--- How the queue keeps pending events: each at its place.
-use Rattle.std.specs.Prelude.{ℕ, Bool, false, nat_eq, nat_lt, not, ◌&&◌}
-use Rattle.std.specs.Cmp.{IsTotalOrder, then_total, on_total, nat_cmp_total}
-use Rattle.std.specs.Ordering.{nat_cmp, ordering_then}
-use Rattle.std.specs.declared.cmp.Ordering.{Ordering}
+-- How the queue keeps pending events: at each switch a list of keys and events, in the order of keys.
+use Rattle.std.specs.Prelude.{ℕ, suc, List, [], ◌∷◌, ◌++◌, map, Option, None, Some, Bool, if◌then◌else◌, nat_lt, not}
+use Rattle.std.specs.List.Sorted.{IsStrictlySortedBy}
+use Rattle.std.specs.Map.{keys_of}
+use Rattle.std.specs.Ordering.{is_eq}
 use Rattle.lucid_base.specs.declared.event.Event.{Event}
-use Rattle.lucid_queue.specs.Order.{key_cmp, key_total}
+use Rattle.lucid_queue.specs.Order.{key_cmp}
 use Rattle.lucid_queue.specs.declared.pending.PendKey.{PendKey}
 use Rattle.lucid_queue.specs.declared.pending.Pending.{Pending}
-use Rattle.lucid_queue.specs.declared.place.Place.{Place}
 
-abbrev pub key_at : Place → PendKey
-key_at p = record { ready = p.ready; made = p.made; tick = p.tick; parent = p.parent; index = p.index }
+-- an entry of what waits at the switch
+abbrev pub pending_at : ℕ → PendKey × Event → Pending
+pending_at switch e = record { key = e.0; switch = switch; event = e.1 }
 
-abbrev pub place_of : Pending → Place
-place_of p = record { ready = p.key.ready; tick = p.key.tick; switch = p.switch; parent = p.key.parent; index = p.key.index; made = p.key.made }
+-- what waits at one switch
+abbrev pub Entries : Type 0
+Entries = List (PendKey × Event)
 
--- an entry of the map
-abbrev pub pending_at : Place × Event → Pending
-pending_at e = record { key = key_at e.0; switch = e.0.switch; event = e.1 }
+-- what waits at the switches from this one on
+abbrev pub all_from : ℕ → List Entries → List Pending
+all_from switch [] = []
+all_from switch (es ∷ others) = map (pending_at switch) es ++ all_from (suc switch) others
 
--- what waits at the place is at the switch, and may enter at the tick
-abbrev pub may : ℕ → ℕ → Place → Bool
-may switch tick p = nat_eq p.switch switch && not (nat_lt tick p.ready)
+abbrev pub IsByKey : Entries → Type 0
+IsByKey es = IsStrictlySortedBy key_cmp (keys_of es)
 
--- it comes before all places of the switch
-abbrev pub first_place : ℕ → Place
-first_place switch = record { ready = 0; tick = 0; switch = switch; parent = 0; index = 0; made = false }
+abbrev pub has_key : PendKey → PendKey × Event → Bool
+has_key key e = is_eq (key_cmp key e.0)
 
--- places compare as what waits at them
-abbrev pub place_cmp : Place → Place → Ordering
-place_cmp p q = ordering_then (nat_cmp p.switch q.switch) (key_cmp (key_at p) (key_at q))
+-- the first, if it may enter at the tick
+abbrev pub front : ℕ → Entries → Option (PendKey × Event)
+front tick [] = None
+front tick (e ∷ es) = if not (nat_lt tick e.0.ready) then Some e else None
 
-pub place_total : IsTotalOrder place_cmp
-place_total = then_total (on_total (λ p. p.switch) nat_cmp_total) (on_total key_at key_total)
+-- all others
+abbrev pub behind_front : ℕ → Entries → Entries
+behind_front tick [] = []
+behind_front tick (e ∷ es) = if not (nat_lt tick e.0.ready) then es else e ∷ es

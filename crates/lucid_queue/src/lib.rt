@@ -4,8 +4,9 @@
 #![tactic(auto)]
 
 mod pending;
-mod place;
 mod queue;
+mod switches;
+mod turns;
 
 pub use pending::{PendKey, Pending};
 pub use queue::Queue;

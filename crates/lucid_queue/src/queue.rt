@@ -1,36 +1,35 @@
-// The queue of a network: pending events by switch and key.
+// The queue of a network: pending events by switch and key, and their number.
 ghost use Rattle.std.specs.Prelude.{◌≡◌, false, true, [], length, IfSome, IfErr, OnOk, OnErr};
 ghost use Rattle.std.specs.List.{find, list_any, All};
 ghost use Rattle.std.specs.List.Sorted.{IsStrictlySortedBy};
-ghost use Rattle.std.specs.Option.{option_map};
 ghost use Rattle.std.specs.Ordering.{is_lt};
-ghost use Rattle.lucid_queue.specs.Kept.{place_of};
 ghost use Rattle.lucid_queue.specs.Order.{key_cmp, pending_cmp, is_before, has_place};
 ghost use Rattle.lucid_queue.specs.Waiting.{put_in, without_first, is_ready};
 
 use crate::pending::Pending;
-use crate::place::Place;
-use lucid_base::{Boxed, Event, Memory};
+use crate::switches::Switches;
+use lucid_base::Memory;
 use std::alloc::Global;
-use std::collections::BTreeMap;
 use std::marker::Model;
 
 /// What waits at all switches, which contracts see as the list of it in the order of switches and, at one switch, of keys.
-/// An event stands in memory of its own, so that the room for more in a node of the map is small: at most some 190 bytes each.
 #[derive(Drop)]
 pub struct Queue {
-    events: BTreeMap<Place, Boxed<Event>>,
-    alloc: Global,
+    switches: Switches,
+    count: usize,
 }
 
 impl Model for Queue {
-    ghost use Rattle.std.specs.Prelude.{List, map};
+    ghost use Rattle.std.specs.Prelude.{◌≡◌, List, length};
+    ghost use Rattle.std.specs.List.Sorted.{IsStrictlySortedBy};
     ghost use Rattle.lucid_queue.specs.declared.pending.Pending.{Pending};
-    ghost use Rattle.lucid_queue.specs.Kept.{pending_at};
+    ghost use Rattle.lucid_queue.specs.Order.{pending_cmp};
 
     ghost Value = { List Pending };
 
-    ghost view = { λ q. map pending_at q.events.entries };
+    ghost view = { λ q. q.switches };
+
+    ghost invariant = { λ q. (q.count ≡ length q.switches) × IsStrictlySortedBy pending_cmp q.switches };
 }
 
 impl Queue {
@@ -39,8 +38,8 @@ impl Queue {
         ensures { result ≡ [] }
     {
         Queue {
-            events: BTreeMap::new(alloc),
-            alloc,
+            switches: Switches::new(alloc),
+            count: 0,
         }
     }
 
@@ -49,14 +48,14 @@ impl Queue {
         ensures len { result ≡ length self.now }
         ensures in_order { IsStrictlySortedBy pending_cmp self.now }
     {
-        self.events.len()
+        self.count
     }
 
     /// Whether the switch and the key of `p` are those of an event that waits.
     pub fn has(&self, p: &Pending) -> bool
         ensures { result ≡ list_any (has_place p.now) self.now }
     {
-        self.events.contains_key(&Place::of(p))
+        self.switches.has(p)
     }
 
     fn keep(&mut self, p: &Pending) -> Result<(), Memory>
@@ -64,8 +63,9 @@ impl Queue {
         ensures waits { OnOk result (self.new ≡ put_in is_before p.now self.old) }
         ensures unchanged { OnErr result (self.new ≡ self.old) }
     {
-        let event = Boxed::new(self.alloc, p.event)?;
-        self.events.insert(Place::of(p), event)?;
+        let count = self.count.checked_add(1).ok_or(Memory)?;
+        self.switches.push(p)?;
+        self.count = count;
         Ok(())
     }
 
@@ -82,17 +82,6 @@ impl Queue {
         }
     }
 
-    /// The place of the first event of the switch that is ready.
-    fn first_ready(&self, switch: u32, tick: u64) -> Option<Place>
-        ensures place { result ≡ option_map place_of (find (is_ready switch tick) self.now) }
-        ensures in_order { IsStrictlySortedBy pending_cmp self.now }
-    {
-        match self.events.range(Place::first(switch)..).next() {
-            Some((place, _)) => place.if_ready(switch, tick),
-            None => None,
-        }
-    }
-
     /// The event of the switch with the least key leaves, of those that are ready at the tick. None exactly where none is.
     pub fn pop_ready(&mut self, switch: u32, tick: u64) -> Option<Pending>
         ensures first { result ≡ find (is_ready switch tick) self.old }
@@ -100,8 +89,8 @@ impl Queue {
         ensures least { IfSome result (λ p. All (λ q. is_ready switch tick q ≡ true → is_lt (key_cmp q.key p.key) ≡ false) self.old) }
         ensures in_order { IsStrictlySortedBy pending_cmp self.old }
     {
-        let place = self.first_ready(switch, tick)?;
-        let event = self.events.remove(&place)?;
-        Some(place.pending(event.into_inner()))
+        let pending = self.switches.pop_ready(switch, tick)?;
+        self.count -= 1;
+        Some(pending)
     }
 }

@@ -1,0 +1,77 @@
+// What waits at one switch: a map of events by their keys, of which the first is the next to enter.
+ghost use Rattle.std.specs.Prelude.{◌≡◌, false, [], OnOk, OnErr};
+ghost use Rattle.std.specs.BTreeMap.{insert_entry};
+ghost use Rattle.std.specs.List.{list_any};
+ghost use Rattle.std.specs.Option.{option_map};
+ghost use Rattle.lucid_queue.specs.Order.{key_cmp};
+ghost use Rattle.lucid_queue.specs.Kept.{IsByKey, has_key, pending_at, front, behind_front};
+
+use crate::pending::{PendKey, Pending};
+use lucid_base::{Boxed, Event, Memory};
+use std::alloc::Global;
+use std::collections::BTreeMap;
+use std::marker::Model;
+
+/// What waits at one switch, which contracts see as the list of keys and events in the order of keys.
+/// An event stands in memory of its own, so that the room for more in a node of the map is small: at most some 190 bytes each.
+#[derive(Drop)]
+pub(crate) struct Turns {
+    events: BTreeMap<PendKey, Boxed<Event>>,
+}
+
+impl Model for Turns {
+    ghost use Rattle.std.specs.Prelude.{List};
+    ghost use Rattle.lucid_base.specs.declared.event.Event.{Event};
+    ghost use Rattle.lucid_queue.specs.declared.pending.PendKey.{PendKey};
+
+    ghost Value = { List (PendKey × Event) };
+
+    ghost view = { λ t. t.events.entries };
+}
+
+impl Turns {
+    /// Nothing waits. It takes no memory.
+    pub(crate) fn new(alloc: Global) -> Turns
+        ensures { result ≡ [] }
+    {
+        Turns {
+            events: BTreeMap::new(alloc),
+        }
+    }
+
+    /// Whether an event with this key waits.
+    pub(crate) fn has(&self, key: &PendKey) -> bool
+        ensures { result ≡ list_any (has_key key.now) self.now }
+    {
+        self.events.contains_key(key)
+    }
+
+    /// One more waits, whose key no other has.
+    pub(crate) fn push(&mut self, alloc: Global, key: PendKey, event: Event) -> Result<(), Memory>
+        requires { list_any (has_key key) self.old ≡ false }
+        ensures waits { OnOk result (self.new ≡ insert_entry key_cmp self.old key event) }
+        ensures unchanged { OnErr result (self.new ≡ self.old) }
+        ensures by_key { IsByKey self.old → IsByKey self.new }
+    {
+        let event = Boxed::new(alloc, event)?;
+        self.events.insert(key, event)?;
+        Ok(())
+    }
+
+    /// The first event leaves, if it is ready at the tick: it waited at this switch.
+    pub(crate) fn pop_ready(&mut self, switch: u32, tick: u64) -> Option<Pending>
+        ensures first { result ≡ option_map (pending_at switch) (front tick self.old) }
+        ensures others { self.new ≡ behind_front tick self.old }
+    {
+        let (key, _) = self.events.first_key_value()?;
+        if key.ready > tick {
+            return None;
+        }
+        let (key, event) = self.events.pop_first()?;
+        Some(Pending {
+            key,
+            switch,
+            event: event.into_inner(),
+        })
+    }
+}
