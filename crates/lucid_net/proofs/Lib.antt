@@ -6,6 +6,7 @@ mod Leaver
 mod Loops
 mod Moved
 mod Outgoing
+mod Pairing
 mod Piping
 mod Ready
 mod Running

@@ -3,6 +3,7 @@ pub mod Holds
 pub mod Kept
 pub mod Leaving
 pub mod Numbered
+pub mod Pairs
 pub mod Pipes
 pub mod Rows
 pub mod Seen

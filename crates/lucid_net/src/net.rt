@@ -19,6 +19,7 @@ ghost use Rattle.lucid_net.specs.declared.error.NetError.TheVariants.{Memory as 
 
 use crate::NetError;
 use crate::leaving::Counts;
+use crate::links::Links;
 use crate::machines::{Machines, packets, put_last, show, tick_all};
 use crate::pipes::Pipes;
 use crate::starting::{all_cells, all_events, all_pipes};
@@ -71,6 +72,7 @@ impl<'a> Net<'a> {
         requires { IsScene core.now scene.now }
         ensures { IfOk result (IsStart core.now scene.now limits.now None) }
     {
+        let links = Links::new(alloc, scene)?;
         let cells = all_cells(alloc, core, scene.switches)?;
         let queue = all_events(alloc, core, scene.switches, scene.events.as_slice())?;
         Ok(Net {
@@ -79,6 +81,7 @@ impl<'a> Net<'a> {
                 core,
                 scene,
                 limits,
+                links,
             },
             machines: Machines::Whole(Switches {
                 cells,
@@ -116,6 +119,7 @@ impl<'a> Net<'a> {
         }
         outs_fit(core);
         pass_does_as(core, placed);
+        let links = Links::new(alloc, scene)?;
         let pipes = all_pipes(alloc, placed, scene.switches)?;
         let queue = all_events(alloc, core, scene.switches, scene.events.as_slice())?;
         Ok(Net {
@@ -124,6 +128,7 @@ impl<'a> Net<'a> {
                 core,
                 scene,
                 limits,
+                links,
             },
             machines: Machines::Piped(Pipes {
                 placed,

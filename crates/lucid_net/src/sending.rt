@@ -69,7 +69,7 @@ fn waiting(
     ensures new { IfSome result (IsNew ran.now.tick ran.now.switch index event) }
 {
     let way = arrival_at(
-        world.scene,
+        world,
         ran.switch,
         departure(world.limits, ran.tick, delay),
         to,
@@ -186,7 +186,7 @@ fn is_lost(world: &World, ran: &Ran, out: &Out) -> bool
     match *out {
         Out::Gen { delay, to, .. } => {
             arrival_at(
-                world.scene,
+                world,
                 ran.switch,
                 departure(world.limits, ran.tick, delay),
                 to,

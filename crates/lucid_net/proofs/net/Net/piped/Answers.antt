@@ -1,4 +1,4 @@
-use Rattle.std.proofs.Common.{◌≡◌, ◌≤◌, ◌^◌, ℕ, length, List, [], rules, ap, ◌∙◌, arith}
+use Rattle.std.proofs.Common.{◌≡◌, ◌≤◌, ◌^◌, length, List, [], rules, ap, ◌∙◌, arith}
 use Rattle.lucid_conf.specs.declared.scene.FileEvent.{FileEvent}
 use Rattle.lucid_core.specs.declared.defs.EventDef.{EventDef}
 use Rattle.lucid_net_log.specs.Log.{file_events, put_all, whole}
@@ -6,8 +6,8 @@ use Rattle.lucid_net.proofs.Ended.{piped_start}
 use Rattle.lucid_net.proofs.Ready.{ready_placed}
 use Rattle.lucid_net.proofs.net.Net.piped.Goals as goal
 
-pub invariant_of-result : goal.invariant_of-result
-invariant_of-result c =
+pub invariant_of-result-2 : goal.invariant_of-result-2
+invariant_of-result-2 c =
     let same : c.as_slice-2.result.now ≡ c.args.scene.now.events = search rules in
     let first : length c.as_slice.result.now ≡ length c.args.scene.now.events = ap (λ (l : List FileEvent). length l) (search rules) in
     let few : length c.args.scene.now.events ≤ 2 ^ 32 = omega (arith, c.if-as_slice.false, first) in
