@@ -21,7 +21,7 @@ fn main(rt: HostRuntime) -> ExitCode {
     let status = match BufWriter::with_capacity(alloc, WAITING, rt.stdout()) {
         Ok(mut output) => {
             let status = answered(rt, &mut output, &mut err);
-            handed_on(status, &mut output, &mut err)
+            handed_on(status, output, &mut err)
         }
         Err(_) => told(&mut err, Status::Memory),
     };
@@ -48,9 +48,19 @@ fn answered<O: Write, E: Sink>(rt: HostRuntime, output: &mut O, err: &mut E) -> 
     }
 }
 
-/// Hands on what waits. Where that fails and the call has told no line of its own, it ends as where a write of it failed.
-fn handed_on<O: Write, E: Sink>(status: Status, output: &mut O, err: &mut E) -> Status {
-    match (output.flush(), status) {
+/// Hands on what waits. Where that fails and the call has told no line of its own, it ends as where a write of it failed. No write comes behind
+/// one that failed: what then waits is let go.
+fn handed_on<O: Write + Drop, E: Sink>(
+    status: Status,
+    mut output: BufWriter<O>,
+    err: &mut E,
+) -> Status {
+    let handed = match status {
+        Status::WriteFault => Ok(()),
+        _ => output.flush(),
+    };
+    let (_output, _waiting) = output.into_parts();
+    match (handed, status) {
         (Err(_), Status::Ok) => told(err, Status::WriteFault),
         (_, status) => status,
     }
