@@ -1,5 +1,5 @@
 -- Cells that fit their arrays stay so where a number within the width is written.
-use Rattle.std.proofs.Common.{◌≡◌, ℕ, zero, suc, ◌^◌, List, [], ◌∷◌, true, ◌&&◌, length, map, Some, refl, ap, subst, ◌∙◌, nat_eq, nat_lt, pow_pos, replicate, slice_get, slice_set}
+use Rattle.std.proofs.Common.{◌≡◌, ℕ, zero, suc, ◌^◌, List, [], ◌∷◌, true, length, map, Some, refl, ap, subst, ◌∙◌, nat_eq, nat_lt, pow_pos, replicate, slice_get, slice_set}
 use Rattle.std.specs.List.{list_all}
 use Rattle.std.proofs.lemmas.Bool.{and_from, and_parts, eq-eqb, lt-ltb}
 use Rattle.std.proofs.lemmas.List.{length-replicate, length-set}

@@ -1,4 +1,5 @@
 pub mod BitsLemmas
+mod CellPlaces
 pub mod CellsFit
 pub mod Folds
 pub mod Laws

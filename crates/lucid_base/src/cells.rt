@@ -1,6 +1,6 @@
 // The cells of arrays.
-ghost use Rattle.std.specs.Prelude.{◌≡◌, [], IfOk, slice_index, slice_set};
-ghost use Rattle.lucid_base.specs.Cells.{zero_cells, cell_at, with_cell, place_of};
+ghost use Rattle.std.specs.Prelude.{◌≡◌, ◌<◌, ℕ, [], IfOk, length, slice_index, slice_set};
+ghost use Rattle.lucid_base.specs.Cells.{zero_cells, cell_at, row_of, with_cell, place_of};
 
 use crate::{ArrayDef, Items, Memory};
 use std::alloc::Global;
@@ -59,6 +59,20 @@ impl Cells {
         }
     }
 
+    /// Where a cell of an array lies: a number below the size that stands for the same cell, where the array is there and has cells. What
+    /// reads a cell and writes it again asks once, since it costs a division.
+    #[tactic(auto, using(crate::proofs::CellPlaces::nowhere, crate::proofs::CellPlaces::same_read, crate::proofs::CellPlaces::same_written))]
+    pub fn place(&self, array: u32, cell: u64) -> u64
+        ensures value { result ≡ place_of (row_of self.now array) cell }
+        ensures read { cell_at self.now array result ≡ cell_at self.now array cell }
+        ensures written { (value : ℕ) → with_cell self.now array result value ≡ with_cell self.now array cell value }
+    {
+        match self.arrays.get(array as usize) {
+            None => cell,
+            Some(row) => place_in(row.as_slice(), cell),
+        }
+    }
+
     /// Lets a cell of an array hold `value`, where it is there. Cell `i` is `i` modulo the size.
     pub fn set(&mut self, array: u32, cell: u64, value: u64)
         ensures { self.new ≡ with_cell self.old array cell value }
@@ -80,13 +94,24 @@ fn copied(alloc: Global, rows: &[Items<u64>]) -> Result<Items<Items<u64>>, Memor
     Ok(copy)
 }
 
+#[tactic(auto, using(crate::proofs::CellPlaces::nowhere_in))]
+fn place_in(row: &[u64], cell: u64) -> u64
+    ensures { result ≡ place_of row.now cell }
+{
+    if row.is_empty() {
+        cell
+    } else {
+        within(row, cell) as u64
+    }
+}
+
 fn read(row: &[u64], cell: u64) -> u64
     ensures { result ≡ slice_index row.now (place_of row.now cell) }
 {
     if row.is_empty() {
         0
     } else {
-        row[(cell % row.len() as u64) as usize]
+        row[within(row, cell)]
     }
 }
 
@@ -94,6 +119,19 @@ fn write(row: &mut Items<u64>, cell: u64, value: u64)
     ensures { row.new ≡ slice_set row.old (place_of row.old cell) value }
 {
     if !row.is_empty() {
-        row.set((cell % row.len() as u64) as usize, value);
+        let at = within(row.as_slice(), cell);
+        row.set(at, value);
     }
+}
+
+/// Where a cell lies in a row: modulo the size, and without a division where it is below that.
+#[tactic(auto, using(crate::proofs::CellPlaces::below_is_place))]
+fn within(row: &[u64], cell: u64) -> usize
+    requires { 0 < length row.now }
+    ensures value { result ≡ place_of row.now cell }
+    ensures there { result < length row.now }
+{
+    let size = row.len() as u64;
+    let place = if cell < size { cell } else { cell % size };
+    place as usize
 }

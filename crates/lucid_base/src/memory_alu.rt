@@ -37,15 +37,15 @@ impl MemAlu {
         ensures fits { result < 2 ^ self.now.width }
     {
         let width = self.width;
-        let takes_yes = match self.test {
+        let takes_yes = match &self.test {
             Some((op, left, right)) => compare(
-                op,
+                *op,
                 left.bits(width, stored, arg),
                 right.bits(width, stored, arg),
             ),
             None => true,
         };
-        let side = if takes_yes { self.yes } else { self.no };
+        let side = if takes_yes { &self.yes } else { &self.no };
         side.bits(width, stored, arg).value
     }
 
@@ -78,16 +78,16 @@ impl MemArg {
 }
 
 impl MemSide {
-    fn bits(self, width: Width, stored: u64, arg: u64) -> Bits
+    fn bits(&self, width: Width, stored: u64, arg: u64) -> Bits
         requires stored { stored < 2 ^ width }
         requires arg { arg < 2 ^ width }
         ensures width { result.width ≡ width }
-        ensures value { result.value ≡ side_of self width stored arg }
+        ensures value { result.value ≡ side_of self.now width stored arg }
     {
         match self {
             MemSide::One(operand) => operand.bits(width, stored, arg),
             MemSide::Two(op, left, right) => apply_bin(
-                op,
+                *op,
                 left.bits(width, stored, arg),
                 right.bits(width, stored, arg),
             ),

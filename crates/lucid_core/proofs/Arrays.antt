@@ -5,7 +5,7 @@ use Rattle.lucid_base.specs.Cells.{with_cell, zero_cells}
 use Rattle.lucid_base.specs.declared.array.ArrayName.{ArrayName}
 use Rattle.lucid_base.specs.declared.array.ArrayName.TheVariants.{Global, Param}
 use Rattle.lucid_base.proofs.CellsFit.{rows-set, zero_rows_fit}
-use Rattle.lucid_core.specs.Acts.{Frame, array_of}
+use Rattle.lucid_core.specs.Computations.{Frame, array_of}
 use Rattle.lucid_core.specs.Fits.{cells_fit}
 use Rattle.lucid_core.specs.Parts.{CoreParts}
 use Rattle.lucid_core.specs.Scope.{Scope}

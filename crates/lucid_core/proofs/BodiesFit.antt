@@ -14,7 +14,7 @@ use Rattle.lucid_core.specs.declared.body.Expr.TheViews.{roll-Expr, roll-Stmt, r
 use Rattle.lucid_core.specs.declared.body.Expr.TheFolds.{fold-roll-Expr, fold-roll-Stmt, fold-roll-Touch, ind-Expr, ind-Stmt}
 use Rattle.lucid_core.specs.declared.defs.FunDef.{FunDef}
 use Rattle.lucid_core.specs.declared.defs.HandlerDef.{HandlerDef}
-use Rattle.lucid_core.specs.Acts.{Act, Effect, Frame, Fun, State, begun_with}
+use Rattle.lucid_core.specs.Computations.{Computation, Effect, Frame, Fun, State, begun_with}
 use Rattle.lucid_base.specs.Cells.{zero_cells}
 use Rattle.lucid_core.specs.Fits.{carried, cells_fit, out_fits}
 use Rattle.lucid_core.specs.Laws.{CellsStayFit, OutsFit}
@@ -61,7 +61,7 @@ module _ (asked : Asked) (core : CoreParts) (s : Scope) (p : Frame) (stands : St
 
   of_expr : (y : Expr-F (E asked core s p stands) (S asked core s p stands) (T asked core s p stands)) → ExprHolds (roll-Expr (expr_tree asked core s p stands y))
   of_expr y = let tree = expr_tree asked core s p stands y in opened (ExprFits asked core s p stands)
-      (fold-roll-Expr (Act Bits) Effect (Act Bits) m.expr_step m.stmt_step m.touch_step tree)
+      (fold-roll-Expr (Computation Bits) Effect (Computation Bits) m.expr_step m.stmt_step m.touch_step tree)
       (fold-roll-Expr (Typed Answer) (Typed (List Answer)) (Typed Answer) t.expr_step t.stmt_step t.touch_step tree)
       (fold-roll-Expr Printed Printed Printed x.expr_step prints_step x.touch_step tree)
       (fold-roll-Expr Returns Returns Returns r.expr_step r.stmt_step r.touch_step tree)
@@ -69,7 +69,7 @@ module _ (asked : Asked) (core : CoreParts) (s : Scope) (p : Frame) (stands : St
 
   of_touch : (y : Touch-F (E asked core s p stands) (S asked core s p stands) (T asked core s p stands)) → TouchHolds (roll-Touch (touch_tree asked core s p stands y))
   of_touch y = let tree = touch_tree asked core s p stands y in opened (ExprFits asked core s p stands)
-      (fold-roll-Touch (Act Bits) Effect (Act Bits) m.expr_step m.stmt_step m.touch_step tree)
+      (fold-roll-Touch (Computation Bits) Effect (Computation Bits) m.expr_step m.stmt_step m.touch_step tree)
       (fold-roll-Touch (Typed Answer) (Typed (List Answer)) (Typed Answer) t.expr_step t.stmt_step t.touch_step tree)
       (fold-roll-Touch Printed Printed Printed x.expr_step prints_step x.touch_step tree)
       (fold-roll-Touch Returns Returns Returns r.expr_step r.stmt_step r.touch_step tree)
@@ -77,7 +77,7 @@ module _ (asked : Asked) (core : CoreParts) (s : Scope) (p : Frame) (stands : St
 
   of_stmt : (y : Stmt-F (E asked core s p stands) (S asked core s p stands) (T asked core s p stands)) → StmtHolds (roll-Stmt (stmt_tree asked core s p stands y))
   of_stmt y = let tree = stmt_tree asked core s p stands y in opened (StmtFits asked core s p stands)
-      (fold-roll-Stmt (Act Bits) Effect (Act Bits) m.expr_step m.stmt_step m.touch_step tree)
+      (fold-roll-Stmt (Computation Bits) Effect (Computation Bits) m.expr_step m.stmt_step m.touch_step tree)
       (fold-roll-Stmt (Typed Answer) (Typed (List Answer)) (Typed Answer) t.expr_step t.stmt_step t.touch_step tree)
       (fold-roll-Stmt Printed Printed Printed x.expr_step prints_step x.touch_step tree)
       (fold-roll-Stmt Returns Returns Returns r.expr_step r.stmt_step r.touch_step tree)

@@ -9,7 +9,7 @@ use Rattle.lucid_base.specs.declared.event.Out.{Out}
 use Rattle.lucid_base.specs.declared.event.Target.{Target}
 use Rattle.lucid_base.specs.declared.event.Target.TheVariants.{At}
 use Rattle.lucid_core.specs.declared.defs.FunDef.{FunDef}
-use Rattle.lucid_core.specs.Acts.{Act, Frame, Fun, State, Ran, both}
+use Rattle.lucid_core.specs.Computations.{Computation, Frame, Fun, State, Ran, both}
 use Rattle.lucid_core.specs.Fits.{carried, cells_fit, out_fits}
 use Rattle.lucid_core.specs.Meaning.{call, generated}
 use Rattle.lucid_core.specs.Parts.{CoreParts}
@@ -120,10 +120,10 @@ module _ (k : Asked) (core : CoreParts) (ws : List ℕ) where
   on_the_second false false false a s fine = fine
 
   -- An act after which the state is fine, whatever it gives.
-  abbrev pub StaysFine : {A : Type 0} → Frame → Act A → Type 0
+  abbrev pub StaysFine : {A : Type 0} → Frame → Computation A → Type 0
   StaysFine p act = (a : Answer) (s : State) → IsFine k core ws a s → IsFine k core ws a (act p s).after
 
-  pub both_stay : {A B : Type 0} (p : Frame) (first : Bool) (f : Act A) (g : Act B) → StaysFine p f → StaysFine p g → StaysFine p (both first f g)
+  pub both_stay : {A B : Type 0} (p : Frame) (first : Bool) (f : Computation A) (g : Computation B) → StaysFine p f → StaysFine p g → StaysFine p (both first f g)
   both_stay p true f g one two a s fine = two a (f p s).after (one a s fine)
   both_stay p false f g one two a s fine = one a (g p s).after (two a s fine)
 

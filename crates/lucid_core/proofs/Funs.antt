@@ -8,7 +8,7 @@ use Rattle.lucid_base.specs.declared.bits.Bits.{Bits}
 use Rattle.lucid_core.specs.declared.body.Stmt.{Stmt}
 use Rattle.lucid_core.specs.declared.body.Expr.TheViews.{size-Stmt}
 use Rattle.lucid_core.specs.declared.defs.FunDef.{FunDef}
-use Rattle.lucid_core.specs.Acts.{Frame, Fun, State, begun_with, block, called}
+use Rattle.lucid_core.specs.Computations.{Frame, Fun, State, begun_with, block, called}
 use Rattle.lucid_core.specs.Meaning.{call, effect_of, fun_of, funs_of}
 use Rattle.lucid_core.specs.Values.{nothing}
 use Rattle.lucid_core.specs.Weight.{weight}

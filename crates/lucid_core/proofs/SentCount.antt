@@ -13,7 +13,7 @@ use Rattle.lucid_core.specs.declared.body.Expr.TheViews.{roll-Expr, roll-Stmt, r
 use Rattle.lucid_core.specs.declared.body.Expr.TheFolds.{fold-roll-Expr, fold-roll-Stmt, fold-roll-Touch, map-Expr, map-Stmt, map-Touch, ind-Stmt}
 use Rattle.lucid_core.specs.declared.defs.FunDef.{FunDef}
 use Rattle.lucid_core.specs.declared.defs.HandlerDef.{HandlerDef}
-use Rattle.lucid_core.specs.Acts.{Act, Effect, Frame, Fun, State, Ran, all, array_of, begun_with, block, both}
+use Rattle.lucid_core.specs.Computations.{Computation, Effect, Frame, Fun, State, Ran, all, array_of, begun_with, block, both}
 use Rattle.lucid_core.specs.Meaning as m
 use Rattle.lucid_core.specs.Meaning.{all_given, call, delay_of, effect_of, fun_of, generated, holding, target_of, touch_of, value_of}
 use Rattle.lucid_core.specs.OutCount as n
@@ -32,7 +32,7 @@ abbrev FunSends : Fun → ℕ → Type 0
 FunSends f n = (arrays : List ℕ) (vs : List Bits) → Sends n (f arrays vs)
 
 -- Behind functions that keep to their counts, the act keeps to its own.
-abbrev Keeps : {A : Type 0} → Act A → Count → Type 0
+abbrev Keeps : {A : Type 0} → Computation A → Count → Type 0
 Keeps act count = (p : Frame) (counts : List ℕ) → Pairwise FunSends p.funs counts → Sends (count counts) (act p)
 
 -- A function that isn't there sends nothing.
@@ -48,7 +48,7 @@ total-append [] ds counts = omega arith
 total-append (c ∷ cs) ds counts = let e = total-append cs ds counts in omega arith
 
 module _ {X : Type 0} (count : X → Count) where
-  module _ (act : X → Act Bits) where
+  module _ (act : X → Computation Bits) where
     all_keep : (ps : List ((x : X) × Keeps (act x) (count x))) → Keeps (all (map act (map (λ p. p.0) ps))) (total (map count (map (λ p. p.0) ps)))
     all_keep [] p counts known s = omega arith
     all_keep (e ∷ es) p counts known s =
@@ -84,7 +84,7 @@ stmts es = map (λ (e : S). e.0) es
 abbrev given_trees : List (ℕ × E) → List (ℕ × Expr)
 given_trees gs = map (λ (g : ℕ × E). (g.0, g.1.0)) gs
 
-abbrev given_acts : List (ℕ × E) → List (ℕ × Act Bits)
+abbrev given_acts : List (ℕ × E) → List (ℕ × Computation Bits)
 given_acts gs = map (λ (g : ℕ × Expr). (g.0, value_of g.1)) (given_trees gs)
 
 abbrev given_counts : List (ℕ × E) → List Count
@@ -101,8 +101,8 @@ given_keep (g ∷ gs) p counts known s =
 abbrev expr_tree : Expr-F E S T → Expr-F Expr Stmt Touch
 expr_tree = map-Expr E S T Expr Stmt Touch (λ p. p.0) (λ p. p.0) (λ p. p.0)
 
-abbrev expr_act : Expr-F Expr Stmt Touch → Act Bits
-expr_act y = m.expr_step (map-Expr Expr Stmt Touch (Act Bits) Effect (Act Bits) value_of effect_of touch_of y)
+abbrev expr_act : Expr-F Expr Stmt Touch → Computation Bits
+expr_act y = m.expr_step (map-Expr Expr Stmt Touch (Computation Bits) Effect (Computation Bits) value_of effect_of touch_of y)
 
 abbrev expr_count : Expr-F Expr Stmt Touch → Count
 expr_count y = n.expr_step (map-Expr Expr Stmt Touch Count Count Count expr_outs stmt_outs touch_outs y)
@@ -140,8 +140,8 @@ expr_level (Expr-F.Inlined given ss) p counts known s =
 abbrev touch_tree : Touch-F E S T → Touch-F Expr Stmt Touch
 touch_tree = map-Touch E S T Expr Stmt Touch (λ p. p.0) (λ p. p.0) (λ p. p.0)
 
-abbrev touch_act : Touch-F Expr Stmt Touch → Act Bits
-touch_act y = m.touch_step (map-Touch Expr Stmt Touch (Act Bits) Effect (Act Bits) value_of effect_of touch_of y)
+abbrev touch_act : Touch-F Expr Stmt Touch → Computation Bits
+touch_act y = m.touch_step (map-Touch Expr Stmt Touch (Computation Bits) Effect (Computation Bits) value_of effect_of touch_of y)
 
 abbrev touch_count : Touch-F Expr Stmt Touch → Count
 touch_count y = n.touch_step (map-Touch Expr Stmt Touch Count Count Count expr_outs stmt_outs touch_outs y)
@@ -159,7 +159,7 @@ abbrev stmt_tree : Stmt-F E S T → Stmt-F Expr Stmt Touch
 stmt_tree = map-Stmt E S T Expr Stmt Touch (λ p. p.0) (λ p. p.0) (λ p. p.0)
 
 abbrev stmt_act : Stmt-F Expr Stmt Touch → Effect
-stmt_act y = m.stmt_step (map-Stmt Expr Stmt Touch (Act Bits) Effect (Act Bits) value_of effect_of touch_of y)
+stmt_act y = m.stmt_step (map-Stmt Expr Stmt Touch (Computation Bits) Effect (Computation Bits) value_of effect_of touch_of y)
 
 abbrev stmt_count : Stmt-F Expr Stmt Touch → Count
 stmt_count y = n.stmt_step (map-Stmt Expr Stmt Touch Count Count Count expr_outs stmt_outs touch_outs y)
@@ -171,7 +171,7 @@ either_keeps : (b : Bool) (ss ts : List S) →
 either_keeps true ss ts p counts known s = let ran = block_keeps stmt_outs effect_of ts p counts known s in omega arith
 either_keeps false ss ts p counts known s = let ran = block_keeps stmt_outs effect_of ss p counts known s in omega arith
 
-abbrev option_acts : Option E → Option (Act Bits)
+abbrev option_acts : Option E → Option (Computation Bits)
 option_acts o = option_map (λ e. value_of e.0) o
 
 abbrev option_counts : Option E → Option Count
@@ -183,7 +183,7 @@ optional_keeps absent given None p counts known s = omega arith
 optional_keeps absent given (Some x) p counts known s = let ran = x.1 p counts known s in omega arith
 
 -- In either order.
-both_keep : {A B : Type 0} (b : Bool) (f : Act A) (g : Act B) (c d : Count) → Keeps f c → Keeps g d → Keeps (both b f g) (λ counts. c counts + d counts)
+both_keep : {A B : Type 0} (b : Bool) (f : Computation A) (g : Computation B) (c d : Count) → Keeps f c → Keeps g d → Keeps (both b f g) (λ counts. c counts + d counts)
 both_keep true f g c d first second p counts known s =
     let one = first p counts known s in
     let two = second p counts known (f p s).after in
@@ -248,17 +248,17 @@ stmt_level (Stmt-F.Return None) p counts known s = omega arith
 stmt_level (Stmt-F.Return (Some x)) p counts known s = let first = x.1 p counts known s in omega arith
 
 -- Where the folds are opened at a node.
-opened : {A : Type 0} (act made : Act A) (count reckoned : Count) → act ≡ made → count ≡ reckoned → Keeps made reckoned → Keeps act count
-opened act made count reckoned e h = subst (λ (x : Act _). Keeps x reckoned → Keeps act count) e (λ k. subst (λ (y : Count). Keeps act y) (sym h) k)
+opened : {A : Type 0} (act made : Computation A) (count reckoned : Count) → act ≡ made → count ≡ reckoned → Keeps made reckoned → Keeps act count
+opened act made count reckoned e h = subst (λ (x : Computation _). Keeps x reckoned → Keeps act count) e (λ k. subst (λ (y : Count). Keeps act y) (sym h) k)
 
 of_expr : (y : Expr-F E S T) → Keeps (value_of (roll-Expr (expr_tree y))) (expr_outs (roll-Expr (expr_tree y)))
-of_expr y = opened _ _ _ _ (fold-roll-Expr (Act Bits) Effect (Act Bits) m.expr_step m.stmt_step m.touch_step (expr_tree y)) (fold-roll-Expr Count Count Count n.expr_step n.stmt_step n.touch_step (expr_tree y)) (expr_level y)
+of_expr y = opened _ _ _ _ (fold-roll-Expr (Computation Bits) Effect (Computation Bits) m.expr_step m.stmt_step m.touch_step (expr_tree y)) (fold-roll-Expr Count Count Count n.expr_step n.stmt_step n.touch_step (expr_tree y)) (expr_level y)
 
 of_stmt : (y : Stmt-F E S T) → Keeps (effect_of (roll-Stmt (stmt_tree y))) (stmt_outs (roll-Stmt (stmt_tree y)))
-of_stmt y = opened _ _ _ _ (fold-roll-Stmt (Act Bits) Effect (Act Bits) m.expr_step m.stmt_step m.touch_step (stmt_tree y)) (fold-roll-Stmt Count Count Count n.expr_step n.stmt_step n.touch_step (stmt_tree y)) (stmt_level y)
+of_stmt y = opened _ _ _ _ (fold-roll-Stmt (Computation Bits) Effect (Computation Bits) m.expr_step m.stmt_step m.touch_step (stmt_tree y)) (fold-roll-Stmt Count Count Count n.expr_step n.stmt_step n.touch_step (stmt_tree y)) (stmt_level y)
 
 of_touch : (y : Touch-F E S T) → Keeps (touch_of (roll-Touch (touch_tree y))) (touch_outs (roll-Touch (touch_tree y)))
-of_touch y = opened _ _ _ _ (fold-roll-Touch (Act Bits) Effect (Act Bits) m.expr_step m.stmt_step m.touch_step (touch_tree y)) (fold-roll-Touch Count Count Count n.expr_step n.stmt_step n.touch_step (touch_tree y)) (touch_level y)
+of_touch y = opened _ _ _ _ (fold-roll-Touch (Computation Bits) Effect (Computation Bits) m.expr_step m.stmt_step m.touch_step (touch_tree y)) (fold-roll-Touch Count Count Count n.expr_step n.stmt_step n.touch_step (touch_tree y)) (touch_level y)
 
 stmt_keeps : (x : Stmt) → Keeps (effect_of x) (stmt_outs x)
 stmt_keeps = ind-Stmt (λ x. Keeps (value_of x) (expr_outs x)) (λ x. Keeps (effect_of x) (stmt_outs x)) (λ x. Keeps (touch_of x) (touch_outs x))

@@ -12,7 +12,7 @@ use Rattle.lucid_core.specs.declared.body.Stmt.{Stmt}
 use Rattle.lucid_core.specs.declared.body.Touch.{Touch}
 use Rattle.lucid_core.specs.declared.body.Expr.TheOpen.{Expr-F, Stmt-F, Touch-F}
 use Rattle.lucid_core.specs.declared.body.Expr.TheFolds.{map-Expr, map-Stmt, map-Touch}
-use Rattle.lucid_core.specs.Acts.{Act, Effect, Frame, State, all, array_of, block, both}
+use Rattle.lucid_core.specs.Computations.{Computation, Effect, Frame, State, all, array_of, block, both}
 use Rattle.lucid_base.specs.Cells.{cell_at}
 use Rattle.lucid_core.specs.Meaning as m
 use Rattle.lucid_core.specs.Meaning.{all_given, call, delay_of, effect_of, generated, holding, target_of, touch_of, value_of}
@@ -37,7 +37,7 @@ module _ (asked : Asked) (core : CoreParts) (s : Scope) (p : Frame) (stands : St
   Fine k old = IsFine asked core s.locals k old
 
   -- An expression gives a value of its width.
-  abbrev pub ExprFits : Act Bits → Typed Answer → Printed → Returns → Type 0
+  abbrev pub ExprFits : Computation Bits → Typed Answer → Printed → Returns → Type 0
   ExprFits act typed texts returns = (asked.outs ≡ true → texts core.forms ≡ true) → returns.last ≡ true → (a : Answer) → typed s ≡ Some a →
       (k : Answer) (old : State) → Fine k old → Goes asked core s.locals k (Has a) (act p old)
 
@@ -136,7 +136,7 @@ module _ (asked : Asked) (core : CoreParts) (s : Scope) (p : Frame) (stands : St
 
   abbrev ExprNodeFits : Expr-F Expr Stmt Touch → Type 0
   ExprNodeFits y = ExprFits
-      (m.expr_step (map-Expr Expr Stmt Touch (Act Bits) Effect (Act Bits) value_of effect_of touch_of y))
+      (m.expr_step (map-Expr Expr Stmt Touch (Computation Bits) Effect (Computation Bits) value_of effect_of touch_of y))
       (t.expr_step (map-Expr Expr Stmt Touch (Typed Answer) (Typed (List Answer)) (Typed Answer) answer_of returns_of touch_answer y))
       (x.expr_step (map-Expr Expr Stmt Touch Printed Printed Printed expr_prints stmt_prints touch_prints y))
       (r.expr_step (map-Expr Expr Stmt Touch Returns Returns Returns expr_returns stmt_returns touch_returns y))
@@ -205,7 +205,7 @@ module _ (asked : Asked) (core : CoreParts) (s : Scope) (p : Frame) (stands : St
 
   abbrev TouchNodeFits : Touch-F Expr Stmt Touch → Type 0
   TouchNodeFits y = ExprFits
-      (m.touch_step (map-Touch Expr Stmt Touch (Act Bits) Effect (Act Bits) value_of effect_of touch_of y))
+      (m.touch_step (map-Touch Expr Stmt Touch (Computation Bits) Effect (Computation Bits) value_of effect_of touch_of y))
       (t.touch_step (map-Touch Expr Stmt Touch (Typed Answer) (Typed (List Answer)) (Typed Answer) answer_of returns_of touch_answer y))
       (x.touch_step (map-Touch Expr Stmt Touch Printed Printed Printed expr_prints stmt_prints touch_prints y))
       (r.touch_step (map-Touch Expr Stmt Touch Returns Returns Returns expr_returns stmt_returns touch_returns y))
@@ -235,7 +235,7 @@ module _ (asked : Asked) (core : CoreParts) (s : Scope) (p : Frame) (stands : St
 
   abbrev StmtNodeFits : Stmt-F Expr Stmt Touch → Type 0
   StmtNodeFits y = StmtFits
-      (m.stmt_step (map-Stmt Expr Stmt Touch (Act Bits) Effect (Act Bits) value_of effect_of touch_of y))
+      (m.stmt_step (map-Stmt Expr Stmt Touch (Computation Bits) Effect (Computation Bits) value_of effect_of touch_of y))
       (t.stmt_step (map-Stmt Expr Stmt Touch (Typed Answer) (Typed (List Answer)) (Typed Answer) answer_of returns_of touch_answer y))
       (prints_step (map-Stmt Expr Stmt Touch Printed Printed Printed expr_prints stmt_prints touch_prints y))
       (r.stmt_step (map-Stmt Expr Stmt Touch Returns Returns Returns expr_returns stmt_returns touch_returns y))

@@ -4,7 +4,7 @@ use Rattle.std.specs.List.{list_all}
 use Rattle.std.proofs.lemmas.Bool.{and_from, and_parts}
 use Rattle.lucid_core.specs.declared.defs.FunDef.{FunDef}
 use Rattle.lucid_core.specs.declared.defs.HandlerDef.{HandlerDef}
-use Rattle.lucid_core.specs.Acts.{Frame, State}
+use Rattle.lucid_core.specs.Computations.{Frame, State}
 use Rattle.lucid_core.specs.Laws.{AnswersItsWidth, GivesItsWidth, WidthsAreStatic}
 use Rattle.lucid_core.specs.Meaning.{fun_of, funs_of}
 use Rattle.lucid_core.specs.Parts.{CoreParts}

@@ -7,7 +7,7 @@ use Rattle.std.proofs.lemmas.List.{length-map}
 use Rattle.lucid_base.specs.Bits.{bits_of}
 use Rattle.lucid_base.specs.declared.bits.Bits.{Bits}
 use Rattle.lucid_core.specs.declared.defs.EventDef.{EventDef}
-use Rattle.lucid_core.specs.Acts.{begun_with}
+use Rattle.lucid_core.specs.Computations.{begun_with}
 use Rattle.lucid_core.specs.Fits.{args_fit}
 use Rattle.lucid_core.specs.Meaning.{holding}
 use Rattle.lucid_core.specs.Step.{taken_at}

@@ -6,7 +6,7 @@ use Rattle.lucid_base.specs.declared.event.Event.{Event}
 use Rattle.lucid_core.specs.declared.body.Expr.{Expr}
 use Rattle.lucid_core.specs.declared.defs.FunDef.{FunDef}
 use Rattle.lucid_core.specs.declared.defs.HandlerDef.{HandlerDef}
-use Rattle.lucid_core.specs.Acts.{Frame, Fun, State}
+use Rattle.lucid_core.specs.Computations.{Frame, Fun, State}
 use Rattle.lucid_core.specs.Fits.{carried, cells_fit, out_fits}
 use Rattle.lucid_core.specs.Meaning.{fun_of, funs_of, value_of}
 use Rattle.lucid_core.specs.Parts.{CoreParts}

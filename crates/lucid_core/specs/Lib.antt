@@ -1,6 +1,6 @@
-pub mod Acts
 pub mod Assigned
 pub mod Children
+pub mod Computations
 pub mod Endings
 pub mod Events
 pub mod ExamplePrograms

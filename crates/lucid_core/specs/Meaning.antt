@@ -15,11 +15,11 @@ use Rattle.lucid_core.specs.declared.body.Touch.{Touch}
 use Rattle.lucid_core.specs.declared.body.Expr.TheOpen.{Expr-F, Stmt-F, Touch-F}
 use Rattle.lucid_core.specs.declared.body.Expr.TheFolds.{fold-Expr, fold-Stmt, fold-Touch}
 use Rattle.lucid_core.specs.declared.defs.FunDef.{FunDef}
-use Rattle.lucid_core.specs.Acts.{Act, Effect, Fun, give, ◌>>=◌, all, block, both, change, send, array_of, touched, called, begun_with}
+use Rattle.lucid_core.specs.Computations.{Computation, Effect, Fun, give, ◌>>=◌, all, block, both, change, send, array_of, touched, called, begun_with}
 use Rattle.lucid_core.specs.Values.{nothing, unary, binary, comparison, hashed, memop, numbers}
 
 -- What arguments give, from left to right, with the locals that are to hold them.
-abbrev pub all_given : List (ℕ × Act Bits) → Act (List (ℕ × Bits))
+abbrev pub all_given : List (ℕ × Computation Bits) → Computation (List (ℕ × Bits))
 all_given given = all (map (λ g. do v ← g.1; give (g.0, v)) given)
 
 -- The locals once each of these holds its value.
@@ -27,10 +27,10 @@ abbrev pub holding : List Bits → List (ℕ × Bits) → List Bits
 holding locals held = fold (λ vs h. slice_set vs h.0 h.1) locals held
 
 -- What function k gives, and nothing where it isn't there.
-abbrev pub call : ℕ → List ℕ → List Bits → Act Bits
+abbrev pub call : ℕ → List ℕ → List Bits → Computation Bits
 call k arrays vs = λ p. option_map_or (λ f. f arrays vs) (slice_get p.funs k) (give nothing p)
 
-abbrev pub expr_step : Expr-F (Act Bits) Effect (Act Bits) → Act Bits
+abbrev pub expr_step : Expr-F (Computation Bits) Effect (Computation Bits) → Computation Bits
 expr_step (Expr-F.Fixed n) = give n
 expr_step (Expr-F.Local i) = λ p s. give (slice_index_or s.locals i nothing) p s
 expr_step Expr-F.Now = λ p. give (bits_of 32 p.now) p
@@ -45,24 +45,24 @@ expr_step (Expr-F.Fun k names xs) = do vs ← all xs; λ p. call k (map (array_o
 expr_step (Expr-F.Inlined given ss) = do held ← all_given given; λ p s. called (holding s.locals held) (block ss) p s
 
 -- Both memops see what the cell held.
-abbrev pub touch_step : Touch-F (Act Bits) Effect (Act Bits) → Act Bits
+abbrev pub touch_step : Touch-F (Computation Bits) Effect (Computation Bits) → Computation Bits
 touch_step t = do i ← t.index; g ← t.get_arg; v ← t.set_arg; touched t.array i.value (λ old. memop t.get old g) (λ old. memop t.set old v)
 
 -- What an operand gives that may be left out, and what stands for it then.
-abbrev pub optional : {A : Type 0} → A → (ℕ → A) → Option (Act Bits) → Act A
+abbrev pub optional : {A : Type 0} → A → (ℕ → A) → Option (Computation Bits) → Computation A
 optional absent given None = give absent
 optional absent given (Some x) = do v ← x; give (given v.value)
 
-abbrev pub delay_of : Option (Act Bits) → Act ℕ
+abbrev pub delay_of : Option (Computation Bits) → Computation ℕ
 delay_of = optional 0 (λ ticks. ticks)
 
-abbrev pub target_of : Option (Act Bits) → Act Target
+abbrev pub target_of : Option (Computation Bits) → Computation Target
 target_of = optional Here At
 
 abbrev pub generated : ℕ → List Bits → ℕ → Target → Out
 generated event vs delay to = out.Gen (record { id = event; args = numbers vs }) delay to
 
-abbrev pub stmt_step : Stmt-F (Act Bits) Effect (Act Bits) → Effect
+abbrev pub stmt_step : Stmt-F (Computation Bits) Effect (Computation Bits) → Effect
 stmt_step (Stmt-F.Assign i x) = do v ← x; change (λ s. record s { locals = slice_set s.locals i v })
 stmt_step (Stmt-F.Drop x) = do _ ← x; give tt
 stmt_step (Stmt-F.If x ss ts) = do v ← x; block (if nat_eq v.value 0 then ts else ss)
@@ -74,14 +74,14 @@ stmt_step (Stmt-F.Say form xs) = do vs ← all xs; send (out.Say form (numbers v
 stmt_step (Stmt-F.Return None) = give tt
 stmt_step (Stmt-F.Return (Some x)) = do v ← x; change (λ s. record s { answer = v })
 
-abbrev pub value_of : Expr → Act Bits
-value_of = fold-Expr (Act Bits) Effect (Act Bits) expr_step stmt_step touch_step
+abbrev pub value_of : Expr → Computation Bits
+value_of = fold-Expr (Computation Bits) Effect (Computation Bits) expr_step stmt_step touch_step
 
 abbrev pub effect_of : Stmt → Effect
-effect_of = fold-Stmt (Act Bits) Effect (Act Bits) expr_step stmt_step touch_step
+effect_of = fold-Stmt (Computation Bits) Effect (Computation Bits) expr_step stmt_step touch_step
 
-abbrev pub touch_of : Touch → Act Bits
-touch_of = fold-Touch (Act Bits) Effect (Act Bits) expr_step stmt_step touch_step
+abbrev pub touch_of : Touch → Computation Bits
+touch_of = fold-Touch (Computation Bits) Effect (Computation Bits) expr_step stmt_step touch_step
 
 -- A function runs behind the functions before it.
 abbrev pub fun_of : ℕ → ℕ → List Fun → FunDef → Fun

@@ -12,7 +12,7 @@ use Rattle.lucid_core.specs.declared.draft.Draft.{Draft}
 use Rattle.lucid_core.specs.declared.draft.Draft.TheVariants.{Gen, Say}
 use Rattle.lucid_core.specs.declared.place.Place.{Place}
 use Rattle.lucid_core.specs.declared.run.Write.{Write}
-use Rattle.lucid_core.specs.Acts.{Frame, Ran, State}
+use Rattle.lucid_core.specs.Computations.{Frame, Ran, State}
 use Rattle.lucid_base.specs.Cells.{with_cell}
 use Rattle.lucid_core.specs.Meaning.{funs_of, generated}
 use Rattle.lucid_core.specs.Values.{numbers}

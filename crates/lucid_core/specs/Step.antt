@@ -6,7 +6,7 @@ use Rattle.lucid_base.specs.declared.bits.Bits.{Bits}
 use Rattle.lucid_base.specs.declared.event.Event.{Event}
 use Rattle.lucid_base.specs.declared.event.Out.{Out}
 use Rattle.lucid_core.specs.declared.defs.HandlerDef.{HandlerDef}
-use Rattle.lucid_core.specs.Acts.{State, Ran, block, begun_with}
+use Rattle.lucid_core.specs.Computations.{State, Ran, block, begun_with}
 use Rattle.lucid_base.specs.Cells.{zero_cells}
 use Rattle.lucid_core.specs.Meaning.{effect_of, funs_of}
 use Rattle.lucid_core.specs.Parts.{CoreParts}

@@ -1,7 +1,10 @@
 // What a program declares besides its arrays.
+ghost use Rattle.std.specs.Prelude.{◌≡◌, IfOk};
+
 use crate::Stmt;
 use crate::body::give_back;
-use lucid_base::{Id, Items, MemAlu, Width};
+use lucid_base::{Id, Items, MemAlu, Memory, Width};
+use std::alloc::Global;
 
 /// A memop of the source.
 #[derive(Drop)]
@@ -10,12 +13,40 @@ pub struct MemopDef {
     pub alu: MemAlu,
 }
 
+impl MemopDef {
+    /// The same declaration, in memory of its own.
+    pub fn copy(&self, alloc: Global) -> Result<MemopDef, Memory>
+        ensures { IfOk result (λ copy. copy ≡ self.now) }
+    {
+        let name = self.name.copy(alloc)?;
+        Ok(MemopDef {
+            name,
+            alu: self.alu,
+        })
+    }
+}
+
 /// An event: the widths of its parameters, and the number of its handler, if it has one.
 #[derive(Drop)]
 pub struct EventDef {
     pub name: Id,
     pub params: Items<Width>,
     pub handler: Option<u32>,
+}
+
+impl EventDef {
+    /// The same declaration, in memory of its own.
+    pub fn copy(&self, alloc: Global) -> Result<EventDef, Memory>
+        ensures { IfOk result (λ copy. copy ≡ self.now) }
+    {
+        let name = self.name.copy(alloc)?;
+        let params = Items::from_slice(alloc, self.params.as_slice())?;
+        Ok(EventDef {
+            name,
+            params,
+            handler: self.handler,
+        })
+    }
 }
 
 /// A function: the cell widths of its array parameters, the widths of its locals, of which the first `params` are its value parameters,

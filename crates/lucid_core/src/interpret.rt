@@ -4,7 +4,7 @@
 // `left` is what is left of the stack (depth.rt), which no clause speaks of.
 ghost use Rattle.std.specs.Prelude.{◌≡◌, ◌++◌, IfOk, IfSome, IsTrue, OnOk, OnErr, map, slice_get, take};
 ghost use Rattle.std.specs.Option.{option_map};
-ghost use Rattle.lucid_core.specs.Acts.{all, array_of, begun_with, block, both};
+ghost use Rattle.lucid_core.specs.Computations.{all, array_of, begun_with, block, both};
 ghost use Rattle.lucid_core.specs.Meaning.{delay_of, effect_of, expr_step, generated, holding, target_of, touch_of, value_of};
 ghost use Rattle.lucid_core.specs.Running.{Does, frame, has_parts, sends_out, with_state};
 ghost use Rattle.lucid_base.specs.declared.event.Target.TheVariants.{At};
@@ -132,7 +132,7 @@ fn touch(place: &Place, left: u32, run: &mut Run, t: &Touch) -> Result<Bits, Mem
     let get_arg = value(place, left, run, &t.get_arg)?;
     let set_arg = value(place, left, run, &t.set_arg)?;
     let array = array_at(place.arrays, t.array);
-    let answer = run.touch(array, index.value, t.get, get_arg, t.set, set_arg)?;
+    let answer = run.touch(array, index.value, &t.get, get_arg, &t.set, set_arg)?;
     Ok(answer)
 }
 

@@ -1,7 +1,7 @@
 // The elaborated program (a core) and its meaning: what an event does when its handler runs whole.
 // A `Core` and a `Flat` are valid by their types. `run_whole` is the definition of the step, changes no cell where memory runs out,
 // and gives outs that fit the program.
-// The rules of validity are in specs/Valid.antt, each in a file of its own; the meaning is in specs/Step.antt, Meaning.antt and Acts.antt.
+// The rules of validity are in specs/Valid.antt, each in a file of its own; the meaning is in specs/Step.antt, Meaning.antt and Computations.antt.
 // Stands on lucid_base alone.
 #![tactic(auto)]
 
@@ -31,5 +31,5 @@ pub use laws::{
 };
 pub use lucid_base::{ArrayDef, ArrayName, Cells};
 pub use program::{Core, Flat};
-pub use whole::run_whole;
+pub use whole::{run_into, run_whole};
 pub use widths::width_of;

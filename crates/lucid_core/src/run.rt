@@ -49,14 +49,15 @@ impl Model for Run {
 }
 
 impl Run {
-    /// No outs yet, and no answer.
-    pub fn begin(alloc: Global, cells: Cells, locals: Items<Bits>) -> Run
+    /// No outs yet, and no answer. The list of writes, which is empty, may have room already.
+    pub fn begin(alloc: Global, cells: Cells, locals: Items<Bits>, writes: Vec<Write>) -> Run
+        requires { writes.items ≡ [] }
         ensures state { result.state ≡ record { cells = cells; outs = []; locals = locals; answer = no_value } }
         ensures start { result.start ≡ cells }
     {
         Run {
             cells,
-            writes: Vec::new(alloc),
+            writes,
             outs: Vec::new(alloc),
             locals,
             answer: nothing(),
@@ -77,17 +78,16 @@ impl Run {
         cells
     }
 
-    /// What was sent out, which in a valid core is at most 8 outs of at most 8 numbers.
-    pub fn sent(&self) -> Outs
+    /// Puts what was sent out, which in a valid core is at most 8 outs of at most 8 numbers, where nothing was.
+    pub fn collect(&self, outs: &mut Outs)
+        requires empty { outs.old ≡ [] }
         requires few { length self.now.state.outs ≤ 8 }
         requires small { All (λ out. length (carried out) ≤ 8) self.now.state.outs }
-        ensures { result ≡ self.now.state.outs }
+        ensures { outs.new ≡ self.now.state.outs }
     {
-        let mut outs = Outs::new();
         for draft in self.outs.as_slice() {
             outs.push(draft.out());
         }
-        outs
     }
 
     /// The cells that the run began with.
@@ -167,23 +167,20 @@ impl Run {
         &mut self,
         array: u32,
         index: u64,
-        get: MemAlu,
+        get: &MemAlu,
         get_arg: Bits,
-        set: MemAlu,
+        set: &MemAlu,
         set_arg: Bits,
     ) -> Result<Bits, Memory>
-        ensures gives { IfOk result (λ v. v ≡ memop_of get (cell_at self.old.state.cells array index) get_arg) }
-        ensures stored { OnOk result (self.new ≡ with_state self.old (record self.old.state { cells = with_cell self.old.state.cells array index (memop_of set (cell_at self.old.state.cells array index) set_arg).value })) }
+        ensures gives { IfOk result (λ v. v ≡ memop_of get.now (cell_at self.old.state.cells array index) get_arg) }
+        ensures stored { OnOk result (self.new ≡ with_state self.old (record self.old.state { cells = with_cell self.old.state.cells array index (memop_of set.now (cell_at self.old.state.cells array index) set_arg).value })) }
         ensures start { OnErr result (self.new.start ≡ self.old.start) }
     {
-        let old = self.cells.get(array, index);
-        self.writes.push(Write {
-            array,
-            cell: index,
-            old,
-        })?;
+        let cell = self.cells.place(array, index);
+        let old = self.cells.get(array, cell);
+        self.writes.push(Write { array, cell, old })?;
         self.cells
-            .set(array, index, set.apply_low(old, set_arg.value).value);
+            .set(array, cell, set.apply_low(old, set_arg.value).value);
         Ok(get.apply_low(old, get_arg.value))
     }
 }

@@ -1,7 +1,7 @@
 // The whole step: an event's handler runs whole, or runs out of memory and changes nothing.
 ghost use Rattle.std.specs.Prelude.{◌≡◌, ◌≤◌, [], All, IfOk, IsTrue, OnOk, OnErr, length, map};
 ghost use Rattle.std.specs.Option.{option_map};
-ghost use Rattle.lucid_core.specs.Acts.{block};
+ghost use Rattle.lucid_core.specs.Computations.{block};
 ghost use Rattle.lucid_core.specs.Fits.{carried, cells_fit, out_fits};
 ghost use Rattle.lucid_core.specs.Meaning.{effect_of};
 ghost use Rattle.lucid_core.specs.Running.{frame, with_state};
@@ -16,6 +16,9 @@ use crate::{Cells, Core, HandlerDef, Stmt};
 use lucid_base::{Bits, Event, Items, Memory, Outs, Width};
 use std::alloc::Global;
 use std::mem;
+
+/// For how many writes of cells a run has room from the start.
+const WRITES: usize = 8;
 
 /// Runs the handler of an event that enters switch `me` at tick `now`, and gives what it sends out.
 /// An event without a handler changes nothing. What it sends out fits the program, and so do the cells after it, where they did before.
@@ -34,18 +37,45 @@ pub fn run_whole(
     ensures unchanged { OnErr result (cells.new ≡ cells.old) }
     ensures fit { IsTrue (cells_fit core.now cells.old) → IsTrue (cells_fit core.now cells.new) }
 {
+    let mut outs = Outs::new();
+    run_into(alloc, core, cells, now, me, event, &mut outs)?;
+    Ok(outs)
+}
+
+/// The same where what is sent out has its place, in which there is nothing: it is as large as all else that a run hands on, and so isn't
+/// moved.
+pub fn run_into(
+    alloc: Global,
+    core: &Core,
+    cells: &mut Cells,
+    now: u64,
+    me: u32,
+    event: &Event,
+    outs: &mut Outs,
+) -> Result<(), Memory>
+    requires empty { outs.old ≡ [] }
+    ensures outs { OnOk result (outs.new ≡ (step core.now cells.old now me event.now).outs) }
+    ensures fits { OnOk result (All (λ out. IsTrue (out_fits core.now out)) outs.new) }
+    ensures cells { OnOk result (cells.new ≡ (step core.now cells.old now me event.now).cells) }
+    ensures unchanged { OnErr result (cells.new ≡ cells.old) }
+    ensures fit { IsTrue (cells_fit core.now cells.old) → IsTrue (cells_fit core.now cells.new) }
+{
     outs_fit(core);
     cells_stay_fit(core);
     match handler_of(core, event.id) {
-        None => Ok(Outs::new()),
-        Some(handler) => handle(
-            alloc,
-            core,
-            cells,
-            Moment { now, me },
-            event.args.as_slice(),
-            handler,
-        ),
+        None => Ok(()),
+        Some(handler) => {
+            handle(
+                alloc,
+                core,
+                cells,
+                Moment { now, me },
+                event.args.as_slice(),
+                handler,
+                outs,
+            )?;
+            Ok(())
+        }
     }
 }
 
@@ -58,6 +88,7 @@ fn handler_of(core: &Core, id: u32) -> Option<&HandlerDef>
     core.handlers().get(handler as usize)
 }
 
+/// Runs a handler, and puts what it sends out where nothing was.
 fn handle(
     alloc: Global,
     core: &Core,
@@ -65,16 +96,24 @@ fn handle(
     moment: Moment,
     args: &[u64],
     handler: &HandlerDef,
-) -> Result<Outs, Memory>
+    outs: &mut Outs,
+) -> Result<(), Memory>
+    requires empty { outs.old ≡ [] }
     requires few { length (handled (Some handler.now) core.now cells.old moment.now moment.me args.now).after.outs ≤ 8 }
     requires small { All (λ out. length (carried out) ≤ 8) (handled (Some handler.now) core.now cells.old moment.now moment.me args.now).after.outs }
-    ensures outs { IfOk result (λ outs. outs ≡ (handled (Some handler.now) core.now cells.old moment.now moment.me args.now).after.outs) }
+    ensures outs { OnOk result (outs.new ≡ (handled (Some handler.now) core.now cells.old moment.now moment.me args.now).after.outs) }
     ensures cells { OnOk result (cells.new ≡ (handled (Some handler.now) core.now cells.old moment.now moment.me args.now).after.cells) }
     ensures unchanged { OnErr result (cells.new ≡ cells.old) }
 {
     let widths = handler.locals.as_slice();
     let locals = with_zeros(taken(alloc, widths, args)?, widths)?;
-    let mut run = Run::begin(alloc, mem::replace(cells, Cells::none(alloc)), locals);
+    let writes = Vec::with_capacity(alloc, WRITES)?;
+    let mut run = Run::begin(
+        alloc,
+        mem::replace(cells, Cells::none(alloc)),
+        locals,
+        writes,
+    );
     let none: [u32; 0] = [];
     let place = Place {
         alloc,
@@ -82,10 +121,10 @@ fn handle(
         arrays: &none,
         funs: core.funs(),
     };
-    match run_body(&place, &mut run, handler.body.as_slice()) {
-        Ok(outs) => {
+    match run_body(&place, &mut run, handler.body.as_slice(), outs) {
+        Ok(()) => {
             *cells = run.finish();
-            Ok(outs)
+            Ok(())
         }
         Err(error) => {
             *cells = run.undo();
@@ -94,16 +133,18 @@ fn handle(
     }
 }
 
-/// Runs a handler's body, and gives what was sent out.
-fn run_body(place: &Place, run: &mut Run, body: &[Stmt]) -> Result<Outs, Memory>
+/// Runs a handler's body, and puts what was sent out where nothing was.
+fn run_body(place: &Place, run: &mut Run, body: &[Stmt], outs: &mut Outs) -> Result<(), Memory>
+    requires empty { outs.old ≡ [] }
     requires few { length (block (map effect_of body.now) (frame place.now) run.old.state).after.outs ≤ 8 }
     requires small { All (λ out. length (carried out) ≤ 8) (block (map effect_of body.now) (frame place.now) run.old.state).after.outs }
-    ensures outs { IfOk result (λ outs. outs ≡ (block (map effect_of body.now) (frame place.now) run.old.state).after.outs) }
+    ensures outs { OnOk result (outs.new ≡ (block (map effect_of body.now) (frame place.now) run.old.state).after.outs) }
     ensures state { OnOk result (run.new ≡ with_state run.old (block (map effect_of body.now) (frame place.now) run.old.state).after) }
     ensures start { OnErr result (run.new.start ≡ run.old.start) }
 {
     effects(place, STACK, run, body)?;
-    Ok(run.sent())
+    run.collect(outs);
+    Ok(())
 }
 
 /// Arguments as values of these widths, with room for a local of each.

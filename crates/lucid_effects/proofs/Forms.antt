@@ -13,13 +13,13 @@ use Rattle.lucid_core.specs.declared.body.Expr.TheViews.{roll-Expr, roll-Stmt}
 use Rattle.lucid_core.specs.declared.body.Stmt.TheVariants as s
 use Rattle.lucid_effects_order.specs.Evaluation.{both, expr_step, optional, sequence, stmt_step, touch_step}
 use Rattle.lucid_effects_schemes.specs.declared.scheme.Scheme.{Scheme}
-use Rattle.lucid_effects_schemes.specs.Schemes.{Act, Walked, body_found, either, expr_found, finds, given_found, goes_through, stmt_found, touch_found, visit}
+use Rattle.lucid_effects_schemes.specs.Schemes.{Advance, Walked, body_found, either, expr_found, finds, given_found, goes_through, stmt_found, touch_found, visit}
 
-expr_is : (x : Expr) (y : Expr-F Expr Stmt Touch) → roll-Expr y ≡ x → (fs : List Scheme) (w : Walked) → expr_found x fs w ≡ expr_step finds (map-Expr Expr Stmt Touch Act Act Act expr_found stmt_found touch_found y) fs w
-expr_is x y is fs w = ap (λ (z : Expr). expr_found z fs w) (sym is) ∙ ap (λ (f : Act). f fs w) (fold-roll-Expr Act Act Act (expr_step finds) (stmt_step finds) (touch_step finds) y)
+expr_is : (x : Expr) (y : Expr-F Expr Stmt Touch) → roll-Expr y ≡ x → (fs : List Scheme) (w : Walked) → expr_found x fs w ≡ expr_step finds (map-Expr Expr Stmt Touch Advance Advance Advance expr_found stmt_found touch_found y) fs w
+expr_is x y is fs w = ap (λ (z : Expr). expr_found z fs w) (sym is) ∙ ap (λ (f : Advance). f fs w) (fold-roll-Expr Advance Advance Advance (expr_step finds) (stmt_step finds) (touch_step finds) y)
 
-stmt_is : (x : Stmt) (y : Stmt-F Expr Stmt Touch) → roll-Stmt y ≡ x → (fs : List Scheme) (w : Walked) → stmt_found x fs w ≡ stmt_step finds (map-Stmt Expr Stmt Touch Act Act Act expr_found stmt_found touch_found y) fs w
-stmt_is x y is fs w = ap (λ (z : Stmt). stmt_found z fs w) (sym is) ∙ ap (λ (f : Act). f fs w) (fold-roll-Stmt Act Act Act (expr_step finds) (stmt_step finds) (touch_step finds) y)
+stmt_is : (x : Stmt) (y : Stmt-F Expr Stmt Touch) → roll-Stmt y ≡ x → (fs : List Scheme) (w : Walked) → stmt_found x fs w ≡ stmt_step finds (map-Stmt Expr Stmt Touch Advance Advance Advance expr_found stmt_found touch_found y) fs w
+stmt_is x y is fs w = ap (λ (z : Stmt). stmt_found z fs w) (sym is) ∙ ap (λ (f : Advance). f fs w) (fold-roll-Stmt Advance Advance Advance (expr_step finds) (stmt_step finds) (touch_step finds) y)
 
 pub bin_is : (op : BinOp) (a b : Expr) (fs : List Scheme) (w : Walked) → expr_found (e.Bin op a b) fs w ≡ expr_found b fs (expr_found a fs (visit w))
 bin_is op a b = expr_is (e.Bin op a b) (Expr-F.Bin op a b) (e.rolls-Bin op a b)
@@ -43,7 +43,7 @@ pub gen_is : (event : ℕ) (es : List Expr) (delay to : Option Expr) (first : Bo
     stmt_found (s.Gen event es delay to first) fs w ≡ both finds first (optional finds (option_map expr_found delay)) (optional finds (option_map expr_found to)) fs (sequence finds (map expr_found es) fs (visit w))
 gen_is event es delay to first fs w = stmt_is (s.Gen event es delay to first) (Stmt-F.Gen event es delay to first) (s.rolls-Gen event es delay to first) fs w ∙ cases delay to
   where
-    cases : (delay to : Option Expr) → stmt_step finds (map-Stmt Expr Stmt Touch Act Act Act expr_found stmt_found touch_found (Stmt-F.Gen event es delay to first)) fs w
+    cases : (delay to : Option Expr) → stmt_step finds (map-Stmt Expr Stmt Touch Advance Advance Advance expr_found stmt_found touch_found (Stmt-F.Gen event es delay to first)) fs w
         ≡ both finds first (optional finds (option_map expr_found delay)) (optional finds (option_map expr_found to)) fs (sequence finds (map expr_found es) fs (visit w))
     cases None None = refl
     cases None (Some t) = refl
@@ -54,7 +54,7 @@ pub multi_is : (event : ℕ) (es : List Expr) (delay : Option Expr) (members : L
     stmt_found (s.Multi event es delay members) fs w ≡ optional finds (option_map expr_found delay) fs (sequence finds (map expr_found es) fs (visit w))
 multi_is event es delay members fs w = stmt_is (s.Multi event es delay members) (Stmt-F.Multi event es delay members) (s.rolls-Multi event es delay members) fs w ∙ cases delay
   where
-    cases : (delay : Option Expr) → stmt_step finds (map-Stmt Expr Stmt Touch Act Act Act expr_found stmt_found touch_found (Stmt-F.Multi event es delay members)) fs w
+    cases : (delay : Option Expr) → stmt_step finds (map-Stmt Expr Stmt Touch Advance Advance Advance expr_found stmt_found touch_found (Stmt-F.Multi event es delay members)) fs w
         ≡ optional finds (option_map expr_found delay) fs (sequence finds (map expr_found es) fs (visit w))
     cases None = refl
     cases (Some d) = refl

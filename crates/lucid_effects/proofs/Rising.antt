@@ -13,19 +13,19 @@ use Rattle.lucid_core.specs.declared.body.Stmt.TheVariants as s
 use Rattle.lucid_effects_order.specs.Evaluation.{both, expr_step, optional, sequence, stmt_step, touch_step}
 use Rattle.lucid_effects_order.proofs.Walks.{expr_relates, stmt_relates}
 use Rattle.lucid_effects_schemes.specs.declared.scheme.Scheme.{Scheme}
-use Rattle.lucid_effects_schemes.specs.Schemes.{Act, Walked, begun, body_found, either, expr_found, finds, given_found, passes, stmt_found, through, touch_found, visit}
+use Rattle.lucid_effects_schemes.specs.Schemes.{Advance, Walked, begun, body_found, either, expr_found, finds, given_found, passes, stmt_found, through, touch_found, visit}
 use Rattle.lucid_effects.proofs.Forms.{bin_is, cmp_is, gen_is, if_is, inlined_is, multi_is}
 
-abbrev Up : Act → Type 0
+abbrev Up : Advance → Type 0
 Up f = (fs : List Scheme) (w : Walked) → w.steps ≤ (f fs w).steps
 
 nothing : Up finds.nothing
 nothing fs w = omega arith
 
-in_turn : (f g : Act) → Up f → Up g → Up (finds.in_turn f g)
+in_turn : (f g : Advance) → Up f → Up g → Up (finds.in_turn f g)
 in_turn f g h k fs w = let a = h fs w in let b = k fs (f fs w) in omega (arith, a, b)
 
-branches : (f g : Act) → Up f → Up g → Up (either f g)
+branches : (f g : Advance) → Up f → Up g → Up (either f g)
 branches f g h k fs w = let a = h fs w in let left : Walked = f fs w in let b = k fs (record left { ends = w.ends }) in omega (arith, a, b)
 
 array : (a : ArrayName) → Up (passes a)
@@ -38,7 +38,7 @@ function k names fs w = of (slice_get fs k)
     of None = omega arith
     of (Some f) = omega arith
 
-node : (f : Act) → Up f → Up (finds.node f)
+node : (f : Advance) → Up f → Up (finds.node f)
 node f h fs w = let a = h fs (visit w) in omega (arith, a)
 
 expr_up : (x : Expr) → Up (expr_found x)
@@ -47,7 +47,7 @@ expr_up = expr_relates finds finds (λ f g. Up f) nothing (λ f g c d h k. in_tu
 stmt_up : (x : Stmt) → Up (stmt_found x)
 stmt_up = stmt_relates finds finds (λ f g. Up f) nothing (λ f g c d h k. in_turn f g h k) (λ f g c d h k. branches f g h k) array function (λ f g h. node f h)
 
-list_up : {T : Type 0} (walk : T → Act) → ((x : T) → Up (walk x)) → (xs : List T) → Up (sequence finds (map walk xs))
+list_up : {T : Type 0} (walk : T → Advance) → ((x : T) → Up (walk x)) → (xs : List T) → Up (sequence finds (map walk xs))
 list_up walk h [] = nothing
 list_up walk h (x ∷ xs) = in_turn (walk x) (sequence finds (map walk xs)) (h x) (list_up walk h xs)
 
@@ -61,7 +61,7 @@ begun_left body fs n k is = let more = list_up stmt_found stmt_up body fs (begun
 
 -- ---- loops, stopped at one item
 
-item_left : {T : Type 0} (walk : T → Act) → ((x : T) → Up (walk x)) → (xs : List T) (i : ℕ) (x : T) (fs : List Scheme) (w v : Walked) (k : ℕ) → i < length xs → x ≡ get_or xs i x →
+item_left : {T : Type 0} (walk : T → Advance) → ((x : T) → Up (walk x)) → (xs : List T) (i : ℕ) (x : T) (fs : List Scheme) (w v : Walked) (k : ℕ) → i < length xs → x ≡ get_or xs i x →
     sequence finds (map walk (drop i xs)) fs w ≡ sequence finds (map walk xs) fs v → k ≤ (walk x fs w).steps → k ≤ (sequence finds (map walk xs) fs v).steps
 item_left walk up xs i x fs w v k within is same most =
     let rest : sequence finds (map walk (x ∷ drop (i + 1) xs)) fs w ≡ sequence finds (map walk xs) fs v =
@@ -77,15 +77,15 @@ expr_left = item_left expr_found expr_up
 pub stmt_left : (xs : List Stmt) (i : ℕ) (x : Stmt) (fs : List Scheme) (w v : Walked) (k : ℕ) → i < length xs → x ≡ get_or xs i x → body_found (drop i xs) fs w ≡ body_found xs fs v → k ≤ (stmt_found x fs w).steps → k ≤ (body_found xs fs v).steps
 stmt_left = item_left stmt_found stmt_up
 
-abbrev argument : ℕ × Expr → Act
+abbrev argument : ℕ × Expr → Advance
 argument g = expr_found g.1
 
-arguments : (gs : List (ℕ × Expr)) → map (λ (g : ℕ × Act). g.1) (map (λ (g : ℕ × Expr). (g.0, expr_found g.1)) gs) ≡ map argument gs
+arguments : (gs : List (ℕ × Expr)) → map (λ (g : ℕ × Advance). g.1) (map (λ (g : ℕ × Expr). (g.0, expr_found g.1)) gs) ≡ map argument gs
 arguments [] = refl
-arguments (g ∷ gs) = ap (λ (fs : List Act). expr_found g.1 ∷ fs) (arguments gs)
+arguments (g ∷ gs) = ap (λ (fs : List Advance). expr_found g.1 ∷ fs) (arguments gs)
 
 given_is : (gs : List (ℕ × Expr)) (fs : List Scheme) (w : Walked) → given_found gs fs w ≡ sequence finds (map argument gs) fs w
-given_is gs fs w = ap (λ (acts : List Act). sequence finds acts fs w) (arguments gs)
+given_is gs fs w = ap (λ (acts : List Advance). sequence finds acts fs w) (arguments gs)
 
 pub given_left : (gs : List (ℕ × Expr)) (i : ℕ) (g : ℕ × Expr) (fs : List Scheme) (w v : Walked) (k : ℕ) → i < length gs → g ≡ get_or gs i g → given_found (drop i gs) fs w ≡ given_found gs fs v → k ≤ (expr_found g.1 fs w).steps →
     k ≤ (given_found gs fs v).steps
@@ -115,7 +115,7 @@ module _ (t : Touch) (fs : List Scheme) (w : Walked) (k : ℕ) where
   get = expr_found (out-Touch t).get_arg fs index
 
   touch_is : touch_found t fs w ≡ passes (out-Touch t).array fs (expr_found (out-Touch t).set_arg fs get)
-  touch_is = ap (λ (u : Touch). touch_found u fs w) (sym (roll-out-Touch t)) ∙ ap (λ (f : Act). f fs w) (fold-roll-Touch Act Act Act (expr_step finds) (stmt_step finds) (touch_step finds) (out-Touch t))
+  touch_is = ap (λ (u : Touch). touch_found u fs w) (sym (roll-out-Touch t)) ∙ ap (λ (f : Advance). f fs w) (fold-roll-Touch Advance Advance Advance (expr_step finds) (stmt_step finds) (touch_step finds) (out-Touch t))
 
   pub get_left : k ≤ get.steps → k ≤ (touch_found t fs w).steps
   get_left most =
@@ -147,7 +147,7 @@ module _ (event : ℕ) (es : List Expr) (delay to : Option Expr) (y : Stmt) (fs 
   abbrev sent : Walked
   sent = sequence finds (map expr_found es) fs (visit w)
 
-  abbrev one : Option Expr → Act
+  abbrev one : Option Expr → Advance
   one x = optional finds (option_map expr_found x)
 
   opened : (first : Bool) → y ≡ s.Gen event es delay to first → (stmt_found y fs w).steps ≡ (both finds first (one delay) (one to) fs sent).steps

@@ -4,7 +4,7 @@ use Rattle.std.specs.Prelude.{AllPairs, Contains}
 use Rattle.std.proofs.lemmas.List.Elements.{All-contains, Contains-append_right}
 use Rattle.lucid_core.specs.declared.defs.EventDef.{EventDef}
 use Rattle.lucid_core.specs.declared.defs.HandlerDef.{HandlerDef}
-use Rattle.lucid_core.specs.Acts.{array_of, begun_with}
+use Rattle.lucid_core.specs.Computations.{array_of, begun_with}
 use Rattle.lucid_core.specs.Parts.{CoreParts}
 use Rattle.lucid_core.specs.Step.{handled, started, taken_at, touches}
 use Rattle.lucid_core.specs.Valid.{IsSound}

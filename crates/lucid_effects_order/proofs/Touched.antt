@@ -16,7 +16,7 @@ use Rattle.lucid_core.specs.declared.body.Expr.TheOpen.{Expr-F, Stmt-F, Touch-F}
 use Rattle.lucid_core.specs.declared.body.Expr.TheViews.{roll-Expr, roll-Stmt, roll-Touch}
 use Rattle.lucid_core.specs.declared.body.Expr.TheFolds.{fold-roll-Expr, fold-roll-Stmt, fold-roll-Touch, ind-Stmt, map-Expr, map-Stmt, map-Touch}
 use Rattle.lucid_core.specs.declared.defs.FunDef.{FunDef}
-use Rattle.lucid_core.specs.Acts.{Act, Effect, Frame, Fun, State, all, array_of, block, both, called, change, give, send, touched, ◌>>=◌, begun_with}
+use Rattle.lucid_core.specs.Computations.{Computation, Effect, Frame, Fun, State, all, array_of, block, both, called, change, give, send, touched, ◌>>=◌, begun_with}
 use Rattle.lucid_core.specs.Meaning as m
 use Rattle.lucid_core.specs.Meaning.{all_given, call, delay_of, effect_of, fun_of, generated, holding, target_of, touch_of, value_of}
 use Rattle.lucid_effects_order.specs.Evaluation as walk
@@ -36,7 +36,7 @@ abbrev FunFollows : Fun → List Path → Type 0
 FunFollows f qs = (arrays : List ℕ) (vs : List Bits) (s : State) → Member (f arrays vs s).calls (as_called arrays qs)
 
 -- What an act calls is one of its part's paths.
-abbrev Follows : {A : Type 0} → Act A → Paths → Type 0
+abbrev Follows : {A : Type 0} → Computation A → Paths → Type 0
 Follows act f = (p : Frame) (fs : List (List Path)) → Pairwise FunFollows p.funs fs → (s : State) → Member (act p s).calls (as_called p.arrays (f fs))
 
 infixr 20 ◌⨾◌
@@ -56,17 +56,17 @@ one_then arrays xs ys ps qs h k =
     subst (λ (zs : List ℕ). Member zs (as_called arrays (each_then ps qs))) (map-append (array_of arrays) p.0 q.0 ∙ ap₂ (λ (x y : List ℕ). x ++ y) p.2 q.2)
     (in_map (map (array_of arrays)) (p.0 ++ q.0) (each_then ps qs) (in_then p.0 q.0 ps qs p.1 q.1))
 
-then_both : {A B : Type 0} (a : Act A) (k : A → Act B) (f g : Paths) → Follows a f → ((x : A) → Follows (k x) g) → Follows (a >>= k) (f ⨾ g)
+then_both : {A B : Type 0} (a : Computation A) (k : A → Computation B) (f g : Paths) → Follows a f → ((x : A) → Follows (k x) g) → Follows (a >>= k) (f ⨾ g)
 then_both a k f g h i p fs ok s =
     let first = a p s in
     one_then p.arrays first.calls (k first.gives p first.after).calls (f fs) (g fs) (h p fs ok s) (i first.gives p fs ok first.after)
 
-then_still : {A B : Type 0} (a : Act A) (k : A → Act B) (f : Paths) → Follows a f → ((x : A) (p : Frame) (s : State) → (k x p s).calls ≡ []) → Follows (a >>= k) f
+then_still : {A B : Type 0} (a : Computation A) (k : A → Computation B) (f : Paths) → Follows a f → ((x : A) (p : Frame) (s : State) → (k x p s).calls ≡ []) → Follows (a >>= k) f
 then_still a k f h quiet p fs ok s =
     let first = a p s in
     subst (λ (ys : List ℕ). Member ys (as_called p.arrays (f fs))) (sym (append-nil first.calls) ∙ ap (λ (zs : List ℕ). first.calls ++ zs) (sym (quiet first.gives p first.after))) (h p fs ok s)
 
-still : {A : Type 0} (a : Act A) → ((p : Frame) (s : State) → (a p s).calls ≡ []) → Follows a o.all_paths.nothing
+still : {A : Type 0} (a : Computation A) → ((p : Frame) (s : State) → (a p s).calls ≡ []) → Follows a o.all_paths.nothing
 still a quiet p fs ok s = inl (sym (quiet p s))
 
 called_follows : (locals : List Bits) (body : Effect) (f : Paths) → Follows body f → Follows (called locals body) f
@@ -162,7 +162,7 @@ touch_tree = map-Touch E S T Expr Stmt Touch (λ e. e.0) (λ e. e.0) (λ e. e.0)
 abbrev pub stmt_tree : Stmt-F E S T → Stmt-F Expr Stmt Touch
 stmt_tree = map-Stmt E S T Expr Stmt Touch (λ e. e.0) (λ e. e.0) (λ e. e.0)
 
-expr_level : (y : Expr-F E S T) → Follows (m.expr_step (map-Expr Expr Stmt Touch (Act Bits) Effect (Act Bits) value_of effect_of touch_of (expr_tree y)))
+expr_level : (y : Expr-F E S T) → Follows (m.expr_step (map-Expr Expr Stmt Touch (Computation Bits) Effect (Computation Bits) value_of effect_of touch_of (expr_tree y)))
     (walk.expr_step o.all_paths (map-Expr Expr Stmt Touch Paths Paths Paths expr_paths stmt_paths touch_paths (expr_tree y)))
 expr_level (Expr-F.Fixed b) = still (give b) (λ p s. refl)
 expr_level (Expr-F.Local i) = still (λ p s. give (slice_index_or s.locals i nothing) p s) (λ p s. refl)
@@ -185,10 +185,10 @@ expr_level (Expr-F.Inlined given es) =
     then_both args (λ held. λ p s. called (holding s.locals held) body p s) paths end (given_follow given)
     (λ held p fs ok s. called_follows (holding s.locals held) body end (block_follow es) p fs ok s)
 
-touch_level : (y : Touch-F E S T) → Follows (m.touch_step (map-Touch Expr Stmt Touch (Act Bits) Effect (Act Bits) value_of effect_of touch_of (touch_tree y)))
+touch_level : (y : Touch-F E S T) → Follows (m.touch_step (map-Touch Expr Stmt Touch (Computation Bits) Effect (Computation Bits) value_of effect_of touch_of (touch_tree y)))
     (walk.touch_step o.all_paths (map-Touch Expr Stmt Touch Paths Paths Paths expr_paths stmt_paths touch_paths (touch_tree y)))
 touch_level y =
-    let act : Bits → Bits → Bits → Act Bits = λ i g v. touched y.array i.value (λ old. memop y.get old g) (λ old. memop y.set old v) in
+    let act : Bits → Bits → Bits → Computation Bits = λ i g v. touched y.array i.value (λ old. memop y.get old g) (λ old. memop y.set old v) in
     let last = o.all_paths.array y.array in
     then_both (value_of y.index.0) (λ i. value_of y.get_arg.0 >>= (λ g. value_of y.set_arg.0 >>= (λ v. act i g v))) (expr_paths y.index.0) (expr_paths y.get_arg.0 ⨾ expr_paths y.set_arg.0 ⨾ last) y.index.1
     (λ i. then_both (value_of y.get_arg.0) (λ g. value_of y.set_arg.0 >>= (λ v. act i g v)) (expr_paths y.get_arg.0) (expr_paths y.set_arg.0 ⨾ last) y.get_arg.1
@@ -199,7 +199,7 @@ optional_follows : {A : Type 0} (absent : A) (given : ℕ → A) (e : Option E) 
 optional_follows absent given None = still (give absent) (λ p s. refl)
 optional_follows absent given (Some e) = then_still (value_of e.0) (λ v. give (given v.value)) (expr_paths e.0) e.1 (λ v p s. refl)
 
-both_follow : {A B : Type 0} (first : Bool) (a : Act A) (b : Act B) (f g : Paths) → Follows a f → Follows b g → Follows (both first a b) (walk.both o.all_paths first f g)
+both_follow : {A B : Type 0} (first : Bool) (a : Computation A) (b : Computation B) (f g : Paths) → Follows a f → Follows b g → Follows (both first a b) (walk.both o.all_paths first f g)
 both_follow {A} {B} true a b f g h k = then_both {B = A × B} a (λ x. b >>= (λ y. give (x, y))) f g h (λ x. then_still {B = A × B} b (λ y. give (x, y)) g k (λ y p s. refl))
 both_follow {A} {B} false a b f g h k = then_both {B = A × B} b (λ y. a >>= (λ x. give (x, y))) g f k (λ y. then_still {B = A × B} a (λ x. give (x, y)) f h (λ x p s. refl))
 
@@ -225,7 +225,7 @@ multi_follows event es delay members =
     then_both args (λ vs. d >>= (λ ticks. send (map (generated event vs ticks) (map At members)))) (walk.sequence o.all_paths (map expr_paths (exprs es))) de (all_follow es)
     (λ vs. then_still d (λ ticks. send (map (generated event vs ticks) (map At members))) de (optional_follows 0 (λ ticks. ticks) delay) (λ ticks p s. refl))
 
-stmt_level : (y : Stmt-F E S T) → Follows (m.stmt_step (map-Stmt Expr Stmt Touch (Act Bits) Effect (Act Bits) value_of effect_of touch_of (stmt_tree y)))
+stmt_level : (y : Stmt-F E S T) → Follows (m.stmt_step (map-Stmt Expr Stmt Touch (Computation Bits) Effect (Computation Bits) value_of effect_of touch_of (stmt_tree y)))
     (walk.stmt_step o.all_paths (map-Stmt Expr Stmt Touch Paths Paths Paths expr_paths stmt_paths touch_paths (stmt_tree y)))
 stmt_level (Stmt-F.Assign i e) = then_still (value_of e.0) (λ v. change (λ s. record s { locals = slice_set s.locals i v })) (expr_paths e.0) e.1 (λ v p s. refl)
 stmt_level (Stmt-F.Drop e) = then_still (value_of e.0) (λ _. give (tt {0})) (expr_paths e.0) e.1 (λ v p s. refl)
@@ -242,17 +242,17 @@ stmt_level (Stmt-F.Say form es) = then_still (all (map value_of (exprs es))) (λ
 stmt_level (Stmt-F.Return None) = still {A = Unit {0}} (give (tt {0})) (λ p s. refl)
 stmt_level (Stmt-F.Return (Some e)) = then_still (value_of e.0) (λ v. change (λ s. record s { answer = v })) (expr_paths e.0) e.1 (λ v p s. refl)
 
-along : {A : Type 0} (a b : Act A) (f g : Paths) → a ≡ b → f ≡ g → Follows b g → Follows a f
-along {A} a b f g e h is = subst (λ (x : Act A). Follows x f) (sym e) (subst (λ (y : Paths). Follows b y) (sym h) is)
+along : {A : Type 0} (a b : Computation A) (f g : Paths) → a ≡ b → f ≡ g → Follows b g → Follows a f
+along {A} a b f g e h is = subst (λ (x : Computation A). Follows x f) (sym e) (subst (λ (y : Paths). Follows b y) (sym h) is)
 
 of_expr : (y : Expr-F E S T) → Follows (value_of (roll-Expr (expr_tree y))) (expr_paths (roll-Expr (expr_tree y)))
-of_expr y = along _ _ _ _ (fold-roll-Expr (Act Bits) Effect (Act Bits) m.expr_step m.stmt_step m.touch_step (expr_tree y)) (fold-roll-Expr Paths Paths Paths (walk.expr_step o.all_paths) (walk.stmt_step o.all_paths) (walk.touch_step o.all_paths) (expr_tree y)) (expr_level y)
+of_expr y = along _ _ _ _ (fold-roll-Expr (Computation Bits) Effect (Computation Bits) m.expr_step m.stmt_step m.touch_step (expr_tree y)) (fold-roll-Expr Paths Paths Paths (walk.expr_step o.all_paths) (walk.stmt_step o.all_paths) (walk.touch_step o.all_paths) (expr_tree y)) (expr_level y)
 
 of_stmt : (y : Stmt-F E S T) → Follows (effect_of (roll-Stmt (stmt_tree y))) (stmt_paths (roll-Stmt (stmt_tree y)))
-of_stmt y = along _ _ _ _ (fold-roll-Stmt (Act Bits) Effect (Act Bits) m.expr_step m.stmt_step m.touch_step (stmt_tree y)) (fold-roll-Stmt Paths Paths Paths (walk.expr_step o.all_paths) (walk.stmt_step o.all_paths) (walk.touch_step o.all_paths) (stmt_tree y)) (stmt_level y)
+of_stmt y = along _ _ _ _ (fold-roll-Stmt (Computation Bits) Effect (Computation Bits) m.expr_step m.stmt_step m.touch_step (stmt_tree y)) (fold-roll-Stmt Paths Paths Paths (walk.expr_step o.all_paths) (walk.stmt_step o.all_paths) (walk.touch_step o.all_paths) (stmt_tree y)) (stmt_level y)
 
 of_touch : (y : Touch-F E S T) → Follows (touch_of (roll-Touch (touch_tree y))) (touch_paths (roll-Touch (touch_tree y)))
-of_touch y = along _ _ _ _ (fold-roll-Touch (Act Bits) Effect (Act Bits) m.expr_step m.stmt_step m.touch_step (touch_tree y)) (fold-roll-Touch Paths Paths Paths (walk.expr_step o.all_paths) (walk.stmt_step o.all_paths) (walk.touch_step o.all_paths) (touch_tree y)) (touch_level y)
+of_touch y = along _ _ _ _ (fold-roll-Touch (Computation Bits) Effect (Computation Bits) m.expr_step m.stmt_step m.touch_step (touch_tree y)) (fold-roll-Touch Paths Paths Paths (walk.expr_step o.all_paths) (walk.stmt_step o.all_paths) (walk.touch_step o.all_paths) (touch_tree y)) (touch_level y)
 
 stmt_follows : (e : Stmt) → Follows (effect_of e) (stmt_paths e)
 stmt_follows = ind-Stmt (λ e. Follows (value_of e) (expr_paths e)) (λ e. Follows (effect_of e) (stmt_paths e)) (λ e. Follows (touch_of e) (touch_paths e))

@@ -6,7 +6,7 @@ use Rattle.lucid_base.specs.declared.event.Event.{Event}
 use Rattle.lucid_core.specs.declared.body.Stmt.{Stmt}
 use Rattle.lucid_core.specs.declared.defs.FunDef.{FunDef}
 use Rattle.lucid_core.specs.declared.defs.HandlerDef.{HandlerDef}
-use Rattle.lucid_core.specs.Acts.{array_of}
+use Rattle.lucid_core.specs.Computations.{array_of}
 use Rattle.lucid_core.specs.Parts.{CoreParts}
 use Rattle.lucid_core.specs.Step.{handler_of, touches}
 use Rattle.lucid_effects_order.specs.Cycle.{IsCycle}

@@ -27,7 +27,7 @@ use Rattle.lucid_effects_order.proofs.Walks.{first_of, paired, second_of}
 use Rattle.lucid_effects_order.proofs.Within.{body_keeps as within}
 use Rattle.lucid_effects_schemes.specs.declared.scheme.Scheme.{Scheme}
 use Rattle.lucid_effects_schemes.specs.Laws.{WalksAreShort, steps_a_node}
-use Rattle.lucid_effects_schemes.specs.Schemes.{Act, Walked, begun, body_found, either, finds, goes_through, passes, scheme_of, schemes_of, through, visit}
+use Rattle.lucid_effects_schemes.specs.Schemes.{Advance, Walked, begun, body_found, either, finds, goes_through, passes, scheme_of, schemes_of, through, visit}
 use Rattle.lucid_effects_schemes.proofs.Codes.{AtomIn, NameIn, PairIn, atom_below, atom_code, atom_tells, pair_below, pair_code, pair_tells}
 use Rattle.lucid_effects_schemes.proofs.Few.{Apart, Each, apart-few, apart-join_all, each_join_all}
 
@@ -86,7 +86,7 @@ mul_more : (a b k : ℕ) → (a + b) * k ≡ a * k + b * k
 mul_more a b k = omega arith
 
 -- Behind these schemes the walk keeps what is good, and takes at most so many steps.
-abbrev Costs : ℕ → List Scheme → Act → ℕ → Type 0
+abbrev Costs : ℕ → List Scheme → Advance → ℕ → Type 0
 Costs n fs f most = (w : Walked) → Good n w → Good n (f fs w) × ((f fs w).steps ≤ w.steps + most)
 
 enough : (n : ℕ) → n + 11 ≤ steps_a_node n
@@ -96,13 +96,13 @@ enough_for_calls : (n : ℕ) → (n + 10) * (n + 9) + 1 ≤ steps_a_node n
 enough_for_calls n = omega arith
 
 module _ (n : ℕ) (fs : List Scheme) (known : Each (SchemeIn n) fs) (s : Scope) (arrays : length s.arrays ≤ n) (params : length s.params ≤ 8) where
-  abbrev Cheap : Act × ℕ → Type 0
+  abbrev Cheap : Advance × ℕ → Type 0
   Cheap x = Costs n fs x.0 (x.1 * steps_a_node n)
 
   silent : Cheap ((λ fs w. w), 0)
   silent w good = (good, omega arith)
 
-  in_turn : (f g : Act × ℕ) → Cheap f → Cheap g → Cheap (finds.in_turn f.0 g.0, f.1 + g.1)
+  in_turn : (f g : Advance × ℕ) → Cheap f → Cheap g → Cheap (finds.in_turn f.0 g.0, f.1 + g.1)
   in_turn f g h k w good =
       let one = h w good in
       let two = k (f.0 fs w) one.0 in
@@ -111,7 +111,7 @@ module _ (n : ℕ) (fs : List Scheme) (known : Each (SchemeIn n) fs) (s : Scope)
       let both : (f.1 + g.1) * steps_a_node n ≡ f.1 * steps_a_node n + g.1 * steps_a_node n = mul_more f.1 g.1 (steps_a_node n) in
       (two.0, omega (arith, a, b, both))
 
-  branches : (f g : Act × ℕ) → Cheap f → Cheap g → Cheap (either f.0 g.0, f.1 + g.1)
+  branches : (f g : Advance × ℕ) → Cheap f → Cheap g → Cheap (either f.0 g.0, f.1 + g.1)
   branches f g h k w good =
       let one = h w good in
       let left : Walked = f.0 fs w in
@@ -121,7 +121,7 @@ module _ (n : ℕ) (fs : List Scheme) (known : Each (SchemeIn n) fs) (s : Scope)
       let both : (f.1 + g.1) * steps_a_node n ≡ f.1 * steps_a_node n + g.1 * steps_a_node n = mul_more f.1 g.1 (steps_a_node n) in
       ((two.0.0, apart-join_all (AtomIn n) (atom_code n) same_atom (atom_tells n) left.ends (g.0 fs (record left { ends = w.ends })).ends one.0.1 two.0.1.0), omega (arith, a, b, both))
 
-  node : (f : Act × ℕ) → Cheap f → Cheap (finds.node f.0, 1 + f.1)
+  node : (f : Advance × ℕ) → Cheap f → Cheap (finds.node f.0, 1 + f.1)
   node f h w good =
       let one = h (visit w) good in
       let a = one.1 in

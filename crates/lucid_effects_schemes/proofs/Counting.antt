@@ -8,16 +8,16 @@ use Rattle.lucid_constraints.specs.Same.{same_atom, same_pair, join_all}
 use Rattle.lucid_constraints.specs.Substitution.{ends_from, needs_from, pair}
 use Rattle.lucid_effects_order.proofs.Walks.{bodies_relate}
 use Rattle.lucid_effects_schemes.specs.declared.scheme.Scheme.{Scheme}
-use Rattle.lucid_effects_schemes.specs.Schemes.{Act, Walked, begun, body_found, either, finds, scheme, scheme_of, through, visit}
+use Rattle.lucid_effects_schemes.specs.Schemes.{Advance, Walked, begun, body_found, either, finds, scheme, scheme_of, through, visit}
 
 -- Two that ask the same and stand at the same places.
 abbrev Alike : Walked → Walked → Type 0
 Alike u v = (u.needs ≡ v.needs) × (u.ends ≡ v.ends)
 
-abbrev Keeps : Act → Act → Type 0
+abbrev Keeps : Advance → Advance → Type 0
 Keeps f g = (fs : List Scheme) (u v : Walked) → Alike u v → Alike (f fs u) (g fs v)
 
-branches : (f g h k : Act) → Keeps f h → Keeps g k → Keeps (either f g) (either h k)
+branches : (f g h k : Advance) → Keeps f h → Keeps g k → Keeps (either f g) (either h k)
 branches f g h k first second fs u v same =
     let left = first fs u v same in
     let right = second fs (record (f fs u) { ends = u.ends }) (record (h fs v) { ends = v.ends }) (left.0, same.1) in

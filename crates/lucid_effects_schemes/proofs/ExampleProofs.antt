@@ -9,17 +9,17 @@ use Rattle.lucid_core.specs.declared.body.Expr.TheFolds.{fold-roll-Expr, fold-ro
 use Rattle.lucid_effects_order.specs.Evaluation.{expr_step, stmt_step, touch_step}
 use Rattle.lucid_effects_schemes.specs.declared.scheme.Scheme.{Scheme}
 use Rattle.lucid_effects_schemes.specs.Examples.{SchemeExamples}
-use Rattle.lucid_effects_schemes.specs.Schemes.{Act, Walked, expr_found, finds, stmt_found, touch_found}
+use Rattle.lucid_effects_schemes.specs.Schemes.{Advance, Walked, expr_found, finds, stmt_found, touch_found}
 
 -- What a walk finds in a part of a body, by what it finds in its parts.
-expr_is : (y : Expr-F Expr Stmt Touch) (fs : List Scheme) (w : Walked) → expr_found (roll-Expr y) fs w ≡ expr_step finds (map-Expr Expr Stmt Touch Act Act Act expr_found stmt_found touch_found y) fs w
-expr_is y fs w = ap (λ (f : Act). f fs w) (fold-roll-Expr Act Act Act (expr_step finds) (stmt_step finds) (touch_step finds) y)
+expr_is : (y : Expr-F Expr Stmt Touch) (fs : List Scheme) (w : Walked) → expr_found (roll-Expr y) fs w ≡ expr_step finds (map-Expr Expr Stmt Touch Advance Advance Advance expr_found stmt_found touch_found y) fs w
+expr_is y fs w = ap (λ (f : Advance). f fs w) (fold-roll-Expr Advance Advance Advance (expr_step finds) (stmt_step finds) (touch_step finds) y)
 
-stmt_is : (y : Stmt-F Expr Stmt Touch) (fs : List Scheme) (w : Walked) → stmt_found (roll-Stmt y) fs w ≡ stmt_step finds (map-Stmt Expr Stmt Touch Act Act Act expr_found stmt_found touch_found y) fs w
-stmt_is y fs w = ap (λ (f : Act). f fs w) (fold-roll-Stmt Act Act Act (expr_step finds) (stmt_step finds) (touch_step finds) y)
+stmt_is : (y : Stmt-F Expr Stmt Touch) (fs : List Scheme) (w : Walked) → stmt_found (roll-Stmt y) fs w ≡ stmt_step finds (map-Stmt Expr Stmt Touch Advance Advance Advance expr_found stmt_found touch_found y) fs w
+stmt_is y fs w = ap (λ (f : Advance). f fs w) (fold-roll-Stmt Advance Advance Advance (expr_step finds) (stmt_step finds) (touch_step finds) y)
 
-touch_is : (y : Touch-F Expr Stmt Touch) (fs : List Scheme) (w : Walked) → touch_found (roll-Touch y) fs w ≡ touch_step finds (map-Touch Expr Stmt Touch Act Act Act expr_found stmt_found touch_found y) fs w
-touch_is y fs w = ap (λ (f : Act). f fs w) (fold-roll-Touch Act Act Act (expr_step finds) (stmt_step finds) (touch_step finds) y)
+touch_is : (y : Touch-F Expr Stmt Touch) (fs : List Scheme) (w : Walked) → touch_found (roll-Touch y) fs w ≡ touch_step finds (map-Touch Expr Stmt Touch Advance Advance Advance expr_found stmt_found touch_found y) fs w
+touch_is y fs w = ap (λ (f : Advance). f fs w) (fold-roll-Touch Advance Advance Advance (expr_step finds) (stmt_step finds) (touch_step finds) y)
 
 ruleset found = (expr_is, stmt_is, touch_is)
 

@@ -21,7 +21,7 @@ use Rattle.lucid_effects_order.proofs.Members.{in_map, in_then, of_map}
 use Rattle.lucid_effects_order.proofs.Walks.{bodies_relate}
 use Rattle.lucid_effects_schemes.specs.declared.scheme.Scheme.{Scheme}
 use Rattle.lucid_effects_schemes.specs.Schemes as v
-use Rattle.lucid_effects_schemes.specs.Schemes.{Act, Walked, begun, body_found, either, finds, scheme_of, schemes_of, through, visit}
+use Rattle.lucid_effects_schemes.specs.Schemes.{Advance, Walked, begun, body_found, either, finds, scheme_of, schemes_of, through, visit}
 
 -- ---- members of lists without repeats
 
@@ -160,7 +160,7 @@ pub record Explained (f : Scheme) (qs : List Path) : Type 0 where
   pub ends : EndsOf qs f.ends
   pub needs : (n : Pair) → Member n f.needs → Asked n qs
 
-abbrev pub Explains : List Scheme → List (List Path) → Act → Paths → Type 0
+abbrev pub Explains : List Scheme → List (List Path) → Advance → Paths → Type 0
 Explains fs gs act paths = Finds (act fs) (paths gs)
 
 -- What a walk finds where it adds nothing.
@@ -232,7 +232,7 @@ then_right (p ∷ ps) F G r h = of (λ k. then_right ps F G r k) (member_split r
     of more (inl k) = member_left r (map (λ q. p ++ q) (F ++ G)) (each_then ps (F ++ G)) (subst (Member r) (sym (map-append (λ q. p ++ q) F G)) (member_right r (map (λ q. p ++ q) F) (map (λ q. p ++ q) G) k))
     of more (inr k) = member_right r (map (λ q. p ++ q) (F ++ G)) (each_then ps (F ++ G)) (more k)
 
-branches : (fs : List Scheme) (f g : Act) (F G : List Path) → Finds (f fs) F → Finds (g fs) G → Finds (either f g fs) (F ++ G)
+branches : (fs : List Scheme) (f g : Advance) (F G : List Path) → Finds (f fs) F → Finds (g fs) G → Finds (either f g fs) (F ++ G)
 branches fs f g F G one two = record {
   some = (one.some.0, member_left one.some.0 F G one.some.1);
   ends = λ ps w some e a i. ends ps w some e a (in_join_all same_atom (f fs w).ends (g fs (record (f fs w) { ends = w.ends })).ends a i);

@@ -14,7 +14,7 @@ use Rattle.lucid_effects_order.proofs.Walks.{bodies_relate}
 use Rattle.lucid_effects_schemes.specs.declared.scheme.Scheme.{Scheme}
 use Rattle.lucid_effects_schemes.specs.Principal.{IsPrincipal}
 use Rattle.lucid_effects_schemes.specs.Schemes as v
-use Rattle.lucid_effects_schemes.specs.Schemes.{Act, Walked, begun, body_found, either, finds, scheme, scheme_of, schemes_of, visit}
+use Rattle.lucid_effects_schemes.specs.Schemes.{Advance, Walked, begun, body_found, either, finds, scheme, scheme_of, schemes_of, visit}
 
 abbrev pub place : Numbering → ℕ → Walked → Option ℕ
 place N c w = read N c w.needs w.ends
@@ -51,17 +51,17 @@ called : (b : Bool) (g : ℕ) (holds : Bool) (end : ℕ) (f : ℕ → Option ℕ
 called true g holds end f e = e
 called false g holds end f e = refl
 
-abbrev pub Carries : List Scheme → List FunEnd → Act → End → Type 0
+abbrev pub Carries : List Scheme → List FunEnd → Advance → End → Type 0
 Carries fs gs act end = (N : Numbering) (c : ℕ) (w : Walked) → place N c (act fs w) ≡ option_and_then (end gs N) (place N c w)
 
 keep : PairsKeepMeaning
 keep = pairs_keep_meaning
 
 module _ (fs : List Scheme) (gs : List FunEnd) where
-  in_turn : (f g : Act) (F G : End) → Carries fs gs f F → Carries fs gs g G → Carries fs gs (finds.in_turn f g) (ends.in_turn F G)
+  in_turn : (f g : Advance) (F G : End) → Carries fs gs f F → Carries fs gs g G → Carries fs gs (finds.in_turn f g) (ends.in_turn F G)
   in_turn f g F G h k N c w = k N c (f fs w) ∙ ap (option_and_then (G gs N)) (h N c w) ∙ then_then (F gs N) (G gs N) (place N c w)
 
-  branches : (f g : Act) (F G : End) → Carries fs gs f F → Carries fs gs g G → Carries fs gs (either f g) (o.larger F G)
+  branches : (f g : Advance) (F G : End) → Carries fs gs f F → Carries fs gs g G → Carries fs gs (either f g) (o.larger F G)
   branches f g F G h k N c w =
       let left : Walked = f fs w in
       let right : Walked = g fs (record left { ends = w.ends }) in

@@ -22,8 +22,8 @@ pub record Walked : Type 0 where
   pub steps : ℕ
 
 -- What a part of a body makes of it, from the schemes of the functions before.
-abbrev pub Act : Type 0
-Act = List Scheme → Walked → Walked
+abbrev pub Advance : Type 0
+Advance = List Scheme → Walked → Walked
 
 -- The pairs are given to `add`, each in a step.
 abbrev pub add_all : List Pair → Walked → Walked
@@ -34,11 +34,11 @@ abbrev pub visit : Walked → Walked
 visit w = record w { steps = w.steps + 1 }
 
 -- All places come before the array, and the walk then stands behind it.
-abbrev pub passes : ArrayName → Act
+abbrev pub passes : ArrayName → Advance
 passes a = λ fs w. record (add_all (map (pair a) w.ends) (visit w)) { ends = After a ∷ [] }
 
 -- Both branches begin where the walk stands, and it then stands at the ends of both.
-abbrev pub either : Act → Act → Act
+abbrev pub either : Advance → Advance → Advance
 either f g = λ fs w.
     let left = f fs w in
     let right = g fs (record left { ends = w.ends }) in
@@ -49,10 +49,10 @@ abbrev pub through : Option Scheme → List ArrayName → Walked → Walked
 through None names w = w
 through (Some f) names w = record (add_all (needs_from names w.ends [] f.needs) w) { ends = ends_from names w.ends [] f.ends }
 
-abbrev pub goes_through : ℕ → List ArrayName → Act
+abbrev pub goes_through : ℕ → List ArrayName → Advance
 goes_through k names = λ fs w. through (slice_get fs k) names (visit w)
 
-abbrev pub finds : Walk Act
+abbrev pub finds : Walk Advance
 finds = record {
   nothing = λ fs w. w;
   in_turn = λ f g fs w. g fs (f fs w);
@@ -62,21 +62,21 @@ finds = record {
   node = λ f fs w. f fs (visit w);
 }
 
-abbrev pub expr_found : Expr → Act
+abbrev pub expr_found : Expr → Advance
 expr_found = expr_walk finds
 
-abbrev pub touch_found : Touch → Act
+abbrev pub touch_found : Touch → Advance
 touch_found = touch_walk finds
 
-abbrev pub stmt_found : Stmt → Act
+abbrev pub stmt_found : Stmt → Advance
 stmt_found = stmt_walk finds
 
-abbrev pub body_found : List Stmt → Act
+abbrev pub body_found : List Stmt → Advance
 body_found = body_walk finds
 
 -- Arguments, with the locals that hold them.
-abbrev pub given_found : List (ℕ × Expr) → Act
-given_found given = sequence finds (map (λ (g : ℕ × Act). g.1) (map (λ (g : ℕ × Expr). (g.0, expr_found g.1)) given))
+abbrev pub given_found : List (ℕ × Expr) → Advance
+given_found given = sequence finds (map (λ (g : ℕ × Advance). g.1) (map (λ (g : ℕ × Expr). (g.0, expr_found g.1)) given))
 
 -- A body begins at its start and asks for nothing. Its declaration is a node too.
 abbrev pub begun : ℕ → Walked

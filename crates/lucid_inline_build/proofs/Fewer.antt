@@ -12,7 +12,7 @@ use Rattle.lucid_core.specs.declared.body.Expr.TheVariants as e
 use Rattle.lucid_core.specs.declared.body.Stmt.TheVariants as s
 use Rattle.lucid_core.specs.declared.body.Expr.TheFolds.{fold-roll-Expr, fold-roll-Stmt, fold-roll-Touch, map-Expr, map-Stmt, map-Touch}
 use Rattle.lucid_core.specs.declared.defs.FunDef.{FunDef}
-use Rattle.lucid_core.specs.Acts.{array_of}
+use Rattle.lucid_core.specs.Computations.{array_of}
 use Rattle.lucid_core.specs.Names as n
 use Rattle.lucid_core.specs.Names.{expr_names, stmt_names, touch_names}
 use Rattle.lucid_core.specs.Scope.{Scope, Test, each}

@@ -13,7 +13,7 @@ use Rattle.lucid_core.specs.declared.body.Expr.TheViews.{roll-Expr, roll-Stmt}
 use Rattle.lucid_core.specs.declared.body.Expr.TheVariants as e
 use Rattle.lucid_core.specs.declared.body.Expr.TheFolds.{fold-roll-Expr, fold-roll-Stmt}
 use Rattle.lucid_core.specs.declared.defs.FunDef.{FunDef}
-use Rattle.lucid_core.specs.Acts.{array_of}
+use Rattle.lucid_core.specs.Computations.{array_of}
 use Rattle.lucid_core.proofs.Grown.{grow-at}
 use Rattle.lucid_core.specs.ExamplePrograms.{local}
 use Rattle.std.proofs.lemmas.List.{length-map, map-append}

@@ -1,7 +1,7 @@
 // Where a body is put in.
 ghost use Rattle.std.specs.Prelude.{◌≡◌, ◌≤◌, IfOk, IfSome, map, slice_get, take};
 ghost use Rattle.std.specs.Option.{option_map};
-ghost use Rattle.lucid_core.specs.Acts.{array_of};
+ghost use Rattle.lucid_core.specs.Computations.{array_of};
 ghost use Rattle.lucid_inline_build.specs.Numbers.{most};
 
 use lucid_base::{ArrayName, Items, Memory};

@@ -13,7 +13,7 @@ use Rattle.lucid_core.specs.declared.body.Expr.TheFolds.{fold-roll-Expr, fold-ro
 use Rattle.lucid_core.specs.declared.defs.EventDef.{EventDef}
 use Rattle.lucid_core.specs.declared.defs.FunDef.{FunDef}
 use Rattle.lucid_core.specs.declared.defs.HandlerDef.{HandlerDef}
-use Rattle.lucid_core.specs.Acts.{array_of}
+use Rattle.lucid_core.specs.Computations.{array_of}
 use Rattle.lucid_core.specs.Events.{event_params, events_and_handlers_agree}
 use Rattle.lucid_core.specs.Numbers.{are_in, is_in, places}
 use Rattle.lucid_core.specs.OutCount.{Count, total}

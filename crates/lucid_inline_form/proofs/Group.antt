@@ -14,7 +14,7 @@ use Rattle.lucid_core.specs.declared.body.Touch.{Touch}
 use Rattle.lucid_core.specs.declared.body.Expr.TheOpen.{Expr-F, Stmt-F}
 use Rattle.lucid_core.specs.declared.body.Expr.TheViews.{roll-Expr}
 use Rattle.lucid_core.specs.declared.body.Expr.TheFolds.{fold-roll-Expr, map-Stmt}
-use Rattle.lucid_core.specs.Acts.{Act, Effect, Frame, State, Ran, all, block}
+use Rattle.lucid_core.specs.Computations.{Computation, Effect, Frame, State, Ran, all, block}
 use Rattle.lucid_core.specs.Meaning as m
 use Rattle.lucid_core.specs.Meaning.{effect_of, generated, touch_of, value_of}
 use Rattle.lucid_core.specs.ExamplePrograms.{local}
@@ -22,13 +22,13 @@ use Rattle.lucid_inline_form.specs.Flat.{locals_from, to_member}
 use Rattle.lucid_inline_form.proofs.Locals.{local_at}
 
 abbrev meaning : Stmt-F Expr Stmt Touch → Effect
-meaning y = m.stmt_step (map-Stmt Expr Stmt Touch (Act Bits) Effect (Act Bits) value_of effect_of touch_of y)
+meaning y = m.stmt_step (map-Stmt Expr Stmt Touch (Computation Bits) Effect (Computation Bits) value_of effect_of touch_of y)
 
 local_reads : (i : ℕ) (v : Frame) (q : State) → value_of (local i) v q ≡ record { gives = local_at q.locals i; after = q; calls = [] }
-local_reads i v q = ap (λ (f : Act Bits). f v q) (fold-roll-Expr (Act Bits) Effect (Act Bits) m.expr_step m.stmt_step m.touch_step (Expr-F.Local i))
+local_reads i v q = ap (λ (f : Computation Bits). f v q) (fold-roll-Expr (Computation Bits) Effect (Computation Bits) m.expr_step m.stmt_step m.touch_step (Expr-F.Local i))
 
 fixed_reads : (n : ℕ) (v : Frame) (q : State) → value_of (roll-Expr (Expr-F.Fixed (bits_of 32 n))) v q ≡ record { gives = bits_of 32 n; after = q; calls = [] }
-fixed_reads n v q = ap (λ (f : Act Bits). f v q) (fold-roll-Expr (Act Bits) Effect (Act Bits) m.expr_step m.stmt_step m.touch_step (Expr-F.Fixed (bits_of 32 n)))
+fixed_reads n v q = ap (λ (f : Computation Bits). f v q) (fold-roll-Expr (Computation Bits) Effect (Computation Bits) m.expr_step m.stmt_step m.touch_step (Expr-F.Fixed (bits_of 32 n)))
 
 locals_read : (vs : List Bits) (b : ℕ) (v : Frame) (q : State) → ((i : ℕ) → i < length vs → local_at q.locals (b + i) ≡ local_at vs i) →
     all (map value_of (locals_from b (length vs))) v q ≡ record { gives = vs; after = q; calls = [] }

@@ -6,7 +6,7 @@ use Rattle.lucid_core.specs.declared.body.Touch.{Touch}
 use Rattle.lucid_core.specs.declared.body.Expr.TheOpen.{Expr-F, Stmt-F, Touch-F}
 use Rattle.lucid_core.specs.declared.body.Expr.TheViews.{roll-Expr, roll-Stmt, roll-Touch}
 use Rattle.lucid_core.specs.declared.body.Expr.TheFolds.{fold-roll-Expr, fold-roll-Stmt, fold-roll-Touch, ind-Expr, ind-Stmt, map-Expr, map-Stmt, map-Touch}
-use Rattle.lucid_core.specs.Acts.{array_of}
+use Rattle.lucid_core.specs.Computations.{array_of}
 use Rattle.lucid_inline_form.specs.Flat as f
 use Rattle.lucid_inline_form.specs.Flat.{Flatten, Flattened, Site, PutIn, done, ◌>>=◌, flat_expr, flat_stmt, flat_touch}
 use Rattle.lucid_inline_form.proofs.Locals.{Begins, begins_self, begins_then, begins_append}

@@ -11,7 +11,7 @@ use Rattle.lucid_core.specs.declared.body.Expr.{Expr}
 use Rattle.lucid_core.specs.declared.body.Stmt.{Stmt}
 use Rattle.lucid_core.specs.declared.body.Touch.{Touch}
 use Rattle.lucid_core.specs.declared.defs.FunDef.{FunDef}
-use Rattle.lucid_core.specs.Acts.{array_of}
+use Rattle.lucid_core.specs.Computations.{array_of}
 use Rattle.lucid_core.specs.Assigned.{Flow, all_read_assigned, block_reads_assigned, expr_flow, stmt_flow, touch_flow}
 use Rattle.lucid_core.specs.Limits.{expr_limits, stmt_limits, touch_limits}
 use Rattle.lucid_core.specs.Names.{expr_names, stmt_names, touch_names}

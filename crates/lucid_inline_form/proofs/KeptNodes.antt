@@ -14,7 +14,7 @@ use Rattle.lucid_core.specs.declared.body.Expr.TheOpen.{Expr-F, Stmt-F, Touch-F}
 use Rattle.lucid_core.specs.declared.body.Expr.TheViews.{roll-Expr, roll-Stmt}
 use Rattle.lucid_core.specs.declared.body.Expr.TheFolds.{fold-roll-Expr, fold-roll-Stmt, fold-roll-Touch, map-Expr, map-Stmt, map-Touch}
 use Rattle.lucid_core.specs.declared.defs.FunDef.{FunDef}
-use Rattle.lucid_core.specs.Acts.{array_of}
+use Rattle.lucid_core.specs.Computations.{array_of}
 use Rattle.lucid_core.specs.ExamplePrograms.{local}
 use Rattle.lucid_core.specs.Assigned as flow
 use Rattle.lucid_core.specs.Assigned.{Flow, block_reads_assigned, expr_flow, stmt_flow, touch_flow}

@@ -16,7 +16,7 @@ use Rattle.lucid_core.specs.declared.body.Stmt.{Stmt}
 use Rattle.lucid_core.specs.declared.body.Touch.{Touch}
 use Rattle.lucid_core.specs.declared.body.Expr.TheOpen.{Expr-F, Stmt-F, Touch-F}
 use Rattle.lucid_core.specs.declared.body.Expr.TheFolds.{map-Expr, map-Stmt, map-Touch}
-use Rattle.lucid_core.specs.Acts.{Act, Effect, Frame, Fun, State, Ran, all, array_of, block, both, called}
+use Rattle.lucid_core.specs.Computations.{Computation, Effect, Frame, Fun, State, Ran, all, array_of, block, both, called}
 use Rattle.lucid_core.specs.Meaning as m
 use Rattle.lucid_core.specs.Meaning.{all_given, call, delay_of, effect_of, generated, holding, target_of, touch_of, value_of}
 use Rattle.lucid_base.specs.declared.event.Target.{Target}
@@ -34,17 +34,17 @@ use Rattle.lucid_inline_form.proofs.Sim.{all-append, block-append, all_given-num
 abbrev pub block_of : List Stmt → Effect
 block_of ss = block (map effect_of ss)
 
-abbrev pub values_of : List Expr → Act (List Bits)
+abbrev pub values_of : List Expr → Computation (List Bits)
 values_of es = all (map value_of es)
 
-abbrev pub expr_meaning : Expr-F Expr Stmt Touch → Act Bits
-expr_meaning y = m.expr_step (map-Expr Expr Stmt Touch (Act Bits) Effect (Act Bits) value_of effect_of touch_of y)
+abbrev pub expr_meaning : Expr-F Expr Stmt Touch → Computation Bits
+expr_meaning y = m.expr_step (map-Expr Expr Stmt Touch (Computation Bits) Effect (Computation Bits) value_of effect_of touch_of y)
 
 abbrev pub stmt_meaning : Stmt-F Expr Stmt Touch → Effect
-stmt_meaning y = m.stmt_step (map-Stmt Expr Stmt Touch (Act Bits) Effect (Act Bits) value_of effect_of touch_of y)
+stmt_meaning y = m.stmt_step (map-Stmt Expr Stmt Touch (Computation Bits) Effect (Computation Bits) value_of effect_of touch_of y)
 
-abbrev pub touch_meaning : Touch-F Expr Stmt Touch → Act Bits
-touch_meaning y = m.touch_step (map-Touch Expr Stmt Touch (Act Bits) Effect (Act Bits) value_of effect_of touch_of y)
+abbrev pub touch_meaning : Touch-F Expr Stmt Touch → Computation Bits
+touch_meaning y = m.touch_step (map-Touch Expr Stmt Touch (Computation Bits) Effect (Computation Bits) value_of effect_of touch_of y)
 
 -- There is a room for the arguments.
 room_of : (o : Option ℕ) (k : ℕ) → option_map_or (nat_eq k) o false ≡ true → (room : ℕ) × (o ≡ Some room) × (k ≤ room)
@@ -52,10 +52,10 @@ room_of None k h = absurd (cc)
 room_of (Some room) k h = (room, refl, let e = eqb-true k room h in omega arith)
 
 module _ (W : List ℕ) (now me : ℕ) (p : Site) (rooms : List ℕ) (fs : List Fun) (good : AllGood W now me rooms p.funs fs) (n : ℕ) where
-  abbrev pub SimHere : {A B : Type 0} → (A → Act B) → Flatten A → Act B → Fit → Type 0
+  abbrev pub SimHere : {A B : Type 0} → (A → Computation B) → Flatten A → Computation B → Fit → Type 0
   SimHere flat t c fit = Sim W now me p rooms fs good n flat t c fit
 
-  abbrev Frames : {A B : Type 0} → ℕ → ℕ → (A → Act B) → A → Act B → State → State → Type 0
+  abbrev Frames : {A B : Type 0} → ℕ → ℕ → (A → Computation B) → A → Computation B → State → State → Type 0
   Frames next top flat x c s q = Alike W now me p.first n next top q (c (core_frame W now me p rooms fs good n) s) (flat x (flat_frame W now me) q)
 
   abbrev SameHere : ℕ → ℕ → State → State → Type 0
@@ -151,7 +151,7 @@ module _ (W : List ℕ) (now me : ℕ) (p : Site) (rooms : List ℕ) (fs : List 
   TouchNode y = SimHere touch_meaning (flat_of_touch y) (touch_meaning y) (r.touch_step (map-Touch Expr Stmt Touch Fit Fit Fit expr_fit stmt_fit touch_fit y))
 
   -- Two operands.
-  two_level : (e g : E) (h : Bits → Bits → Bits) (node : Expr → Expr → Expr-F Expr Stmt Touch) (c : Act Bits) (fit : Fit) →
+  two_level : (e g : E) (h : Bits → Bits → Bits) (node : Expr → Expr → Expr-F Expr Stmt Touch) (c : Computation Bits) (fit : Fit) →
       ((x y : Expr) (w : Frame) (s : State) → expr_meaning (node x y) w s ≡ (let one = value_of x w s in let two = value_of y w one.after in record { gives = h one.gives two.gives; after = two.after; calls = one.calls ++ (two.calls ++ []) })) →
       ((w : Frame) (s : State) → c w s ≡ (let one = value_of e.0 w s in let two = value_of g.0 w one.after in record { gives = h one.gives two.gives; after = two.after; calls = one.calls ++ (two.calls ++ []) })) →
       (fit n rooms ≡ true → (expr_fit e.0 n rooms ≡ true) × (expr_fit g.0 n rooms ≡ true)) →
@@ -383,7 +383,7 @@ module _ (W : List ℕ) (now me : ℕ) (p : Site) (rooms : List ℕ) (fs : List 
   }
 
   -- Two that may stand in either order.
-  both_sim : {A B C D : Type 0} (b : Bool) (flat1 : A → Act B) (t : Flatten A) (c : Act B) (fit1 : Fit) (flat2 : C → Act D) (u : Flatten C) (d : Act D) (fit2 : Fit) → SimHere flat1 t c fit1 → SimHere flat2 u d fit2 →
+  both_sim : {A B C D : Type 0} (b : Bool) (flat1 : A → Computation B) (t : Flatten A) (c : Computation B) (fit1 : Fit) (flat2 : C → Computation D) (u : Flatten C) (d : Computation D) (fit2 : Fit) → SimHere flat1 t c fit1 → SimHere flat2 u d fit2 →
       SimHere (λ (x : A × C). both b (flat1 x.0) (flat2 x.1)) (f.both b t u) (both b c d) (λ k rs. fit1 k rs && fit2 k rs)
   both_sim {B = B} {D = D} true flat1 t c fit1 flat2 u d fit2 one two = record {
     grows = λ ws. let first = (t p ws).locals in begins_then ws first (u p first).locals (one.grows ws) (two.grows first);
@@ -562,7 +562,7 @@ module _ (W : List ℕ) (now me : ℕ) (p : Site) (rooms : List ℕ) (fs : List 
           let two = values_of (exprs ds) w one.after in
           let whole = values_of (exprs hs) w s in
           let split : whole ≡ record { gives = one.gives ++ two.gives; after = two.after; calls = one.calls ++ two.calls } =
-          ap (λ (xs : List Expr). values_of xs w s) (map-append (λ (e : E). e.0) es ds) ∙ ap (λ (xs : List (Act Bits)). all xs w s) (map-append value_of (exprs es) (exprs ds))
+          ap (λ (xs : List Expr). values_of xs w s) (map-append (λ (e : E). e.0) es ds) ∙ ap (λ (xs : List (Computation Bits)). all xs w s) (map-append value_of (exprs es) (exprs ds))
           ∙ all-append (map value_of (exprs es)) (map value_of (exprs ds)) w s in
           let grown = begins_append first.locals (widths first.value) in
           let n1 = length-append first.locals (widths first.value) in

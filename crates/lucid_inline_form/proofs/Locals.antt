@@ -5,7 +5,7 @@ use Rattle.std.proofs.lemmas.List.{length-map, length-set, map-append, get_or-ap
 use Rattle.std.proofs.lemmas.Grind.{get_or-set_at}
 use Rattle.lucid_base.specs.Bits.{bits_of}
 use Rattle.lucid_base.specs.declared.bits.Bits.{Bits}
-use Rattle.lucid_core.specs.Acts.{begun_with}
+use Rattle.lucid_core.specs.Computations.{begun_with}
 use Rattle.lucid_core.specs.Meaning.{holding}
 use Rattle.lucid_core.specs.Values.{nothing}
 

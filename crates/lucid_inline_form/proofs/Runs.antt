@@ -12,7 +12,7 @@ use Rattle.lucid_core.specs.declared.body.Expr.TheViews.{roll-Expr, roll-Stmt, r
 use Rattle.lucid_core.specs.declared.body.Expr.TheFolds.{fold-roll-Expr, fold-roll-Stmt, fold-roll-Touch, ind-Stmt}
 use Rattle.lucid_core.specs.declared.defs.FunDef.{FunDef}
 use Rattle.lucid_core.specs.declared.defs.HandlerDef.{HandlerDef}
-use Rattle.lucid_core.specs.Acts.{Act, Effect, Fun, State, Ran, block, begun_with}
+use Rattle.lucid_core.specs.Computations.{Computation, Effect, Fun, State, Ran, block, begun_with}
 use Rattle.lucid_core.specs.Meaning as m
 use Rattle.lucid_core.specs.Meaning.{effect_of, fun_of, holding, touch_of, value_of}
 use Rattle.lucid_core.specs.Meaning.{funs_of}
@@ -35,14 +35,14 @@ use Rattle.lucid_inline_form.proofs.Levels.{E, S, T, block_of, expr_meaning, stm
 
 rolled-all : (ys : List (Stmt-F Expr Stmt Touch)) → map effect_of (map roll-Stmt ys) ≡ map stmt_meaning ys
 rolled-all [] = refl
-rolled-all (y ∷ ys) = ap₂ (λ (x : Effect) (xs : List Effect). x ∷ xs) (fold-roll-Stmt (Act Bits) Effect (Act Bits) m.expr_step m.stmt_step m.touch_step y) (rolled-all ys)
+rolled-all (y ∷ ys) = ap₂ (λ (x : Effect) (xs : List Effect). x ∷ xs) (fold-roll-Stmt (Computation Bits) Effect (Computation Bits) m.expr_step m.stmt_step m.touch_step y) (rolled-all ys)
 
 -- Where three folds are opened at a node.
 opened : {A B C : Type 0} (P : A → B → C → Type 0) {a x : A} {b y : B} {c z : C} → a ≡ x → b ≡ y → c ≡ z → P x y z → P a b c
 opened P {a} {x} {b} {y} {c} {z} e g h is = subst (λ v. P v b c) (sym e) (subst (λ v. P x v c) (sym g) (subst (λ v. P x y v) (sym h) is))
 
 module _ (W : List ℕ) (now me : ℕ) (p : Site) (rooms : List ℕ) (fs : List Fun) (good : AllGood W now me rooms p.funs fs) (n : ℕ) where
-  abbrev Here : {A B : Type 0} → (A → Act B) → Flatten A → Act B → Fit → Type 0
+  abbrev Here : {A B : Type 0} → (A → Computation B) → Flatten A → Computation B → Fit → Type 0
   Here flat t c fit = Sim W now me p rooms fs good n flat t c fit
 
   abbrev ExprHolds : Expr → Type 0
@@ -55,33 +55,33 @@ module _ (W : List ℕ) (now me : ℕ) (p : Site) (rooms : List ℕ) (fs : List 
   TouchHolds e = Here touch_of (flat_touch e) (touch_of e) (touch_fit e)
 
   -- What a node becomes is rolled up.
-  rolled : {A B C : Type 0} (flat : A → Act C) (whole : B → Act C) (roll : A → B) (t : Flatten A) (c : Act C) (fit : Fit) → ((x : A) → whole (roll x) ≡ flat x) → Here flat t c fit →
+  rolled : {A B C : Type 0} (flat : A → Computation C) (whole : B → Computation C) (roll : A → B) (t : Flatten A) (c : Computation C) (fit : Fit) → ((x : A) → whole (roll x) ≡ flat x) → Here flat t c fit →
       Here whole (λ q ws. record { value = roll (t q ws).value; locals = (t q ws).locals }) c fit
   rolled {C = C} flat whole roll t c fit is one = record {
     grows = one.grows;
     acts = λ fits ws bound begins top under s q same.
-        subst (λ (a : Act C). Alike W now me p.first n (length (t p ws).locals) top q (c (core_frame W now me p rooms fs good n) s) (a (flat_frame W now me) q)) (sym (is (t p ws).value))
+        subst (λ (a : Computation C). Alike W now me p.first n (length (t p ws).locals) top q (c (core_frame W now me p rooms fs good n) s) (a (flat_frame W now me) q)) (sym (is (t p ws).value))
         (one.acts fits ws bound begins top under s q same);
   }
 
   of_expr : (y : Expr-F (E W now me p rooms fs good n) (S W now me p rooms fs good n) (T W now me p rooms fs good n)) → ExprHolds (roll-Expr (expr_tree W now me p rooms fs good n y))
   of_expr y = let tree = expr_tree W now me p rooms fs good n y in opened (Here value_of)
       (fold-roll-Expr (Flatten Expr) (Flatten (List Stmt)) (Flatten Touch) f.expr_step f.stmt_step f.touch_step tree)
-      (fold-roll-Expr (Act Bits) Effect (Act Bits) m.expr_step m.stmt_step m.touch_step tree)
+      (fold-roll-Expr (Computation Bits) Effect (Computation Bits) m.expr_step m.stmt_step m.touch_step tree)
       (fold-roll-Expr Fit Fit Fit r.expr_step r.stmt_step r.touch_step tree)
-      (rolled expr_meaning value_of roll-Expr _ _ _ (λ x. fold-roll-Expr (Act Bits) Effect (Act Bits) m.expr_step m.stmt_step m.touch_step x) (expr_level W now me p rooms fs good n y))
+      (rolled expr_meaning value_of roll-Expr _ _ _ (λ x. fold-roll-Expr (Computation Bits) Effect (Computation Bits) m.expr_step m.stmt_step m.touch_step x) (expr_level W now me p rooms fs good n y))
 
   of_touch : (y : Touch-F (E W now me p rooms fs good n) (S W now me p rooms fs good n) (T W now me p rooms fs good n)) → TouchHolds (roll-Touch (touch_tree W now me p rooms fs good n y))
   of_touch y = let tree = touch_tree W now me p rooms fs good n y in opened (Here touch_of)
       (fold-roll-Touch (Flatten Expr) (Flatten (List Stmt)) (Flatten Touch) f.expr_step f.stmt_step f.touch_step tree)
-      (fold-roll-Touch (Act Bits) Effect (Act Bits) m.expr_step m.stmt_step m.touch_step tree)
+      (fold-roll-Touch (Computation Bits) Effect (Computation Bits) m.expr_step m.stmt_step m.touch_step tree)
       (fold-roll-Touch Fit Fit Fit r.expr_step r.stmt_step r.touch_step tree)
-      (rolled touch_meaning touch_of roll-Touch _ _ _ (λ x. fold-roll-Touch (Act Bits) Effect (Act Bits) m.expr_step m.stmt_step m.touch_step x) (touch_level W now me p rooms fs good n y))
+      (rolled touch_meaning touch_of roll-Touch _ _ _ (λ x. fold-roll-Touch (Computation Bits) Effect (Computation Bits) m.expr_step m.stmt_step m.touch_step x) (touch_level W now me p rooms fs good n y))
 
   of_stmt : (y : Stmt-F (E W now me p rooms fs good n) (S W now me p rooms fs good n) (T W now me p rooms fs good n)) → StmtHolds (roll-Stmt (stmt_tree W now me p rooms fs good n y))
   of_stmt y = let tree = stmt_tree W now me p rooms fs good n y in opened (Here block_of)
       (fold-roll-Stmt (Flatten Expr) (Flatten (List Stmt)) (Flatten Touch) f.expr_step f.stmt_step f.touch_step tree)
-      (fold-roll-Stmt (Act Bits) Effect (Act Bits) m.expr_step m.stmt_step m.touch_step tree)
+      (fold-roll-Stmt (Computation Bits) Effect (Computation Bits) m.expr_step m.stmt_step m.touch_step tree)
       (fold-roll-Stmt Fit Fit Fit r.expr_step r.stmt_step r.touch_step tree)
       (rolled (λ ys. block (map stmt_meaning ys)) block_of (map roll-Stmt) _ _ _ (λ ys. ap block (rolled-all ys)) (stmt_level W now me p rooms fs good n y))
 

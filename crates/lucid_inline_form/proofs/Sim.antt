@@ -3,7 +3,7 @@ use Rattle.std.proofs.Common.{◌≡◌, ℕ, zero, suc, ◌+◌, ◌<◌, ◌�
 use Rattle.std.specs.List.{enumerate_from}
 use Rattle.lucid_base.specs.declared.bits.Bits.{Bits}
 use Rattle.lucid_core.specs.declared.body.Expr.{Expr}
-use Rattle.lucid_core.specs.Acts.{Act, Effect, Frame, Fun, State, Ran, all, block, called}
+use Rattle.lucid_core.specs.Computations.{Computation, Effect, Frame, Fun, State, Ran, all, block, called}
 use Rattle.lucid_core.specs.Meaning.{all_given, holding, effect_of, value_of}
 use Rattle.lucid_inline_form.specs.Flat as f
 use Rattle.lucid_inline_form.specs.Flat.{Flatten, Flattened, Site, PutIn}
@@ -26,7 +26,7 @@ block-append (x ∷ xs) ys p s =
 abbrev pub numbered : ℕ → Ran (List Bits) → Ran (List (ℕ × Bits))
 numbered b r = record { gives = enumerate_from b r.gives; after = r.after; calls = r.calls }
 
-abbrev pub given_acts : ℕ → List Expr → List (ℕ × Act Bits)
+abbrev pub given_acts : ℕ → List Expr → List (ℕ × Computation Bits)
 given_acts b xs = map (λ (g : ℕ × Expr). (g.0, value_of g.1)) (enumerate_from b xs)
 
 pub all_given-numbered : (xs : List Expr) (b : ℕ) (p : Frame) (s : State) → all_given (given_acts b xs) p s ≡ numbered b (all (map value_of xs) p s)
@@ -38,11 +38,11 @@ all_given-numbered (x ∷ xs) b p s =
     ap (λ (r : Ran (List (ℕ × Bits))). record { gives = (b, one.gives) ∷ r.gives; after = r.after; calls = (one.calls ++ []) ++ (r.calls ++ []) }) e
     ∙ ap (λ (c : List ℕ). record { gives = (b, one.gives) ∷ enumerate_from (b + 1) rest.gives; after = rest.after; calls = c ++ (rest.calls ++ []) }) (append-nil one.calls)
 
-pub all-length : (xs : List (Act Bits)) (p : Frame) (s : State) → length (all xs p s).gives ≡ length xs
+pub all-length : (xs : List (Computation Bits)) (p : Frame) (s : State) → length (all xs p s).gives ≡ length xs
 all-length [] p s = refl
 all-length (x ∷ xs) p s = ap suc (all-length xs p (x p s).after)
 
-pub all-append : (xs ys : List (Act Bits)) (p : Frame) (s : State) → all (xs ++ ys) p s ≡
+pub all-append : (xs ys : List (Computation Bits)) (p : Frame) (s : State) → all (xs ++ ys) p s ≡
     (let one = all xs p s in let two = all ys p one.after in record { gives = one.gives ++ two.gives; after = two.after; calls = one.calls ++ two.calls })
 all-append [] ys p s = refl
 all-append (x ∷ xs) ys p s =
@@ -142,7 +142,7 @@ module _ (W : List ℕ) (now me : ℕ) where
     core_frame = record { now = now; me = me; arrays = p.arrays; funs = fs }
 
     -- A part t becomes flat, and what is made of it runs as the part does.
-    pub record Sim {A B : Type 0} (flat : A → Act B) (t : Flatten A) (c : Act B) (fit : Fit) : Type 0 where
+    pub record Sim {A B : Type 0} (flat : A → Computation B) (t : Flatten A) (c : Computation B) (fit : Fit) : Type 0 where
       pub grows : (ws : List ℕ) → Begins ws (t p ws).locals
       pub acts : fit n rooms ≡ true → (ws : List ℕ) → p.first + n ≤ length ws → Begins (t p ws).locals W → (top : ℕ) → length (t p ws).locals ≤ top →
           (s q : State) → Same p.first n (length ws) top s q → Alike p.first n (length (t p ws).locals) top q (c core_frame s) (flat (t p ws).value flat_frame q)

@@ -12,7 +12,7 @@ use Rattle.lucid_core.specs.declared.body.Expr.TheViews.{roll-Expr, roll-Stmt, r
 use Rattle.lucid_core.specs.declared.body.Expr.TheFolds.{fold-Expr, fold-Touch, fold-roll-Expr, fold-roll-Stmt, fold-roll-Touch, ind-Stmt, map-Expr, map-Stmt, map-Touch}
 use Rattle.lucid_core.specs.declared.defs.FunDef.{FunDef}
 use Rattle.lucid_core.specs.declared.defs.HandlerDef.{HandlerDef}
-use Rattle.lucid_core.specs.Acts.{array_of}
+use Rattle.lucid_core.specs.Computations.{array_of}
 use Rattle.lucid_core.specs.ExamplePrograms.{local}
 use Rattle.lucid_core.specs.OutCount.{Count, total}
 use Rattle.lucid_core.proofs.Fine.{both_pass}

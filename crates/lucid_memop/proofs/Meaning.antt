@@ -18,7 +18,7 @@ use Rattle.lucid_core.specs.declared.body.Expr.TheFolds.{fold-roll-Expr, fold-ro
 use Rattle.lucid_core.specs.declared.body.Expr.TheVariants as e
 use Rattle.lucid_core.specs.declared.body.Stmt.{Stmt}
 use Rattle.lucid_core.specs.declared.body.Stmt.TheVariants as stmt
-use Rattle.lucid_core.specs.Acts.{Act, Effect, Frame, State, Ran, block, give}
+use Rattle.lucid_core.specs.Computations.{Computation, Effect, Frame, State, Ran, block, give}
 use Rattle.lucid_core.specs.Meaning.{effect_of, expr_step, stmt_step, touch_step, value_of}
 use Rattle.lucid_core.specs.Values.{nothing, binary, comparison}
 use Rattle.lucid_memop.specs.Laws.{MeansItsBody}
@@ -28,22 +28,22 @@ use Rattle.lucid_memop.specs.Shape as rule
 -- Forms of the meaning, at their parts.
 
 fixed_is : (n : Bits) → value_of (e.Fixed n) ≡ give n
-fixed_is n = ap value_of (sym (e.rolls-Fixed n)) ∙ fold-roll-Expr (Act Bits) Effect (Act Bits) expr_step stmt_step touch_step (Expr-F.Fixed n)
+fixed_is n = ap value_of (sym (e.rolls-Fixed n)) ∙ fold-roll-Expr (Computation Bits) Effect (Computation Bits) expr_step stmt_step touch_step (Expr-F.Fixed n)
 
 local_is : (i : ℕ) → value_of (e.Local i) ≡ expr_step (Expr-F.Local i)
-local_is i = ap value_of (sym (e.rolls-Local i)) ∙ fold-roll-Expr (Act Bits) Effect (Act Bits) expr_step stmt_step touch_step (Expr-F.Local i)
+local_is i = ap value_of (sym (e.rolls-Local i)) ∙ fold-roll-Expr (Computation Bits) Effect (Computation Bits) expr_step stmt_step touch_step (Expr-F.Local i)
 
 bin_is : (op : BinOp) (x y : Expr) → value_of (e.Bin op x y) ≡ expr_step (Expr-F.Bin op (value_of x) (value_of y))
-bin_is op x y = ap value_of (sym (e.rolls-Bin op x y)) ∙ fold-roll-Expr (Act Bits) Effect (Act Bits) expr_step stmt_step touch_step (Expr-F.Bin op x y)
+bin_is op x y = ap value_of (sym (e.rolls-Bin op x y)) ∙ fold-roll-Expr (Computation Bits) Effect (Computation Bits) expr_step stmt_step touch_step (Expr-F.Bin op x y)
 
 cmp_is : (op : CmpOp) (x y : Expr) → value_of (e.Cmp op x y) ≡ expr_step (Expr-F.Cmp op (value_of x) (value_of y))
-cmp_is op x y = ap value_of (sym (e.rolls-Cmp op x y)) ∙ fold-roll-Expr (Act Bits) Effect (Act Bits) expr_step stmt_step touch_step (Expr-F.Cmp op x y)
+cmp_is op x y = ap value_of (sym (e.rolls-Cmp op x y)) ∙ fold-roll-Expr (Computation Bits) Effect (Computation Bits) expr_step stmt_step touch_step (Expr-F.Cmp op x y)
 
 return_is : (x : Expr) → effect_of (stmt.Return (Some x)) ≡ stmt_step (Stmt-F.Return (Some (value_of x)))
-return_is x = ap effect_of (sym (stmt.rolls-Return (Some x))) ∙ fold-roll-Stmt (Act Bits) Effect (Act Bits) expr_step stmt_step touch_step (Stmt-F.Return (Some x))
+return_is x = ap effect_of (sym (stmt.rolls-Return (Some x))) ∙ fold-roll-Stmt (Computation Bits) Effect (Computation Bits) expr_step stmt_step touch_step (Stmt-F.Return (Some x))
 
 if_is : (x : Expr) (ss ts : List Stmt) → effect_of (stmt.If x ss ts) ≡ stmt_step (Stmt-F.If (value_of x) (map effect_of ss) (map effect_of ts))
-if_is x ss ts = ap effect_of (sym (stmt.rolls-If x ss ts)) ∙ fold-roll-Stmt (Act Bits) Effect (Act Bits) expr_step stmt_step touch_step (Stmt-F.If x ss ts)
+if_is x ss ts = ap effect_of (sym (stmt.rolls-If x ss ts)) ∙ fold-roll-Stmt (Computation Bits) Effect (Computation Bits) expr_step stmt_step touch_step (Stmt-F.If x ss ts)
 
 -- Where a body runs that is called on these two.
 abbrev begun : ℕ → ℕ → ℕ → State → State
@@ -54,10 +54,10 @@ Value x w k p s = (v : Bits) × (value_of x p s ≡ give v p s) × (v.width ≡ 
 
 operand : {w : ℕ} {x : Expr} {a : MemArg} → Operand w x a → (m n : ℕ) (p : Frame) (s : State) →
     Value x w (operand_of a w (low_of w m) (low_of w n)) p (begun w m n s)
-operand (rule.stored w) m n p s = (bits_of w m, ap (λ (f : Act Bits). f p (begun w m n s)) (local_is 0), refl, refl)
-operand (rule.argument w) m n p s = (bits_of w n, ap (λ (f : Act Bits). f p (begun w m n s)) (local_is 1), refl, refl)
+operand (rule.stored w) m n p s = (bits_of w m, ap (λ (f : Computation Bits). f p (begun w m n s)) (local_is 0), refl, refl)
+operand (rule.argument w) m n p s = (bits_of w n, ap (λ (f : Computation Bits). f p (begun w m n s)) (local_is 1), refl, refl)
 operand (rule.number w k is) m n p s =
-    (k, ap (λ (f : Act Bits). f p (begun w m n s)) (fixed_is k), is, sym (subst (λ (v : ℕ). k.value % 2 ^ v ≡ k.value) is (mod-eq_of_lt k.fits)))
+    (k, ap (λ (f : Computation Bits). f p (begun w m n s)) (fixed_is k), is, sym (subst (λ (v : ℕ). k.value % 2 ^ v ≡ k.value) is (mod-eq_of_lt k.fits)))
 
 binary_is : (op : BinOp) (a b : Bits) (w x y : ℕ) → a.width ≡ w → a.value ≡ x → b.width ≡ w → b.value ≡ y → binary op a b ≡ bits_of w (bin_of op w x y)
 binary_is op a b w x y wa xa wb yb =
@@ -76,7 +76,7 @@ side (rule.one w x a of) m n p s =
 side (rule.two w op x y a b ok of and far) m n p s =
     let u = operand of m n p s in
     let v = operand and m n p s in
-    ap (λ (f : Act Bits). f p (begun w m n s)) (bin_is op x y)
+    ap (λ (f : Computation Bits). f p (begun w m n s)) (bin_is op x y)
     ∙ rw (u.1, v.1) (ap (λ (z : Bits). give z p (begun w m n s)) (binary_is op u.0 v.0 w _ _ u.2 u.3 v.2 v.3))
 
 -- A run that answers this and does nothing else.
@@ -92,7 +92,7 @@ compared : {w : ℕ} {x y : Expr} {a b : MemArg} (op : CmpOp) → Operand w x a 
 compared {w} {x} {y} op of and m n p s =
     let u = operand of m n p s in
     let v = operand and m n p s in
-    ap (λ (f : Act Bits). f p (begun w m n s)) (cmp_is op x y)
+    ap (λ (f : Computation Bits). f p (begun w m n s)) (cmp_is op x y)
     ∙ rw (u.1, v.1) (ap (λ (z : Bits). give z p (begun w m n s)) (comparison_is op u.0 v.0 w _ _ u.2 u.3 v.2 v.3))
 
 tested : (c : Expr) (ss ts : List Stmt) (b : Bool) (v : Bits) (p : Frame) (s : State) → value_of c p s ≡ give (bits_of 1 (bit_of b)) p s →

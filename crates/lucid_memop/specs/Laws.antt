@@ -4,7 +4,7 @@ use Rattle.lucid_base.specs.Bits.{bits_of}
 use Rattle.lucid_base.specs.Memop.{memop_value}
 use Rattle.lucid_base.specs.declared.memory_alu.MemAlu.{MemAlu}
 use Rattle.lucid_core.specs.declared.body.Stmt.{Stmt}
-use Rattle.lucid_core.specs.Acts.{Frame, State, block, called, give}
+use Rattle.lucid_core.specs.Computations.{Frame, State, block, called, give}
 use Rattle.lucid_core.specs.Meaning.{effect_of}
 
 -- The memop gives, of any stored number and argument, what the body gives that is called on them; and the body does nothing else.

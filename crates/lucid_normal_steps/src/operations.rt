@@ -1,7 +1,7 @@
 // Operations that compute, one at a time: each writes a new field.
 ghost use Rattle.std.specs.Prelude.{◌≡◌, [], ◌∷◌, IfOk, OnOk, length};
 ghost use Rattle.lucid_code.specs.declared.op.Act.TheVariants as act;
-ghost use Rattle.lucid_core.specs.Acts.{array_of};
+ghost use Rattle.lucid_core.specs.Computations.{array_of};
 ghost use Rattle.lucid_normal_form.specs.Translate.{bit_field, emit, moved as moved_by, new_field, op as op_of, touch_made, with_field};
 ghost use Rattle.lucid_normal_steps.specs.Added.{added};
 

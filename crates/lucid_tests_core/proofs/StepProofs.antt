@@ -10,7 +10,7 @@ use Rattle.lucid_core.specs.declared.body.Touch.{Touch}
 use Rattle.lucid_core.specs.declared.body.Expr.TheOpen.{Expr-F, Stmt-F, Touch-F}
 use Rattle.lucid_core.specs.declared.body.Expr.TheViews.{roll-Expr, roll-Stmt, roll-Touch}
 use Rattle.lucid_core.specs.declared.body.Expr.TheFolds.{fold-roll-Expr, fold-roll-Stmt, fold-roll-Touch, map-Expr, map-Stmt, map-Touch}
-use Rattle.lucid_core.specs.Acts.{Act, Effect, Frame, Fun, State, block, called, begun_with}
+use Rattle.lucid_core.specs.Computations.{Computation, Effect, Frame, Fun, State, block, called, begun_with}
 use Rattle.lucid_core.specs.ExamplePrograms.{local, say, return, plus, update, bumps, bump_put_in}
 use Rattle.lucid_core.proofs.Folds.{folds}
 use Rattle.lucid_base.specs.Cells.{zero_cells}
@@ -19,22 +19,22 @@ use Rattle.lucid_tests_core.specs.StepExamples.{StepExamples, look, say_bump, sa
 use Rattle.lucid_core.specs.Step.{Entry, Stepped, Steps, started, taken_at}
 
 -- What a part of a body does, by what its parts do.
-value_run : (y : Expr-F Expr Stmt Touch) (p : Frame) (s : State) → value_of (roll-Expr y) p s ≡ expr_step (map-Expr Expr Stmt Touch (Act Bits) Effect (Act Bits) value_of effect_of touch_of y) p s
-value_run y p s = ap (λ (f : Act Bits). f p s) (fold-roll-Expr (Act Bits) Effect (Act Bits) expr_step stmt_step touch_step y)
+value_run : (y : Expr-F Expr Stmt Touch) (p : Frame) (s : State) → value_of (roll-Expr y) p s ≡ expr_step (map-Expr Expr Stmt Touch (Computation Bits) Effect (Computation Bits) value_of effect_of touch_of y) p s
+value_run y p s = ap (λ (f : Computation Bits). f p s) (fold-roll-Expr (Computation Bits) Effect (Computation Bits) expr_step stmt_step touch_step y)
 
-effect_run : (y : Stmt-F Expr Stmt Touch) (p : Frame) (s : State) → effect_of (roll-Stmt y) p s ≡ stmt_step (map-Stmt Expr Stmt Touch (Act Bits) Effect (Act Bits) value_of effect_of touch_of y) p s
-effect_run y p s = ap (λ (f : Effect). f p s) (fold-roll-Stmt (Act Bits) Effect (Act Bits) expr_step stmt_step touch_step y)
+effect_run : (y : Stmt-F Expr Stmt Touch) (p : Frame) (s : State) → effect_of (roll-Stmt y) p s ≡ stmt_step (map-Stmt Expr Stmt Touch (Computation Bits) Effect (Computation Bits) value_of effect_of touch_of y) p s
+effect_run y p s = ap (λ (f : Effect). f p s) (fold-roll-Stmt (Computation Bits) Effect (Computation Bits) expr_step stmt_step touch_step y)
 
-touch_run : (y : Touch-F Expr Stmt Touch) (p : Frame) (s : State) → touch_of (roll-Touch y) p s ≡ touch_step (map-Touch Expr Stmt Touch (Act Bits) Effect (Act Bits) value_of effect_of touch_of y) p s
-touch_run y p s = ap (λ (f : Act Bits). f p s) (fold-roll-Touch (Act Bits) Effect (Act Bits) expr_step stmt_step touch_step y)
+touch_run : (y : Touch-F Expr Stmt Touch) (p : Frame) (s : State) → touch_of (roll-Touch y) p s ≡ touch_step (map-Touch Expr Stmt Touch (Computation Bits) Effect (Computation Bits) value_of effect_of touch_of y) p s
+touch_run y p s = ap (λ (f : Computation Bits). f p s) (fold-roll-Touch (Computation Bits) Effect (Computation Bits) expr_step stmt_step touch_step y)
 
 ruleset runs = (value_run, effect_run, touch_run)
 
 -- Array.update(a, i, plus, 1, plus, 1), where the index does this, and where it is this local.
-abbrev counts_at : ArrayName → Act Bits → Act Bits
+abbrev counts_at : ArrayName → Computation Bits → Computation Bits
 counts_at a i = expr_step (Expr-F.Array (touch_step (record { array = a; index = i; get = plus; get_arg = expr_step (Expr-F.Fixed (bits_of 32 1)); set = plus; set_arg = expr_step (Expr-F.Fixed (bits_of 32 1)); answers = true })))
 
-abbrev counts : ArrayName → ℕ → Act Bits
+abbrev counts : ArrayName → ℕ → Computation Bits
 counts a i = counts_at a (expr_step (Expr-F.Local i))
 
 -- What the body of `bump` does.
@@ -57,7 +57,7 @@ indexed_does : effect_of say_indexed ≡ stmt_step (Stmt-F.Say 0 (counts_at (Glo
 indexed_does = simp folds refl
 
 -- A print of a call with its body put in, where its argument, held by local 2, and its body do this.
-abbrev put_in : Act Bits → Effect → Effect
+abbrev put_in : Computation Bits → Effect → Effect
 put_in arg body = stmt_step (Stmt-F.Say 0 (expr_step (Expr-F.Inlined ((2, arg) ∷ []) (body ∷ [])) ∷ []))
 
 abbrev bump_again : Stmt
@@ -68,9 +68,9 @@ bump_again_does = simp folds refl
 
 put_in_does : effect_of (say 0 (bump_put_in ∷ [])) ≡ put_in (expr_step (Expr-F.Local 0)) (stmt_step (Stmt-F.Return (Some (counts (Global 0) 2))))
 put_in_does =
-    fold-roll-Stmt (Act Bits) Effect (Act Bits) expr_step stmt_step touch_step (Stmt-F.Say 0 (bump_put_in ∷ []))
-    ∙ ap (λ (act : Act Bits). stmt_step (Stmt-F.Say 0 (act ∷ []))) (fold-roll-Expr (Act Bits) Effect (Act Bits) expr_step stmt_step touch_step (Expr-F.Inlined ((2, local 0) ∷ []) (bump_again ∷ [])))
-    ∙ ap (λ (act : Act Bits). put_in act (effect_of bump_again)) (fold-roll-Expr (Act Bits) Effect (Act Bits) expr_step stmt_step touch_step (Expr-F.Local 0))
+    fold-roll-Stmt (Computation Bits) Effect (Computation Bits) expr_step stmt_step touch_step (Stmt-F.Say 0 (bump_put_in ∷ []))
+    ∙ ap (λ (act : Computation Bits). stmt_step (Stmt-F.Say 0 (act ∷ []))) (fold-roll-Expr (Computation Bits) Effect (Computation Bits) expr_step stmt_step touch_step (Expr-F.Inlined ((2, local 0) ∷ []) (bump_again ∷ [])))
+    ∙ ap (λ (act : Computation Bits). put_in act (effect_of bump_again)) (fold-roll-Expr (Computation Bits) Effect (Computation Bits) expr_step stmt_step touch_step (Expr-F.Local 0))
     ∙ ap (put_in (expr_step (Expr-F.Local 0))) bump_again_does
 
 -- What the handler with the two calls does.

@@ -42,7 +42,7 @@ use Rattle.lucid_types_function.specs.Statement.{body_of, type_of}
 use Rattle.lucid_types_function.proofs.Leads.{fits_width, width_is}
 use Rattle.lucid_types_function.proofs.Memops.{is_memop}
 use Rattle.lucid_types_function.proofs.Memops as memops
-use Rattle.lucid_types_function.proofs.Parts.{held, was}
+use Rattle.lucid_types_function.proofs.Parts.{when_parts, was}
 use Rattle.lucid_types_function.proofs.StatementComplete as complete
 use Rattle.lucid_types_function.proofs.StatementSound as sound
 
@@ -90,7 +90,7 @@ are_params i j s (p.Value t n ∷ ps) r h =
     (types.value i j s rest.0.1 t v.0 n ps rest.0.0 (sound.is_meant t v.0 v.1) (are_params (i + 1) j _ ps rest.0 rest.1))
 are_params i j s (p.Array short w n ∷ ps) r h =
     let rest = bound _ _ r h in
-    let parts = held (is_width w) (parameters i (j + 1) _ ps) rest.0 rest.1 in
+    let parts = when_parts (is_width w) (parameters i (j + 1) _ ps) rest.0 rest.1 in
     subst (λ (z : List Param × Names). Parameters i j s (p.Array short w n ∷ ps) z.0 z.1) (same_some (param.Array w ∷ rest.0.0, rest.0.1) r rest.2)
     (types.array i j s rest.0.1 short w n ps rest.0.0 (width_is w parts.0) (are_params i (j + 1) _ ps rest.0 parts.1))
 
@@ -171,7 +171,7 @@ memop number line n first second body m l h =
     let v = bound (int_of second.0) _ l w.2 in
     let steps = bound _ _ l v.2 in
     let alu = bound (shape_found w.0 steps.0) _ l steps.2 in
-    let parts = held (nat_eq w.0 v.0) (memop_body w.0 (memop_names w.0 first.1 second.1 m.names) body) steps.0 steps.1 in
+    let parts = when_parts (nat_eq w.0 v.0) (memop_body w.0 (memop_names w.0 first.1 second.1 m.names) body) steps.0 steps.1 in
     subst (Declared number line m (d.Memop n first second body)) (same_some _ l alu.2)
     (rule.memop first.0 second.0 w.0 n first.1 second.1 body steps.0 alu.0 (is_int first.0 w.0 w.1)
     (subst (λ (u : ℕ). Means second.0 (Int u)) (sym (eqb-true w.0 v.0 parts.0)) (is_int second.0 v.0 v.1))
@@ -193,8 +193,8 @@ handle number line n ps body m l h =
     let qs = bound _ _ l e.2 in
     let ws = bound (int_params qs.0.0) _ l qs.2 in
     let b = bound _ _ l ws.2 in
-    let free = held (is_none e.0.handler) (parameters 0 0 m.names ps) qs.0 qs.1 in
-    let repeats = held (same ws.0 y.0.1) (body_of body None qs.0.1 (record { locals = y.0.1; forms = m.forms })) b.0 b.1 in
+    let free = when_parts (is_none e.0.handler) (parameters 0 0 m.names ps) qs.0 qs.1 in
+    let repeats = when_parts (same ws.0 y.0.1) (body_of body None qs.0.1 (record { locals = y.0.1; forms = m.forms })) b.0 b.1 in
     let widths : ws.0 ≡ y.0.1 = same_text ws.0 y.0.1 (sym repeats.0) in
     let of = subst (λ (rs : List Param). Parameters 0 0 m.names ps rs qs.0.1) (are_ints qs.0.0 ws.0 ws.1 ∙ ap ints widths) (are_params 0 0 m.names ps qs.0 free.1) in
     subst (Declared number line m (d.Handle n ps body)) (same_some _ l b.2)

@@ -6,6 +6,6 @@ pub was : {A : Type 0} (b : Bool) (x y : A) → given b x ≡ Some y → (b ≡ 
 was true x y h = (refl, cc)
 was false x y h = absurd (cc)
 
-pub held : {A : Type 0} (b : Bool) (o : Option A) (x : A) → when b o ≡ Some x → (b ≡ true) × (o ≡ Some x)
-held true o x h = (refl, h)
-held false o x h = absurd (cc)
+pub when_parts : {A : Type 0} (b : Bool) (o : Option A) (x : A) → when b o ≡ Some x → (b ≡ true) × (o ≡ Some x)
+when_parts true o x h = (refl, h)
+when_parts false o x h = absurd (cc)

@@ -26,7 +26,7 @@ use Rattle.lucid_types_function.specs.Sending as take
 use Rattle.lucid_types_function.specs.Sending.{event_at, group_at, is_here, is_none, named_group, sending_of}
 use Rattle.lucid_types_function.proofs.Complete as complete
 use Rattle.lucid_types_function.proofs.Forms.{bare_at, core_at, name_is}
-use Rattle.lucid_types_function.proofs.Parts.{held, was}
+use Rattle.lucid_types_function.proofs.Parts.{when_parts, was}
 use Rattle.lucid_types_function.proofs.Sound as sound
 use Rattle.lucid_types_function.proofs.StatementForms.{delay_is, event_is, locate_is, paren_is}
 
@@ -105,7 +105,7 @@ target_by x y s f g None (Some members) is named of here h = absurd (cc)
 locate : (x : V) (y : E) → P x → P (v.Locate x y)
 locate x y of s g h =
     let inner = bound (sending_of x s) _ g (sym (ap (λ (f : take.Sends). f s) (locate_is x y)) ∙ h) in
-    let parts = held (is_here inner.0.to) (take.target_of (named_group (reading y).bare s) (reading y) s inner.0) g inner.2 in
+    let parts = when_parts (is_here inner.0.to) (take.target_of (named_group (reading y).bare s) (reading y) s inner.0) g inner.2 in
     target_by x y s inner.0 g (reading y).bare (named_group (reading y).bare s) refl refl (of s inner.0 inner.1) (here_is inner.0.to parts.0) parts.1
 
 pub are_sent : (x : V) → P x

@@ -40,7 +40,7 @@ use Rattle.lucid_types_function.specs.Reading as read
 use Rattle.lucid_types_function.specs.Reading.{Calling, Elaboration, Touching, core_of, given_all, is_width, reading, same_type, touch_of}
 use Rattle.lucid_types_function.proofs.Forms.{array_is, bare_at, call_is, cast_is, core_at, get_is, getm_is, hash_is, infix_is, me_is, name_is, number_is, paren_is, prefix_is, set_is, setm_is, shift_is, time_is, touch_at, truth_is, update_is}
 use Rattle.lucid_types_function.proofs.Leads.{free_width, shared_width, width_is}
-use Rattle.lucid_types_function.proofs.Parts.{held, was}
+use Rattle.lucid_types_function.proofs.Parts.{when_parts, was}
 
 type_is : (t u : ValueType) → same_type t u ≡ true → t ≡ u
 type_is (Int w) (Int v) h = ap (λ (n : ℕ). Int n) (eqb-true w v h)
@@ -111,7 +111,7 @@ shift x up k of s vt.Bool c h = let no : None ≡ Some c = sym (core_at (shift_i
 free : (x : E) → P x → (s : Names) (c : Expr) → read.free (reading x) s ≡ Some c → Free s x (or_32 ((reading x).lead s)) c
 free x of s c h =
     let w = or_32 ((reading x).lead s) in
-    let parts = held (is_width w) (core_of x s (Int w)) c h in
+    let parts = when_parts (is_width w) (core_of x s (Int w)) c h in
     let ok = width_is w parts.0 in
     let typed = of s (Int w) c parts.1 in
     rule.free x w c (free_width s x c ((reading x).lead s) refl ok typed) typed
@@ -133,7 +133,7 @@ infix_by i x y of and s (Int w) c (Some op) cm lo is cmp_is lo_is h =
 infix_by i x y of and s vt.Bool c (Some op) cm lo is cmp_is lo_is h = absurd (cc)
 infix_by i x y of and s vt.Bool c None (Some op) lo is cmp_is lo_is h =
     let w = read.shared_width (reading x) (reading y) s in
-    let parts = held (is_width w) (read.compared op (core_of x s (Int w)) (core_of y s (Int w))) c h in
+    let parts = when_parts (is_width w) (read.compared op (core_of x s (Int w)) (core_of y s (Int w))) c h in
     let f = bound (core_of x s (Int w)) _ c parts.1 in
     let g = bound (core_of y s (Int w)) _ c f.2 in
     let first = of s (Int w) f.0 f.1 in

@@ -41,7 +41,7 @@ use Rattle.lucid_types_function.specs.Sending.{sending_of}
 use Rattle.lucid_types_function.specs.Statement as take
 use Rattle.lucid_types_function.specs.Statement.{Other, Taken, Taking, block, chosen, goes_on, is_empty, onto, or_empty, other, other_of, parts, put, taking, type_of}
 use Rattle.lucid_types_function.proofs.Leads.{width_is}
-use Rattle.lucid_types_function.proofs.Parts.{held, was}
+use Rattle.lucid_types_function.proofs.Parts.{when_parts, was}
 use Rattle.lucid_types_function.proofs.Sendings.{are_sent}
 use Rattle.lucid_types_function.proofs.Sound as sound
 use Rattle.lucid_types_function.proofs.StatementComplete.{numbers_are, put_before}
@@ -90,7 +90,7 @@ begins a s m x d l of xs None b k h put_is =
     (subst (λ (n : Numbered). Block a s m (x ∷ xs) d n) h.1
     (subst (λ (ys : List S). Block a s m (x ∷ ys) d l) (sym h.0) (last a s m x d l d.ending refl of)))
 begins a s m x d l of xs (Some c) b k h put_is =
-    let parts = held (goes_on d.ending) (Some (before d.steps c)) b put_is in
+    let parts = when_parts (goes_on d.ending) (Some (before d.steps c)) b put_is in
     subst (λ (e : Body). Block a s m (x ∷ xs) e k) (same_some (before d.steps c) b parts.1) (rule.goes_on s m x d l xs c k of (never d.ending parts.0) h)
 
 -- A guard.
@@ -289,7 +289,7 @@ cases [] (Some zs) all end a s m i w b k h = rule.last_arm s m i w zs b k (block
 cases (y ∷ ys) zs all end a s m i w b k h =
     let first = bound _ _ (b, k) h in
     let others = bound (take.cases (taken_cases ys) (option_map (map taking) zs) i w a s first.0.1) _ (b, k) first.2 in
-    let fits = held (nat_lt y.0 (2 ^ w)) (block (map taking y.1) a s m) first.0 first.1 in
+    let fits = when_parts (nat_lt y.0 (2 ^ w)) (block (map taking y.1) a s m) first.0 first.1 in
     subst (λ (z : Body × Numbered). Cases a s m i w (y ∷ ys) zs z.0 z.1) (same_some _ (b, k) others.2)
     (rule.next s m i w y.0 y.1 first.0.0 first.0.1 ys zs others.0.0 others.0.1 (ltb-true y.0 (2 ^ w) fits.0)
     (blocks y.1 all.0 a s m first.0.0 first.0.1 fits.1) (cases ys zs all.1 end a s first.0.1 i w others.0.0 others.0.1 others.1))
@@ -301,7 +301,7 @@ matched x (y ∷ ys) zs all end a s m b k h =
     let w = or_32 ((reading x).lead s) in
     let c = bound _ _ (b, k) h in
     let chain = bound (take.cases (taken_cases (y ∷ ys)) (option_map (map taking) zs) (length m.locals) w a s (one_local w m)) _ (b, k) c.2 in
-    let distinct = held (are_distinct (map (λ z. z.0) (taken_cases (y ∷ ys)))) (read.free (reading x) s) c.0 c.1 in
+    let distinct = when_parts (are_distinct (map (λ z. z.0) (taken_cases (y ∷ ys)))) (read.free (reading x) s) c.0 c.1 in
     subst (λ (z : Body × Numbered). Statement a s m (form.Match x (y ∷ ys) zs) z.0 z.1) (same_some _ (b, k) chain.2)
     (rule.matched s m x w c.0 y ys zs chain.0.0 chain.0.1 (sound.free_is x s c.0 distinct.1)
     (sym (ap are_distinct (numbers_are (y ∷ ys))) ∙ distinct.0)

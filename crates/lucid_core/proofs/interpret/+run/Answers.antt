@@ -1,7 +1,7 @@
 -- The call of an earlier function, and a call with its body put in.
 use Rattle.std.proofs.Common.{rules, ◌≡◌, ◌∙◌, ap, map, take, Some, refl, arith}
 use Rattle.std.specs.Prelude.{slice_get}
-use Rattle.lucid_core.specs.Acts.{all, array_of, begun_with}
+use Rattle.lucid_core.specs.Computations.{all, array_of, begun_with}
 use Rattle.lucid_core.specs.Meaning.{value_of}
 use Rattle.lucid_core.specs.Running.{frame}
 use Rattle.lucid_core.proofs.Funs.{call_none, call_some, weight-at}

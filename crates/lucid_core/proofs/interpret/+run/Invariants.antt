@@ -2,7 +2,7 @@
 use Rattle.std.proofs.Common.{◌≡◌, ◌+◌, ◌*◌, ◌++◌, max, drop, map}
 use Rattle.lucid_core.specs.declared.body.Expr.TheViews.{size-Stmt}
 use denote.Param.Weighed.{most}
-use Rattle.lucid_core.specs.Acts.{all, block}
+use Rattle.lucid_core.specs.Computations.{all, block}
 use Rattle.lucid_core.specs.Meaning.{all_given, value_of, effect_of}
 use Rattle.lucid_core.specs.Running.{frame}
 use Rattle.lucid_core.specs.Weight.{weight}

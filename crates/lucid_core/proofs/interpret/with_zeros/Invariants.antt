@@ -1,6 +1,6 @@
 use Rattle.std.proofs.Common.{◌≡◌, ◌++◌, map, drop}
 use Rattle.lucid_base.specs.Bits.{bits_of}
-use Rattle.lucid_core.specs.Acts.{begun_with}
+use Rattle.lucid_core.specs.Computations.{begun_with}
 use Rattle.lucid_core.proofs.interpret.with_zeros.Given as goal
 
 abbrev pub invariant-loop-i : goal.invariant-loop-i

@@ -1,4 +1,4 @@
--- What a body does to the state: acts, and how they follow one another.
+-- What a body does to the state: computations, and how they follow one another.
 use Rattle.std.specs.Prelude.{ℕ, List, [], ◌∷◌, ◌++◌, Bool, true, false, length, map, drop, slice_index}
 use Rattle.lucid_base.specs.Bits.{bits_of}
 use Rattle.lucid_base.specs.declared.array.ArrayName.{ArrayName}
@@ -32,23 +32,23 @@ pub record Frame : Type 0 where
   pub arrays : List ℕ
   pub funs : List Fun
 
-abbrev pub Act : Type 0 → Type 0
-Act A = Frame → State → Ran A
+abbrev pub Computation : Type 0 → Type 0
+Computation A = Frame → State → Ran A
 
 abbrev pub Effect : Type 0
-Effect = Act (Unit {0})
+Effect = Computation (Unit {0})
 
-abbrev pub give : {A : Type 0} → A → Act A
+abbrev pub give : {A : Type 0} → A → Computation A
 give x = λ p s. record { gives = x; after = s; calls = [] }
 
 -- The second after the first.
 infixl 10 ◌>>=◌
-abbrev pub ◌>>=◌ : {A B : Type 0} → Act A → (A → Act B) → Act B
+abbrev pub ◌>>=◌ : {A B : Type 0} → Computation A → (A → Computation B) → Computation B
 m >>= f = λ p s. let first = m p s in let next = f first.gives p first.after in
     record { gives = next.gives; after = next.after; calls = first.calls ++ next.calls }
 
 -- From left to right.
-abbrev pub all : {A : Type 0} → List (Act A) → Act (List A)
+abbrev pub all : {A : Type 0} → List (Computation A) → Computation (List A)
 all [] = give []
 all (f ∷ fs) = do v ← f; vs ← all fs; give (v ∷ vs)
 
@@ -57,7 +57,7 @@ block [] = give tt
 block (f ∷ fs) = do _ ← f; block fs
 
 -- Both, the first one first where the test holds.
-abbrev pub both : {A B : Type 0} → Bool → Act A → Act B → Act (A × B)
+abbrev pub both : {A B : Type 0} → Bool → Computation A → Computation B → Computation (A × B)
 both true f g = do x ← f; y ← g; give (x, y)
 both false f g = do y ← g; x ← f; give (x, y)
 
@@ -72,12 +72,12 @@ array_of arrays (Global a) = a
 array_of arrays (Param i) = slice_index arrays i
 
 -- A call of an array: it answers and stores by what the cell held.
-abbrev pub touched : ArrayName → ℕ → (ℕ → Bits) → (ℕ → Bits) → Act Bits
+abbrev pub touched : ArrayName → ℕ → (ℕ → Bits) → (ℕ → Bits) → Computation Bits
 touched name i answer store = λ p s. let a = array_of p.arrays name in let old = cell_at s.cells a i in
     record { gives = answer old; after = record s { cells = with_cell s.cells a i (store old).value }; calls = a ∷ [] }
 
 -- A body on locals of its own and with an answer of its own, which is what it gives.
-abbrev pub called : List Bits → Effect → Act Bits
+abbrev pub called : List Bits → Effect → Computation Bits
 called locals body = λ p s. let ran = body p (record s { locals = locals; answer = nothing }) in
     record { gives = ran.after.answer; after = record ran.after { locals = s.locals; answer = s.answer }; calls = ran.calls }
 

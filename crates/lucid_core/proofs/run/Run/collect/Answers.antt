@@ -4,7 +4,7 @@ use Rattle.std.proofs.lemmas.List.Elements.{All-get_or}
 use Rattle.lucid_base.specs.declared.event.Out.{Out}
 use Rattle.lucid_core.specs.Fits.{carried}
 use Rattle.lucid_core.specs.Running.{out_of}
-use Rattle.lucid_core.proofs.run.Run.sent.Goals as goal
+use Rattle.lucid_core.proofs.run.Run.collect.Goals as goal
 
 pub out-requires : goal.out-requires
 out-requires c =
