@@ -9,7 +9,6 @@ use crate::depth::MOST;
 use crate::site::Site;
 use lucid_base::{ArrayDef, Id, Items, Memory};
 use lucid_core::{Core, EventDef, Flat, FunDef, HandlerDef, MemopDef};
-use lucid_core_copy::{copy_event, copy_memop};
 use lucid_inline_form::{flat_is_valid, has_few_locals};
 use std::alloc::Global;
 
@@ -44,7 +43,7 @@ fn copy_memops(alloc: Global, memops: &[MemopDef]) -> Result<Vec<MemopDef>, Memo
 {
     let mut copies = Vec::new(alloc);
     for memop in memops {
-        copies.push(copy_memop(alloc, memop)?)?;
+        copies.push(memop.copy(alloc)?)?;
     }
     Ok(copies)
 }
@@ -54,7 +53,7 @@ fn copy_events(alloc: Global, events: &[EventDef]) -> Result<Vec<EventDef>, Memo
 {
     let mut copies = Vec::new(alloc);
     for event in events {
-        copies.push(copy_event(alloc, event)?)?;
+        copies.push(event.copy(alloc)?)?;
     }
     Ok(copies)
 }

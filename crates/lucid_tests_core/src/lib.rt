@@ -1,7 +1,5 @@
 // Tests of what is done with the core of a program: its rules and its step on examples that are computed from the definitions
-// (specs/Refused.antt, specs/StepExamples.antt), so their functions do nothing; and copies of bodies. Nothing stands on it.
+// (specs/Refused.antt, specs/StepExamples.antt), so their functions do nothing. Nothing stands on it.
 #![tactic(auto)]
 
-#[cfg(test)]
-mod copies;
 mod examples;
