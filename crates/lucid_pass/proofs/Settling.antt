@@ -1,4 +1,4 @@
--- An act is settled by what it computes.
+-- An act is settled by the field that takes what it computes.
 use Rattle.std.proofs.Common.{◌≡◌, ℕ, Bool, true, false, Option, None, Some, if◌then◌else◌, refl}
 use Rattle.std.specs.List.{list_all}
 use Rattle.std.specs.Option.{option_and_then, option_map_or}
@@ -8,12 +8,12 @@ use Rattle.lucid_code.specs.declared.op.Operand.TheVariants.{Fixed}
 use Rattle.lucid_code.specs.Run.{result}
 use Rattle.lucid_code.specs.Uses.{operands_of}
 use Rattle.lucid_pass_form.specs.Looks.{is_fixed, computes, nowhere, settled}
-use Rattle.lucid_pass.specs.Settle.{computed}
+use Rattle.lucid_pass.specs.Settle.{computed_field}
 
-pub settled_by : (a : Act) → settled a ≡ option_map_or (λ (p : ℕ × ℕ). act.Move (Fixed p.0) p.1) (computed a) a
+pub settled_by : (a : Act) → settled a ≡ option_map_or (λ k. act.Move (Fixed (result a nowhere)) k) (computed_field a) a
 settled_by a = by (computes a) (list_all is_fixed (operands_of a))
   where
-    by : (x : Option ℕ) (b : Bool) → option_map_or (λ k. if b then act.Move (Fixed (result a nowhere)) k else a) x a ≡ option_map_or (λ (p : ℕ × ℕ). act.Move (Fixed p.0) p.1) (option_and_then (λ k. if b then Some (result a nowhere, k) else None) x) a
+    by : (x : Option ℕ) (b : Bool) → option_map_or (λ k. if b then act.Move (Fixed (result a nowhere)) k else a) x a ≡ option_map_or (λ k. act.Move (Fixed (result a nowhere)) k) (option_and_then (λ k. if b then Some k else None) x) a
     by None b = refl
     by (Some k) true = refl
     by (Some k) false = refl

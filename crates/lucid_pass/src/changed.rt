@@ -49,15 +49,15 @@ fn changed_op(alloc: Global, now: Now, op: &Op) -> Result<Op, Memory>
     Ok(Op {
         guard,
         level: op.level,
-        act: finished(looks, act),
+        act: finished(alloc, looks, act),
     })
 }
 
-fn finished(looks: Looks, act: Act) -> Act
+fn finished(alloc: Global, looks: Looks, act: Act) -> Act
     ensures { result ≡ finish_of looks act }
 {
     match looks {
         Looks::Copied => act,
-        Looks::Constant => settled(act),
+        Looks::Constant => settled(alloc, act),
     }
 }
