@@ -1,5 +1,5 @@
-// How deep statements may stand in one another. Whatever walks a core recurses as deep, and takes stack. Stack is memory: its want is told as
-// that.
+// How deep statements may stand in one another. Whatever walks a core that passes no limit recurses as deep, and takes stack. Stack is memory:
+// its want is told as that.
 use lucid_base::Memory;
 use lucid_core::{Stmt, below};
 

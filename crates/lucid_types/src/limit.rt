@@ -12,13 +12,24 @@ use lucid_types_function::declarations_are_computed;
 use lucid_types_limits::{Limits, only_the_new_counts};
 use lucid_types_rules::What;
 
-/// What this declaration passes, which made what is known the last.
+/// What this declaration passes, which made what is known the last. Where it passes none, Memory is told of blocks of it that stand too deep in one
+/// another; what asks the limits takes no more stack for them.
 pub fn passed(limits: &mut Limits, known: &Known, x: &DeclKind) -> Result<Option<What>, Memory>
+    ensures { Judges result x.now (made_of known.now) limits.old limits.new }
+{
+    let passed = newest_passes(limits, known, x)?;
+    if passed.is_none() {
+        is_shallow(known, x)?;
+    }
+    Ok(passed)
+}
+
+/// The limit alone, however deep its blocks stand in one another.
+fn newest_passes(limits: &mut Limits, known: &Known, x: &DeclKind) -> Result<Option<What>, Memory>
     ensures { Judges result x.now (made_of known.now) limits.old limits.new }
 {
     declarations_are_computed();
     only_the_new_counts();
-    is_shallow(known, x)?;
     match x {
         DeclKind::Const(_, _, _) => Ok(None),
         DeclKind::Global {

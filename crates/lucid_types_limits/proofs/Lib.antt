@@ -1,4 +1,5 @@
 pub mod Tallies
+pub mod Chain
 pub mod Forms
 pub mod FewCases
 pub mod Passing

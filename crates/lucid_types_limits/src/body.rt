@@ -8,9 +8,26 @@ ghost use Rattle.lucid_types_limits.specs.Tally.{in_turn, tally};
 use crate::tally::{Tally, outs};
 use lucid_core::{Expr, Stmt};
 
-/// Statements, behind functions of so many outs.
+/// Statements, behind functions of so many outs. What stands behind a return, and behind a case of a `match`, is the second branch of an `If` that
+/// ends its block. A loop goes along these, since a text may hold very many; all else is no deeper than a text may nest.
 #[cycle(body)]
 pub fn stmts(funs: &[u64], ss: &[Stmt]) -> Tally
+    ensures { result ≡ in_turn stmt_outs stmt_few funs.now ss.now }
+{
+    let mut before = outs(0);
+    let mut most = outs(0);
+    let mut left = ss;
+    while let Some((Stmt::If(e, yes, no), front)) = left.split_last() {
+        before = before.and(each(funs, front)).and(expr(funs, e));
+        most = most.or(before.and(stmts(funs, yes.as_slice())));
+        left = no.as_slice();
+    }
+    most.or(before.and(each(funs, left)))
+}
+
+/// Statements, each by itself.
+#[cycle(body)]
+fn each(funs: &[u64], ss: &[Stmt]) -> Tally
     ensures { result ≡ in_turn stmt_outs stmt_few funs.now ss.now }
 {
     let mut sum = outs(0);

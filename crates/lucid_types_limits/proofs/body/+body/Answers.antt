@@ -1,15 +1,32 @@
-use Rattle.std.proofs.Common.{◌≡◌, ◌+◌, ◌&&◌, true, map, rules, sym, ap, ◌∙◌}
+use Rattle.std.proofs.Common.{◌≡◌, ◌+◌, ◌&&◌, [], ◌∷◌, ◌++◌, true, arith, map, rules, sym, ap, ◌∙◌}
 use Rattle.lucid_core.specs.declared.body.Stmt.{Stmt}
+use Rattle.lucid_core.specs.declared.body.Stmt.TheVariants as s
 use Rattle.lucid_core.specs.Numbers.{all_hold}
 use Rattle.lucid_core.specs.OutCount.{expr_outs, stmt_outs, total}
 use Rattle.lucid_core.specs.Few.{expr_few, stmt_few}
 use Rattle.lucid_types_limits.specs.Tally.{in_turn, tally}
+use Rattle.lucid_types_limits.proofs.Chain.{parts_are_less, stepped}
 use Rattle.lucid_types_limits.proofs.Forms.{gen_is, left_out_few, left_out_outs, multi_is}
 use Rattle.lucid_types_limits.proofs.Tallies.{next}
 use Rattle.lucid_types_limits.proofs.body.+body.Goals as goal
 
-pub stmts-loop-s-preserved : goal.stmts-loop-s-preserved
-stmts-loop-s-preserved t c =
+pub stmts-loop-e-preserved : goal.stmts-loop-e-preserved
+stmts-loop-e-preserved t c =
+    let funs = c.args.funs.now in
+    let last = c.in-Some-If-default in
+    let split : c.loop-e.left.now ≡ last.front.now ++ s.If last.e last.yes last.no ∷ [] = last.ensures.cases.0 ∙ ap (λ (x : Stmt). last.front.now ++ x ∷ []) last.field-0-0-is in
+    let less = parts_are_less _ _ _ _ _ split in
+    let test : c.expr.result ≡ tally (expr_outs last.e funs) (expr_few last.e) = search rules in
+    let branch : c.stmts.result ≡ in_turn stmt_outs stmt_few funs last.yes = search rules in
+    let behind : c.as_slice-left.result.now ≡ last.no = search rules in
+    rw behind (
+      omega (arith, less, c.loop-e.invariant.0),
+      stepped funs c.args.ss.now c.loop-e.left.now last.front.now last.e last.yes last.no _ _ _ _ _ _ _ _ _ split
+          c.and.ensures c.and-before.ensures c.and-in-Some-If-default.ensures c.or-most.ensures c.each.ensures test branch c.loop-e.invariant.1,
+    )
+
+pub each-loop-s-preserved : goal.each-loop-s-preserved
+each-loop-s-preserved t c =
     next stmt_outs stmt_few c.args.funs.now c.args.ss.now c.loop-s.s-index c.s-item.result c.loop-s.sum c.stmt.result c.and-sum.result c.loop-s-test.true (sym c.s-item.is) c.and-sum.ensures
     c.loop-s.invariant c.stmt.ensures
 
