@@ -26,10 +26,11 @@ use Rattle.lucid_pipe.specs.declared.passed.Stuck.{Stuck}
 use Rattle.lucid_pipe.specs.declared.passed.Stuck.TheVariants as stuck
 use Rattle.lucid_drive.specs.Drive.{Done, Progress, block_of, entries, goes, is_taken, left_text, line, moved, does, enters, look_text, progress_from, stays, value_of}
 use Rattle.lucid_conf.specs.declared.scene.Step.{Step}
-use Rattle.lucid_drive.specs.Happened.{Did, entered_after, entry_of, happened_at, happened_block, looked_text, FitsTo, PassedFits, happened_of, happened_text, passed_text}
+use Rattle.lucid_drive.specs.Happened.{Did, entered_after, entry_of, happened_at, happened_block, looked_text, FitsTo, PassedFits, happened_of, happened_text, happened_within, nothing_left, passed_text}
 use Rattle.lucid_drive.specs.Standing.{Fits, IsAt, drive_of}
 use Rattle.lucid_drive.specs.declared.happened.Happened.{Happened}
 use Rattle.lucid_drive.specs.declared.happened.Happened.TheVariants.{Nothing, Busy, Entered, Empty, Ahead, Went, Left, Looked}
+use Rattle.lucid_drive.proofs.Changing.{as_go, kept_as_go, out_as_go, went_as_go}
 use Rattle.lucid_drive.proofs.Driving.{all_at}
 use Rattle.lucid_drive.proofs.Moving.{enters_at, leaves_at, moves_at, passed_of, stays_in}
 use Rattle.lucid_drive.proofs.Standing.{Laws, passed_many, stands_in, taken}
@@ -149,6 +150,13 @@ module _ (parts : CoreParts) (scene : Scene) (p : Progress) (pipe new : PipePart
 
       ok_ahead : ◌≡◌ {A = Result (Option Passed) Stuck} (Ok out_of_it) (Err stuck.Ahead) → ⊥
       ok_ahead e = cc
+
+  -- what it answers where nothing can leave
+  pub did_within : (r : Result (Unit {0}) Stuck) → (r ≡ Err stuck.Empty) ↔ (packet_at pipe k ≡ None) → (r ≡ Err stuck.Ahead) ↔ (IsSome (packet_at pipe k) × IsSome (packet_at pipe (k + 1))) → OnErr r (new ≡ pipe) →
+      OnOk r (IfSome (packet_at pipe k) (λ x. (new ≡ gone pipe k x) × (comes_out pipe k x ≡ None))) →
+      Did parts scene p.entered (goes (drive_of parts pipe scene) p k) (happened_within k r) new
+  did_within r empty ahead kept went_on =
+      did_go (nothing_left r) (as_go r stuck.Empty empty) (as_go r stuck.Ahead ahead) (kept_as_go pipe new k r kept) (went_as_go pipe new k r went_on) (out_as_go pipe new k r went_on)
 
 -- ---- an event enters
 

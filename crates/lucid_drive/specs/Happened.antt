@@ -23,6 +23,14 @@ happened_of k (Err stuck.Ahead) = Ahead k
 happened_of k (Ok None) = Went k
 happened_of k (Ok (Some passed)) = Left k passed
 
+-- What a move answers where no packet can leave.
+abbrev pub nothing_left : Result (Unit {0}) Stuck → Result (Option Passed) Stuck
+nothing_left (Ok u) = Ok None
+nothing_left (Err e) = Err e
+
+abbrev pub happened_within : ℕ → Result (Unit {0}) Stuck → Happened
+happened_within k r = happened_of k (nothing_left r)
+
 abbrev pub entry_of : ℕ → Result (Unit {0}) BusyParts → Happened
 entry_of number (Ok u) = Entered number
 entry_of number (Err busy) = Busy

@@ -1,25 +1,26 @@
 // The calls of a drive, a step at a time: what each writes, what it makes of the pipe, and where the pipe stands then. None takes memory.
-ghost use Rattle.std.specs.Prelude.{◌≡◌, ◌<◌, ◌+◌, ◌^◌, ◌↔◌, ℕ, None, Some, true, length, is_some, slice_get, if◌then◌else◌, nat_lt, IfOk, OnOk, OnErr};
+ghost use Rattle.std.specs.Prelude.{◌≡◌, ◌<◌, ◌+◌, ◌^◌, ◌↔◌, ℕ, None, Some, true, length, is_some, slice_get, if◌then◌else◌, nat_lt, IfOk, IfSome, OnOk, OnErr};
 ghost use Rattle.std.specs.Result.{is_err};
 ghost use Rattle.lucid_io.specs.Puts.{PutsAll, PutsPart};
 ghost use Rattle.lucid_pipe.specs.Pipe.{packet_at};
+ghost use Rattle.lucid_conf.specs.declared.scene.Step.TheVariants.{Go};
 ghost use Rattle.lucid_core.specs.Step.{after};
 ghost use Rattle.lucid_drive.specs.Changes.{Changes};
 ghost use Rattle.lucid_drive.specs.Drive.{entries, last_text};
 ghost use Rattle.lucid_drive.specs.Flush.{last_below};
-ghost use Rattle.lucid_drive.specs.Happened.{entered_after, happened_at};
+ghost use Rattle.lucid_drive.specs.Happened.{entered_after, happened_at, happened_within};
 ghost use Rattle.lucid_drive.specs.Standing.{drive_of};
 ghost use Rattle.lucid_drive.specs.State.{IsEmpty, StandsAfter, StandsAt, flush_at, moves_after, step_at};
 
 use crate::DriveState;
 use crate::ending::put_end;
 use crate::happened::Happened;
-use crate::moves::{go, step};
-use crate::put::{put_happened, put_out};
+use crate::moves::{go, go_within, step};
+use crate::put::{put_happened, put_moved, put_out};
 use lucid_conf::{Scene, Step};
 use lucid_core::{Core, cells_stay_fit};
 use lucid_io::{Sink, WriteFault};
-use lucid_pipe::Pipe;
+use lucid_pipe::{Pipe, Stuck};
 
 /// Does the step that is next and writes what it writes: its line, and the block of a packet that leaves. Some(k) comes exactly where that
 /// step was a go of slot `k` that moved a packet. After an error the pipe stands at no state, and a proper prefix of the text was written.
@@ -44,6 +45,97 @@ pub fn drive_step<S: Sink>(
     let _events = scene.events.len();
     let _steps = scene.steps.len();
     let chosen = step_of(scene, state.done);
+    match slot_within(pipe, chosen) {
+        Some(k) => step_within(pipe, core, scene, state, sink, k),
+        None => step_any(pipe, core, scene, state, sink, chosen),
+    }
+}
+
+/// The slot of a step that moves a packet from a slot that isn't the last.
+fn slot_within(pipe: &Pipe, step: Step) -> Option<usize>
+    ensures { IfSome result (λ k. (step ≡ Go k) × (k + 1 < length pipe.now.slots)) }
+{
+    match step {
+        Step::Go(k) => {
+            let k = k as usize;
+            if k + 1 < pipe.stages() { Some(k) } else { None }
+        }
+        _ => None,
+    }
+}
+
+/// Does this step, which is next and moves the packet in slot `k`, if it can. No packet can leave, so there is no room here for one that did:
+/// nearly all steps of a drive are such.
+fn step_within<S: Sink>(
+    pipe: &mut Pipe,
+    core: &Core,
+    scene: &Scene,
+    state: &mut DriveState,
+    sink: &mut S,
+    k: usize,
+) -> Result<Option<usize>, WriteFault>
+    requires at { StandsAfter core.now scene.now state.old 0 pipe.old }
+    requires there { state.old.done < length scene.now.steps }
+    requires this { slice_get scene.now.steps state.old.done ≡ Some (Go k) }
+    requires within { k + 1 < length pipe.old.slots }
+    ensures placed { pipe.new.placed ≡ pipe.old.placed }
+    ensures all { OnOk result (PutsAll S.written S.faults sink.old sink.new (step_at (drive_of core.now pipe.old scene.now) state.old.done).text) }
+    ensures part { OnErr result (PutsPart S.written S.faults sink.old sink.new (step_at (drive_of core.now pipe.old scene.now) state.old.done).text) }
+    ensures moved { IfOk result (λ moved. moved ≡ (step_at (drive_of core.now pipe.old scene.now) state.old.done).stage) }
+    ensures changes { IfOk result (λ moved. Changes pipe.old moved pipe.new) }
+    ensures done { OnOk result (state.new.done ≡ state.old.done + 1) }
+    ensures at { OnOk result (StandsAfter core.now scene.now state.new 0 pipe.new) }
+    ensures failed { OnErr result (state.new ≡ record state.old { failed = true }) }
+{
+    let _events = scene.events.len();
+    let _steps = scene.steps.len();
+    let moved = go_within(pipe, core, scene, k);
+    match put_moved(sink, core, k, moved) {
+        Ok(()) => {
+            state.done += 1;
+            Ok(moved_slot(k, moved))
+        }
+        Err(fault) => {
+            state.failed = true;
+            Err(fault)
+        }
+    }
+}
+
+/// The slot, if its packet moved.
+fn moved_slot(k: usize, moved: Result<(), Stuck>) -> Option<usize>
+    ensures { result ≡ happened_at (happened_within k moved) }
+{
+    match moved {
+        Ok(()) => Some(k),
+        Err(_) => None,
+    }
+}
+
+/// Does this step, which is next, whatever it is.
+#[inline(never)]
+fn step_any<S: Sink>(
+    pipe: &mut Pipe,
+    core: &Core,
+    scene: &Scene,
+    state: &mut DriveState,
+    sink: &mut S,
+    chosen: Step,
+) -> Result<Option<usize>, WriteFault>
+    requires at { StandsAfter core.now scene.now state.old 0 pipe.old }
+    requires there { state.old.done < length scene.now.steps }
+    requires this { slice_get scene.now.steps state.old.done ≡ Some chosen }
+    ensures placed { pipe.new.placed ≡ pipe.old.placed }
+    ensures all { OnOk result (PutsAll S.written S.faults sink.old sink.new (step_at (drive_of core.now pipe.old scene.now) state.old.done).text) }
+    ensures part { OnErr result (PutsPart S.written S.faults sink.old sink.new (step_at (drive_of core.now pipe.old scene.now) state.old.done).text) }
+    ensures moved { IfOk result (λ moved. moved ≡ (step_at (drive_of core.now pipe.old scene.now) state.old.done).stage) }
+    ensures changes { IfOk result (λ moved. Changes pipe.old moved pipe.new) }
+    ensures done { OnOk result (state.new.done ≡ state.old.done + 1) }
+    ensures at { OnOk result (StandsAfter core.now scene.now state.new 0 pipe.new) }
+    ensures failed { OnErr result (state.new ≡ record state.old { failed = true }) }
+{
+    let _events = scene.events.len();
+    let _steps = scene.steps.len();
     let happened = step(pipe, core, scene, state.entered, chosen);
     match put_happened(sink, core, &happened) {
         Ok(()) => {

@@ -1,16 +1,16 @@
 // The steps of a drive, as moves of its pipe. Each is told for whatever progress the pipe stands at, and needs no more of a pipe than that.
-ghost use Rattle.std.specs.Prelude.{◌≡◌, ◌<◌, ◌^◌, None, length};
+ghost use Rattle.std.specs.Prelude.{◌≡◌, ◌+◌, ◌<◌, ◌^◌, None, length};
 ghost use Rattle.lucid_conf.specs.Kept.{IsScene, IsStep};
 ghost use Rattle.lucid_normal_form.specs.Stands.{StandsFor};
 ghost use Rattle.lucid_drive.specs.Changes.{Changes};
 ghost use Rattle.lucid_drive.specs.Drive.{Progress, does, enters, goes, look_text, stays};
-ghost use Rattle.lucid_drive.specs.Happened.{Did, happened_at};
+ghost use Rattle.lucid_drive.specs.Happened.{Did, happened_at, happened_within};
 ghost use Rattle.lucid_drive.specs.Standing.{IsAt, drive_of};
 
 use crate::happened::{Happened, told, told_entry};
 use lucid_conf::{FileEvent, Scene, Step};
 use lucid_core::{Core, cells_stay_fit, outs_fit};
-use lucid_pipe::Pipe;
+use lucid_pipe::{Pipe, Stuck};
 
 /// The packet in slot `k` moves on, if it can.
 pub(crate) fn go(pipe: &mut Pipe, core: &Core, scene: &Scene, k: usize) -> Happened
@@ -23,6 +23,19 @@ pub(crate) fn go(pipe: &mut Pipe, core: &Core, scene: &Scene, k: usize) -> Happe
     outs_fit(core);
     let moved = pipe.go(k);
     told(k, moved)
+}
+
+/// The packet in slot `k`, which isn't the last, moves on, if it can: then nothing leaves.
+pub(crate) fn go_within(pipe: &mut Pipe, core: &Core, scene: &Scene, k: usize) -> Result<(), Stuck>
+    requires { k + 1 < length pipe.old.slots }
+    ensures placed { pipe.new.placed ≡ pipe.old.placed }
+    ensures changes { Changes pipe.old (happened_at (happened_within k result)) pipe.new }
+    ensures did { (p : Progress) → IsAt core.now scene.now p pipe.old → Did core.now scene.now p.entered (goes (drive_of core.now pipe.old scene.now) p k) (happened_within k result) pipe.new }
+{
+    pipe.keeps_laws();
+    cells_stay_fit(core);
+    outs_fit(core);
+    pipe.go_within(k)
 }
 
 /// The next event of the file, of number `entered`, enters, if there is one and it can.

@@ -4,7 +4,7 @@ ghost use Rattle.lucid_io.specs.Puts.{PutsAll, PutsPart};
 ghost use Rattle.lucid_log.specs.Cell.{array_name};
 ghost use Rattle.std.specs.Prelude.{codes, decimal};
 ghost use Rattle.lucid_drive.specs.Drive.{line};
-ghost use Rattle.lucid_drive.specs.Happened.{FitsTo, PassedFits, happened_block, happened_text, looked_text, passed_text};
+ghost use Rattle.lucid_drive.specs.Happened.{FitsTo, PassedFits, happened_block, happened_text, happened_within, looked_text, passed_text};
 ghost use Rattle.lucid_drive.specs.declared.happened.Happened.TheVariants.{Looked};
 
 use crate::happened::Happened;
@@ -12,7 +12,7 @@ use lucid_base::ArrayDef;
 use lucid_core::Core;
 use lucid_io::{Sink, WriteFault};
 use lucid_log::{Piece, put_block, put_pieces};
-use lucid_pipe::Passed;
+use lucid_pipe::{Passed, Stuck};
 
 /// Writes a word and a number.
 fn put_line<S: Sink>(sink: &mut S, word: &[u8], n: u64) -> Result<(), WriteFault>
@@ -50,6 +50,23 @@ fn put_left<S: Sink>(sink: &mut S, core: &Core, k: usize, passed: &Passed) -> Re
 {
     put_line(sink, b"go ", k as u64)?;
     put_passed(sink, core, passed)
+}
+
+/// Writes what a move of the packet in slot `k` writes where none could leave.
+pub(crate) fn put_moved<S: Sink>(
+    sink: &mut S,
+    core: &Core,
+    k: usize,
+    moved: Result<(), Stuck>,
+) -> Result<(), WriteFault>
+    ensures all { OnOk result (PutsAll S.written S.faults sink.old sink.new (happened_text core.now (happened_within k moved))) }
+    ensures part { OnErr result (PutsPart S.written S.faults sink.old sink.new (happened_text core.now (happened_within k moved))) }
+{
+    match moved {
+        Ok(()) => put_line(sink, b"go ", k as u64),
+        Err(Stuck::Empty) => put_line(sink, b"empty ", k as u64),
+        Err(Stuck::Ahead) => put_line(sink, b"ahead ", k as u64),
+    }
 }
 
 /// Writes what a step writes.

@@ -9,7 +9,7 @@ use Rattle.lucid_pipe.specs.Pipe.{PipeParts, packet_at}
 use Rattle.lucid_pipe_stream.proofs.Moves.{backs_free, moves_all, moves_first, moves_next}
 use Rattle.lucid_pipe_stream.specs.Moves.{advance, backs, goes}
 use Rattle.lucid_tables.specs.Placed.{PlacedParts}
-use Rattle.lucid_net.proofs.Went.{packet_is, slot_at}
+use Rattle.lucid_net.proofs.Went.{packet_is, rows_long, slot_at}
 
 abbrev Left : Option Packet → Option Run
 Left o = option_map run_of_packet o
@@ -35,6 +35,11 @@ move_free old now leaver stages i lt so =
     ∙ sym (packet_is now (stages - i) so.long)
     ∙ ap (λ (l : Rows). slot_at l (stages - i)) so.rows
     ∙ backs_free (step_of old.placed) (stages - i) (rows_in old)
+
+pub move_inside : (old now : PipeParts) (leaver : Option Run) (stages i : ℕ) → i < stages → stages ≡ length (rows_in old) → length old.slots ≡ length old.placed.stages → Moves old now leaver stages i → stages - 1 - i + 1 < length now.slots
+move_inside old now leaver stages i lt is long so =
+    let many : length now.slots ≡ stages = so.long ∙ ap (λ (p : PlacedParts). length p.stages) so.placed ∙ sym (rows_long old long) ∙ sym is in
+    subst (λ (n : ℕ). stages - 1 - i + 1 < n) (sym many) (omega (arith, lt, so.some))
 
 pub move_next : (old now new : PipeParts) (leaver : Option Run) (stages i : ℕ) → i < stages → stages ≡ length (rows_in old) → Moves old now leaver stages i → new.placed ≡ now.placed → length new.slots ≡ length new.placed.stages →
     rows_in new ≡ (goes (step_of now.placed) (stages - 1 - i) (rows_in now)).0 → Moves old new leaver stages (i + 1)

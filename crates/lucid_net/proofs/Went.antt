@@ -1,5 +1,5 @@
 -- Pipes and their rows.
-use Rattle.std.proofs.Common.{◌≡◌, ℕ, zero, suc, ◌+◌, ◌-◌, ◌<◌, ◌≤◌, ◌↔◌, List, [], ◌∷◌, Option, None, Some, Result, Ok, Err, Bool, if◌then◌else◌, is_some, IsSome, IfSome, length, map, replicate, slice_get, refl, sym, ap, ap₂, subst, ◌∙◌, arith}
+use Rattle.std.proofs.Common.{◌≡◌, ℕ, zero, suc, ◌+◌, ◌-◌, ◌<◌, ◌≤◌, ◌↔◌, List, [], ◌∷◌, Option, None, Some, Result, Ok, Err, Bool, if◌then◌else◌, false, is_some, IsSome, IfSome, length, map, replicate, slice_get, refl, sym, ap, ap₂, subst, ◌∙◌, arith}
 use Rattle.std.proofs.lemmas.List.{length-replicate}
 use Rattle.std.proofs.lemmas.List.Sums.{sum_by-cons}
 use Rattle.std.specs.List.{cons_option, count_by, filter_map}
@@ -125,8 +125,12 @@ nothing_ahead : (o : Option Packet) → o ≡ None → IsSome o → ⊥
 nothing_ahead None is some = cc
 nothing_ahead (Some p) is some = cc
 
+pub none_there : (o : Option Packet) → is_some o ≡ false → o ≡ None
+none_there None is = refl
+none_there (Some p) is = absurd (cc)
+
 -- why nothing moved: nothing is there
-pub stuck_none : (old : PipeParts) (k : ℕ) (r : Result (Option Passed) Stuck) (e : Stuck) → r ≡ Err e → packet_at old (k + 1) ≡ None →
+pub stuck_none : {A : Type 0} (old : PipeParts) (k : ℕ) (r : Result A Stuck) (e : Stuck) → r ≡ Err e → packet_at old (k + 1) ≡ None →
     (r ≡ Err Empty ↔ (packet_at old k ≡ None)) → (r ≡ Err Ahead ↔ (IsSome (packet_at old k) × IsSome (packet_at old (k + 1)))) → packet_at old k ≡ None
 stuck_none old k r Empty is free empty ahead = empty.0 is
 stuck_none old k r Ahead is free empty ahead = absurd (nothing_ahead (packet_at old (k + 1)) free (ahead.0 is).1)
@@ -150,6 +154,16 @@ module _ (placed : PlacedParts) (old : PipeParts) (same : old.placed ≡ placed)
       by (Some p) e g l =
           let m = law.go old k p refl long e free in
           (ap pipe_rows g ∙ m.0, ap (option_map run_of_passed) (l ∙ m.1) ∙ told_run (goes (step_of old.placed) k (pipe_rows old)).1)
+
+  -- the same where nothing leaves
+  pub went_within : {A : Type 0} (new : PipeParts) (k : ℕ) (r : Result A Stuck) (x : A) → r ≡ Ok x → packet_at old (k + 1) ≡ None → (r ≡ Err Empty ↔ (packet_at old k ≡ None)) →
+      IfSome (packet_at old k) (λ p. (new ≡ gone old k p) × (comes_out old k p ≡ None)) → rows_in new ≡ (goes (step_of old.placed) k (rows_in old)).0
+  unfolding rows_in step_of
+  went_within {A} new k r x is free empty goes_on = by (packet_at old k) refl goes_on
+    where
+      by : (o : Option Packet) → packet_at old k ≡ o → IfSome o (λ p. (new ≡ gone old k p) × (comes_out old k p ≡ None)) → rows_in new ≡ (goes (step_of old.placed) k (rows_in old)).0
+      by None e g = let no : r ≡ Err Empty = empty.1 e in cc
+      by (Some p) e g = ap pipe_rows g.0 ∙ (law.go old k p refl long e free).0
 
   pub came : (new : PipeParts) (event : Event) (now me : ℕ) → new ≡ entered old event now me → rows_in new ≡ entered_by (Some (entering old.placed.code event now me)) (rows_in old)
   unfolding rows_in

@@ -82,21 +82,21 @@ fn leave_any<S: Sink>(
     queue: &mut Queue,
     counts: &mut Counts,
     sink: &mut S,
-    gone: Option<Passed>,
+    gone: &Option<Passed>,
 ) -> Result<(), NetError>
-    requires fits { IfSome (gone_run gone) (Fits world.now.core.now) }
-    requires kept { IfSome (gone_run gone) (λ run. KeptBefore world.now.core.now run queue.old) }
+    requires fits { IfSome (gone_run gone.now) (Fits world.now.core.now) }
+    requires kept { IfSome (gone_run gone.now) (λ run. KeptBefore world.now.core.now run queue.old) }
     requires room { counts.old.lost + 8 < 2 ^ 64 }
-    ensures queue { OnOk result (queue.new ≡ put_all (made_by (net_of world.now) (gone_run gone)) queue.old) }
-    ensures kept { OnOk result (IfSome (gone_run gone) (λ run. KeptAfter world.now.core.now run queue.new)) }
+    ensures queue { OnOk result (queue.new ≡ put_all (made_by (net_of world.now) (gone_run gone.now)) queue.old) }
+    ensures kept { OnOk result (IfSome (gone_run gone.now) (λ run. KeptAfter world.now.core.now run queue.new)) }
     ensures entered { OnOk result (counts.new.entered ≡ counts.old.entered) }
-    ensures lost { OnOk result (counts.new.lost ≡ counts.old.lost + losses_by (net_of world.now) (gone_run gone)) }
-    ensures writes { Writes S.written S.faults sink.old sink.new (text_by (net_of world.now) (gone_run gone)) result }
-    ensures memory { result ≡ Err Memory → made_by (net_of world.now) (gone_run gone) ≢ [] }
+    ensures lost { OnOk result (counts.new.lost ≡ counts.old.lost + losses_by (net_of world.now) (gone_run gone.now)) }
+    ensures writes { Writes S.written S.faults sink.old sink.new (text_by (net_of world.now) (gone_run gone.now)) result }
+    ensures memory { result ≡ Err Memory → made_by (net_of world.now) (gone_run gone.now) ≢ [] }
 {
     match gone {
         None => Ok(()),
-        Some(passed) => leave(world, queue, counts, sink, &passed),
+        Some(passed) => leave(world, queue, counts, sink, passed),
     }
 }
 
@@ -158,7 +158,7 @@ pub(crate) fn pipe_turn<S: Sink>(
     ensures memory { result ≡ Err Memory → made_by (net_of world.now) (left pipe.old.placed (rows_in pipe.old)) ≢ [] }
 {
     let gone = move_on(placed, pipe);
-    match leave_any(world, queue, counts, sink, gone) {
+    match leave_any(world, queue, counts, sink, &gone) {
         Ok(()) => {
             let_in(placed, queue, pipe, counts, tick, switch);
             is_of(placed, pipe);

@@ -49,6 +49,27 @@ fn move_at(placed: &Placed, pipe: &mut Pipe<'_>, k: usize) -> Option<Passed>
     }
 }
 
+/// What is in slot k, which isn't the last, moves on, if anything is there. The next slot is free.
+fn move_within(placed: &Placed, pipe: &mut Pipe<'_>, k: usize)
+    requires same { pipe.old.placed ≡ placed.now }
+    requires within { k + 1 < length pipe.old.slots }
+    requires free { packet_at pipe.old (k + 1) ≡ None }
+    ensures placed { pipe.new.placed ≡ pipe.old.placed }
+    ensures long { length pipe.new.slots ≡ length pipe.new.placed.stages }
+    ensures moved { rows_in pipe.new ≡ (goes (step_of pipe.old.placed) k (rows_in pipe.old)).0 }
+{
+    moves_as_rows(placed);
+    pipe.places_fall();
+    // Most slots are free in most networks, so that is asked without a call.
+    if !pipe.slot(k) {
+        return;
+    }
+    match pipe.go_within(k) {
+        Ok(_) => {}
+        Err(_) => {}
+    }
+}
+
 /// From the last stage to the first, each packet moves by one.
 pub(crate) fn move_on(placed: &Placed, pipe: &mut Pipe<'_>) -> Option<Passed>
     requires same { pipe.old.placed ≡ placed.now }
@@ -61,7 +82,7 @@ pub(crate) fn move_on(placed: &Placed, pipe: &mut Pipe<'_>) -> Option<Passed>
     let stages = stages(placed, pipe);
     let out = move_at(placed, pipe, stages - 1);
     for i in 1..stages {
-        move_at(placed, pipe, stages - 1 - i);
+        move_within(placed, pipe, stages - 1 - i);
     }
     out
 }

@@ -145,7 +145,7 @@ fn drain_pipe<S: Sink>(
 {
     let gone = move_on(placed, pipe);
     is_of(placed, pipe);
-    tell_any(world, counts, sink, gone)
+    tell_any(world, counts, sink, &gone)
 }
 
 /// What left, if something did, is told.
@@ -153,19 +153,19 @@ fn tell_any<S: Sink>(
     world: &World,
     counts: &mut Counts,
     sink: &mut S,
-    gone: Option<Passed>,
+    gone: &Option<Passed>,
 ) -> Result<u64, WriteFault>
-    requires fits { IfSome (gone_run gone) (Fits world.now.core.now) }
+    requires fits { IfSome (gone_run gone.now) (Fits world.now.core.now) }
     requires room { counts.old.lost + 8 < 2 ^ 64 }
-    ensures made { IfOk result (λ m. m ≡ length (made_by (net_of world.now) (gone_run gone))) }
+    ensures made { IfOk result (λ m. m ≡ length (made_by (net_of world.now) (gone_run gone.now))) }
     ensures entered { OnOk result (counts.new.entered ≡ counts.old.entered) }
-    ensures lost { OnOk result (counts.new.lost ≡ counts.old.lost + losses_by (net_of world.now) (gone_run gone)) }
-    ensures all { OnOk result (PutsAll S.written S.faults sink.old sink.new (text_by (net_of world.now) (gone_run gone))) }
-    ensures part { OnErr result (PutsPart S.written S.faults sink.old sink.new (text_by (net_of world.now) (gone_run gone))) }
+    ensures lost { OnOk result (counts.new.lost ≡ counts.old.lost + losses_by (net_of world.now) (gone_run gone.now)) }
+    ensures all { OnOk result (PutsAll S.written S.faults sink.old sink.new (text_by (net_of world.now) (gone_run gone.now))) }
+    ensures part { OnErr result (PutsPart S.written S.faults sink.old sink.new (text_by (net_of world.now) (gone_run gone.now))) }
 {
     match gone {
         None => Ok(0),
-        Some(passed) => tell_block(world, counts, sink, &passed),
+        Some(passed) => tell_block(world, counts, sink, passed),
     }
 }
 

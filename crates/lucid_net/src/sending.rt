@@ -61,12 +61,12 @@ fn waiting(
     world: &World,
     ran: &Ran,
     index: u32,
-    event: Event,
+    event: &Event,
     delay: u64,
     to: Target,
 ) -> Option<Pending>
-    ensures pending { result ≡ pending_out (net_of world.now) (run_of ran.now) index (Gen event delay to) }
-    ensures new { IfSome result (IsNew ran.now.tick ran.now.switch index event) }
+    ensures pending { result ≡ pending_out (net_of world.now) (run_of ran.now) index (Gen event.now delay to) }
+    ensures new { IfSome result (IsNew ran.now.tick ran.now.switch index event.now) }
 {
     let way = arrival_at(
         world,
@@ -83,7 +83,7 @@ fn waiting(
             index,
         },
         switch: way.switch,
-        event,
+        event: *event,
     })
 }
 
@@ -111,20 +111,20 @@ fn send_event(
     queue: &mut Queue,
     ran: &Ran,
     index: u32,
-    event: Event,
+    event: &Event,
     delay: u64,
     to: Target,
 ) -> Result<bool, Memory>
-    requires fits { IsTrue (event_fits world.now.core.now event) }
+    requires fits { IsTrue (event_fits world.now.core.now event.now) }
     requires kept { list_all (is_kept world.now.core.now ran.now.tick ran.now.switch index) queue.old ≡ true }
-    ensures waits { OnOk result (queue.new ≡ put_all (option_to_list (pending_out (net_of world.now) (run_of ran.now) index (Gen event delay to))) queue.old) }
-    ensures lost { IfOk result (λ lost. lost ≡ loses (net_of world.now) (run_of ran.now) (Gen event delay to)) }
+    ensures waits { OnOk result (queue.new ≡ put_all (option_to_list (pending_out (net_of world.now) (run_of ran.now) index (Gen event.now delay to))) queue.old) }
+    ensures lost { IfOk result (λ lost. lost ≡ loses (net_of world.now) (run_of ran.now) (Gen event.now delay to)) }
     ensures kept { OnOk result (list_all (is_kept world.now.core.now ran.now.tick ran.now.switch (index + 1)) queue.new ≡ true) }
-    ensures some { OnErr result (IsSome (pending_out (net_of world.now) (run_of ran.now) index (Gen event delay to))) }
+    ensures some { OnErr result (IsSome (pending_out (net_of world.now) (run_of ran.now) index (Gen event.now delay to))) }
 {
     match waiting(world, ran, index, event, delay, to) {
         Some(p) => {
-            wait(world.core, queue, ran, index, &event, p)?;
+            wait(world.core, queue, ran, index, event, p)?;
             Ok(false)
         }
         None => Ok(true),
@@ -146,8 +146,8 @@ fn send_out(
     ensures kept { OnOk result (list_all (is_kept world.now.core.now ran.now.tick ran.now.switch (index + 1)) queue.new ≡ true) }
     ensures some { OnErr result (IsSome (pending_out (net_of world.now) (run_of ran.now) index out.now)) }
 {
-    match *out {
-        Out::Gen { event, delay, to } => send_event(world, queue, ran, index, event, delay, to),
+    match out {
+        Out::Gen { event, delay, to } => send_event(world, queue, ran, index, event, *delay, *to),
         Out::Say { .. } => Ok(false),
     }
 }

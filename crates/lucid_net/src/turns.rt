@@ -1,5 +1,5 @@
 // The turns of switches: the first event that is ready enters, and runs whole.
-ghost use Rattle.std.specs.Prelude.{◌≡◌, ◌+◌, ◌*◌, ◌<◌, ◌≤◌, All, IfOk, IsTrue, OnOk, length};
+ghost use Rattle.std.specs.Prelude.{◌≡◌, ◌+◌, ◌*◌, ◌<◌, ◌≤◌, [], All, IsTrue, OnOk, length};
 ghost use Rattle.lucid_core.specs.Fits.{event_fits, out_fits};
 ghost use Rattle.lucid_net_log.specs.Log.{done_at, turn as turn_of, turns};
 ghost use Rattle.lucid_net_log.specs.Pieces.{untold};
@@ -14,30 +14,33 @@ use crate::sending::send;
 use crate::switches::Switches;
 use crate::world::{Ran, World};
 use lucid_base::{Event, Memory, Outs};
-use lucid_core::run_whole;
+use lucid_core::run_into;
 use lucid_io::Sink;
 use lucid_log::put_block;
 
-/// The event runs whole on the cells of the switch.
+/// The event runs whole on the cells of the switch, and what it sends out is put where nothing was.
 fn run(
     world: &World,
     now: &mut Switches,
     tick: u64,
     switch: u32,
     event: &Event,
-) -> Result<Outs, Memory>
-    requires { switch < length now.old.cells.items }
-    ensures outs { IfOk result (λ outs. outs ≡ (done_at (net_of world.now) tick switch (state_of now.old) event.now).outs) }
-    ensures fit { IfOk result (λ outs. All (λ out. IsTrue (out_fits world.now.core.now out)) outs) }
+    outs: &mut Outs,
+) -> Result<(), Memory>
+    requires there { switch < length now.old.cells.items }
+    requires empty { outs.old ≡ [] }
+    ensures outs { OnOk result (outs.new ≡ (done_at (net_of world.now) tick switch (state_of now.old) event.now).outs) }
+    ensures fit { OnOk result (All (λ out. IsTrue (out_fits world.now.core.now out)) outs.new) }
     ensures after { OnOk result (state_of now.new ≡ with_cells switch (state_of now.old) (done_at (net_of world.now) tick switch (state_of now.old) event.now).cells) }
 {
-    run_whole(
+    run_into(
         world.alloc,
         world.core,
         &mut now.cells[switch as usize],
         tick,
         switch,
         event,
+        outs,
     )
 }
 
@@ -58,7 +61,8 @@ fn enter<S: Sink>(
     ensures after { OnOk result (state_of now.new ≡ with_entered (net_of world.now) tick switch (state_of now.old) event.now) }
     ensures kept { OnOk result (IsKept world.now.core.now world.now.scene.now.switches tick (switch + 1) (state_of now.new)) }
 {
-    let outs = run(world, now, tick, switch, event)?;
+    let mut outs = Outs::new();
+    run(world, now, tick, switch, event, &mut outs)?;
     let ran = Ran {
         tick,
         switch,

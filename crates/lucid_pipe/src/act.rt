@@ -62,11 +62,11 @@ pub(crate) fn act(
             set_arg,
             to,
         } => {
-            let index = value(registers, *index);
+            let cell = cells.place(*array, value(registers, *index));
             let get_arg = value(registers, *get_arg);
             let set_arg = value(registers, *set_arg);
-            let stored = cells.get(*array, index);
-            cells.set(*array, index, set.apply_low(stored, set_arg).value);
+            let stored = cells.get(*array, cell);
+            cells.set(*array, cell, set.apply_low(stored, set_arg).value);
             if let Some(k) = to {
                 put(widths, registers, *k, get.apply_low(stored, get_arg).value);
             }

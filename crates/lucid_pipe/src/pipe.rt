@@ -1,5 +1,5 @@
 // A pipe, as its callers see it. How packets move in its memory is in moving.rt.
-ghost use Rattle.std.specs.Prelude.{◌≡◌, ℕ, List, ◌+◌, ◌↔◌, None, Err, length, is_some, IsSome, IsErr, IfOk, IfErr, OnOk, OnErr, IfSome};
+ghost use Rattle.std.specs.Prelude.{◌≡◌, ◌<◌, ℕ, List, ◌+◌, ◌↔◌, None, Err, length, is_some, IsSome, IsErr, IfOk, IfErr, OnOk, OnErr, IfSome};
 ghost use Rattle.std.specs.List.{AllByRecursion};
 ghost use Rattle.lucid_base.specs.Cells.{cell_at, row_of, zero_cells};
 ghost use Rattle.lucid_base.specs.declared.event.Event.{Event as EventParts};
@@ -119,6 +119,29 @@ impl<'a> Pipe<'a> {
             Err(stuck) => Err(stuck),
             Ok(None) => Ok(None),
             Ok(Some(number)) => Ok(Some(self.blocks.passed(number))),
+        }
+    }
+
+    /// The same of a slot that isn't the last, so that nothing leaves: what moves many packets asks for no room for one that left.
+    #[tactic(auto, using(crate::proofs::Moves::pipe_long))]
+    pub fn go_within(&mut self, k: usize) -> Result<(), Stuck>
+        requires { k + 1 < length self.old.slots }
+        ensures empty { (result ≡ Err stuck.Empty) ↔ (packet_at self.old k ≡ None) }
+        ensures ahead { (result ≡ Err stuck.Ahead) ↔ (IsSome (packet_at self.old k) × IsSome (packet_at self.old (k + 1))) }
+        ensures stuck { OnErr result (self.new ≡ self.old) }
+        ensures placed { self.new.placed ≡ self.old.placed }
+        ensures long { length self.new.slots ≡ length self.new.placed.stages }
+        ensures goes { OnOk result (IfSome (packet_at self.old k) (λ p. (self.new ≡ gone self.old k p) × (comes_out self.old k p ≡ None))) }
+    {
+        match go_on(
+            self.placed,
+            &mut self.cells,
+            &mut self.blocks,
+            &mut self.slots,
+            k,
+        ) {
+            Err(stuck) => Err(stuck),
+            Ok(_) => Ok(()),
         }
     }
 

@@ -9,7 +9,7 @@ ghost use Rattle.lucid_pipe.specs.Blocks.{machine, on_registers};
 ghost use Rattle.lucid_pipe.specs.InPlace.{run_number, run_rows, run_all_rows};
 
 use crate::act::act;
-use crate::read::held;
+use crate::read::register;
 use crate::sent::Sent;
 use lucid_base::{Cells, Items};
 use lucid_code::Literal;
@@ -81,7 +81,7 @@ fn all_hold(registers: &[u64], pattern: &[Literal]) -> bool
     ensures { result ≡ all_hold registers.now pattern.now }
 {
     for literal in pattern {
-        if (held(registers, literal.field) == literal.value) != literal.equal {
+        if (register(registers, literal.field) == literal.value) != literal.equal {
             return false;
         }
     }
