@@ -1,10 +1,11 @@
 # Writes a scenario for the generated program of tests/speed, always the same: as many events and steps as FACTOR (2, if not said) says.
 #
 #   awk -v kind=network [-v factor=FACTOR] -f workload.awk
+#   awk -v kind=stages [-v factor=FACTOR] -f workload.awk
 #   awk -v kind=drive [-v factor=FACTOR] -f workload.awk
 #
-# `network` has 30,000 events times FACTOR over 64 switches in 32 pairs, and `drive` 60,000 steps times FACTOR of one pipe. The numbers are
-# those of a Mersenne Twister of 32 bits, seeded by an array of one number. Since awk has no operations on bits, they go by a table.
+# `network` has 30,000 events times FACTOR over 64 switches in 32 pairs; `stages` has the switches and 48 events for each of them, whose
+# descendants keep all pipes full for 1,024 ticks times FACTOR; and `drive` has 60,000 steps times FACTOR of one pipe. The numbers are those of a Mersenne Twister of 32 bits, seeded by an array of one number. Since awk has no operations on bits, they go by a table.
 
 # The bits in which two words differ: a byte of each at a time.
 function differing(a, b,    a_high, b_high, a_low, b_low) {
@@ -77,15 +78,27 @@ function put_event(at, switch_number, last,    name, first) {
     printf "{\"at\": %d, \"switch\": %d, \"name\": \"e%d\", \"args\": [%d, %d]}%s", at, switch_number, name, first, below(1000), last ? "]" : ", "
 }
 
+# 64 switches in 32 pairs.
+function put_switches(stop,    k) {
+    printf "{\"switches\": 64, \"stop\": %d, \"links\": [", stop
+    for (k = 0; k < 64; k += 2) printf "[%d, %d, %d]%s", k, k + 1, 1 + k % 5, k < 62 ? ", " : "], \"events\": ["
+}
+
 function put_network(    k, stop, at) {
     seed(1)
     stop = 1024 * factor
-    printf "{\"switches\": 64, \"stop\": %d, \"links\": [", stop
-    for (k = 0; k < 64; k += 2) printf "[%d, %d, %d]%s", k, k + 1, 1 + k % 5, k < 62 ? ", " : "], \"events\": ["
+    put_switches(stop)
     for (k = 1; k <= 30000 * factor; k++) {
         at = below(stop)
         put_event(at, below(64), k == 30000 * factor)
     }
+    printf "}"
+}
+
+function put_stages(    at, k) {
+    seed(3)
+    put_switches(1024 * factor)
+    for (at = 0; at < 48; at++) for (k = 0; k < 64; k++) put_event(at, k, at == 47 && k == 63)
     printf "}"
 }
 
@@ -112,5 +125,6 @@ BEGIN {
     table[0] = 0
     for (a = 0; a < 256; a++) for (b = 0; b < 256; b++) if (a + b) table[a * 256 + b] = 2 * table[int(a / 2) * 256 + int(b / 2)] + (a + b) % 2
     if (kind == "network") put_network()
+    else if (kind == "stages") put_stages()
     else put_drive()
 }
