@@ -5,7 +5,8 @@
 #   awk -v kind=drive [-v factor=FACTOR] -f workload.awk
 #
 # `network` has 30,000 events times FACTOR over 64 switches in 32 pairs; `stages` has the switches and 48 events for each of them, whose
-# descendants keep all pipes full for 1,024 ticks times FACTOR; and `drive` has 60,000 steps times FACTOR of one pipe. The numbers are those of a Mersenne Twister of 32 bits, seeded by an array of one number. Since awk has no operations on bits, they go by a table.
+# descendants keep all pipes half full for 1,024 ticks times FACTOR; and `drive` has 60,000 steps times FACTOR of one pipe. The numbers are
+# those of a Mersenne Twister of 32 bits, seeded by an array of one number. Since awk has no operations on bits, they go by a table.
 
 # The bits in which two words differ: a byte of each at a time.
 function differing(a, b,    a_high, b_high, a_low, b_low) {
