@@ -142,11 +142,11 @@ module _ (placed : PlacedParts) (old : PipeParts) (same : old.placed ≡ placed)
   law : MovesAsRows old.placed
   law = subst MovesAsRows (sym same) given
 
-  pub went : (new : PipeParts) (out : Option Passed) (k : ℕ) (r : Result (Option Passed) Stuck) → r ≡ Ok out → packet_at old (k + 1) ≡ None → (r ≡ Err Empty ↔ (packet_at old k ≡ None)) →
+  pub went : {A : Type 0} (new : PipeParts) (out : Option Passed) (k : ℕ) (r : Result A Stuck) (x : A) → r ≡ Ok x → packet_at old (k + 1) ≡ None → (r ≡ Err Empty ↔ (packet_at old k ≡ None)) →
       IfSome (packet_at old k) (λ p. new ≡ gone old k p) → IfSome (packet_at old k) (λ p. out ≡ comes_out old k p) →
       (rows_in new ≡ (goes (step_of old.placed) k (rows_in old)).0) × (gone_run out ≡ option_map run_of_packet (goes (step_of old.placed) k (rows_in old)).1)
   unfolding rows_in step_of
-  went new out k r is free empty goes_on leaves = by (packet_at old k) refl goes_on leaves
+  went {A} new out k r x is free empty goes_on leaves = by (packet_at old k) refl goes_on leaves
     where
       by : (o : Option Packet) → packet_at old k ≡ o → IfSome o (λ p. new ≡ gone old k p) → IfSome o (λ p. out ≡ comes_out old k p) →
           (rows_in new ≡ (goes (step_of old.placed) k (rows_in old)).0) × (gone_run out ≡ option_map run_of_packet (goes (step_of old.placed) k (rows_in old)).1)

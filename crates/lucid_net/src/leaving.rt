@@ -157,7 +157,8 @@ pub(crate) fn pipe_turn<S: Sink>(
     ensures writes { Writes S.written S.faults sink.old sink.new (text_by (net_of world.now) (left pipe.old.placed (rows_in pipe.old))) result }
     ensures memory { result ≡ Err Memory → made_by (net_of world.now) (left pipe.old.placed (rows_in pipe.old)) ≢ [] }
 {
-    let gone = move_on(placed, pipe);
+    let mut gone = None;
+    move_on(placed, pipe, &mut gone);
     match leave_any(world, queue, counts, sink, &gone) {
         Ok(()) => {
             let_in(placed, queue, pipe, counts, tick, switch);

@@ -32,20 +32,20 @@ fn stages(placed: &Placed, pipe: &Pipe<'_>) -> usize
     placed.stages().len()
 }
 
-/// What is in slot k, if anything, moves on. The next slot is free.
-fn move_at(placed: &Placed, pipe: &mut Pipe<'_>, k: usize) -> Option<Passed>
+/// What is in slot k, if anything, moves on, and `gone` is what leaves. The next slot is free.
+fn move_at(placed: &Placed, pipe: &mut Pipe<'_>, k: usize, gone: &mut Option<Passed>)
     requires same { pipe.old.placed ≡ placed.now }
     requires free { packet_at pipe.old (k + 1) ≡ None }
     ensures placed { pipe.new.placed ≡ pipe.old.placed }
     ensures long { length pipe.new.slots ≡ length pipe.new.placed.stages }
     ensures moved { rows_in pipe.new ≡ (goes (step_of pipe.old.placed) k (rows_in pipe.old)).0 }
-    ensures left { gone_run result ≡ option_map run_of_packet (goes (step_of pipe.old.placed) k (rows_in pipe.old)).1 }
+    ensures left { gone_run gone.new ≡ option_map run_of_packet (goes (step_of pipe.old.placed) k (rows_in pipe.old)).1 }
 {
     moves_as_rows(placed);
     pipe.places_fall();
-    match pipe.go(k) {
-        Ok(out) => out,
-        Err(_) => None,
+    match pipe.go_into(k, gone) {
+        Ok(_) => {}
+        Err(_) => *gone = None,
     }
 }
 
@@ -70,21 +70,20 @@ fn move_within(placed: &Placed, pipe: &mut Pipe<'_>, k: usize)
     }
 }
 
-/// From the last stage to the first, each packet moves by one.
-pub(crate) fn move_on(placed: &Placed, pipe: &mut Pipe<'_>) -> Option<Passed>
+/// From the last stage to the first, each packet moves by one, and `gone` is what leaves.
+pub(crate) fn move_on(placed: &Placed, pipe: &mut Pipe<'_>, gone: &mut Option<Passed>)
     requires same { pipe.old.placed ≡ placed.now }
     requires some { 0 < length (rows_in pipe.old) }
     ensures placed { pipe.new.placed ≡ pipe.old.placed }
     ensures long { length pipe.new.slots ≡ length pipe.new.placed.stages }
     ensures moved { rows_in pipe.new ≡ (advance (step_of pipe.old.placed) None (rows_in pipe.old)).0 }
-    ensures left { gone_run result ≡ option_map run_of_packet (advance (step_of pipe.old.placed) None (rows_in pipe.old)).1 }
+    ensures left { gone_run gone.new ≡ option_map run_of_packet (advance (step_of pipe.old.placed) None (rows_in pipe.old)).1 }
 {
     let stages = stages(placed, pipe);
-    let out = move_at(placed, pipe, stages - 1);
+    move_at(placed, pipe, stages - 1, gone);
     for i in 1..stages {
         move_within(placed, pipe, stages - 1 - i);
     }
-    out
 }
 
 /// An event enters a pipe whose first slot is free.

@@ -143,7 +143,8 @@ fn drain_pipe<S: Sink>(
     ensures all { OnOk result (PutsAll S.written S.faults sink.old sink.new (text_by (net_of world.now) (left pipe.old.placed (rows_in pipe.old)))) }
     ensures part { OnErr result (PutsPart S.written S.faults sink.old sink.new (text_by (net_of world.now) (left pipe.old.placed (rows_in pipe.old)))) }
 {
-    let gone = move_on(placed, pipe);
+    let mut gone = None;
+    move_on(placed, pipe, &mut gone);
     is_of(placed, pipe);
     tell_any(world, counts, sink, &gone)
 }

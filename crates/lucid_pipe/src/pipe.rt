@@ -122,6 +122,38 @@ impl<'a> Pipe<'a> {
         }
     }
 
+    /// The same, but what leaves is put into a place that the caller has, and None where nothing leaves: what hands it on by reference then moves
+    /// it once. After an error the place holds what it held.
+    #[tactic(auto, using(crate::proofs::Moves::pipe_long))]
+    pub fn go_into(&mut self, k: usize, out: &mut Option<Passed>) -> Result<(), Stuck>
+        ensures empty { (result ≡ Err stuck.Empty) ↔ (packet_at self.old k ≡ None) }
+        ensures ahead { (result ≡ Err stuck.Ahead) ↔ (IsSome (packet_at self.old k) × IsSome (packet_at self.old (k + 1))) }
+        ensures stuck { OnErr result (self.new ≡ self.old) }
+        ensures kept { OnErr result (out.new ≡ out.old) }
+        ensures placed { self.new.placed ≡ self.old.placed }
+        ensures long { length self.new.slots ≡ length self.new.placed.stages }
+        ensures goes { OnOk result (IfSome (packet_at self.old k) (λ p. self.new ≡ gone self.old k p)) }
+        ensures out { OnOk result (IfSome (packet_at self.old k) (λ p. out.new ≡ comes_out self.old k p)) }
+    {
+        match go_on(
+            self.placed,
+            &mut self.cells,
+            &mut self.blocks,
+            &mut self.slots,
+            k,
+        ) {
+            Err(stuck) => Err(stuck),
+            Ok(None) => {
+                *out = None;
+                Ok(())
+            }
+            Ok(Some(number)) => {
+                *out = Some(self.blocks.passed(number));
+                Ok(())
+            }
+        }
+    }
+
     /// The same of a slot that isn't the last, so that nothing leaves: what moves many packets asks for no room for one that left.
     #[tactic(auto, using(crate::proofs::Moves::pipe_long))]
     pub fn go_within(&mut self, k: usize) -> Result<(), Stuck>
