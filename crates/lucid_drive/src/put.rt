@@ -11,19 +11,8 @@ use crate::happened::Happened;
 use lucid_base::ArrayDef;
 use lucid_core::Core;
 use lucid_io::{Sink, WriteFault};
-use lucid_log::{Piece, put_block, put_pieces};
+use lucid_log::{Piece, put_block, put_numbered, put_pieces};
 use lucid_pipe::{Passed, Stuck};
-
-/// Writes a word and a number.
-fn put_line<S: Sink>(sink: &mut S, word: &[u8], n: u64) -> Result<(), WriteFault>
-    ensures all { OnOk result (PutsAll S.written S.faults sink.old sink.new (line word.now n)) }
-    ensures part { OnErr result (PutsPart S.written S.faults sink.old sink.new (line word.now n)) }
-{
-    put_pieces(
-        sink,
-        &[Piece::Text(word), Piece::Number(n), Piece::Text(b"\n")],
-    )
-}
 
 /// Writes the block of what left.
 fn put_passed<S: Sink>(sink: &mut S, core: &Core, passed: &Passed) -> Result<(), WriteFault>
@@ -48,7 +37,7 @@ fn put_left<S: Sink>(sink: &mut S, core: &Core, k: usize, passed: &Passed) -> Re
     ensures all { OnOk result (PutsAll S.written S.faults sink.old sink.new (line (codes "go ") k ++ passed_text core.now passed.entry.now)) }
     ensures part { OnErr result (PutsPart S.written S.faults sink.old sink.new (line (codes "go ") k ++ passed_text core.now passed.entry.now)) }
 {
-    put_line(sink, b"go ", k as u64)?;
+    put_numbered(sink, b"go ", k as u64)?;
     put_passed(sink, core, passed)
 }
 
@@ -63,9 +52,9 @@ pub(crate) fn put_moved<S: Sink>(
     ensures part { OnErr result (PutsPart S.written S.faults sink.old sink.new (happened_text core.now (happened_within k moved))) }
 {
     match moved {
-        Ok(()) => put_line(sink, b"go ", k as u64),
-        Err(Stuck::Empty) => put_line(sink, b"empty ", k as u64),
-        Err(Stuck::Ahead) => put_line(sink, b"ahead ", k as u64),
+        Ok(()) => put_numbered(sink, b"go ", k as u64),
+        Err(Stuck::Empty) => put_numbered(sink, b"empty ", k as u64),
+        Err(Stuck::Ahead) => put_numbered(sink, b"ahead ", k as u64),
     }
 }
 
@@ -83,10 +72,10 @@ pub(crate) fn put_happened<S: Sink>(
     match happened {
         Happened::Nothing => put_pieces(sink, &[Piece::Text(b"none\n")]),
         Happened::Busy => put_pieces(sink, &[Piece::Text(b"busy\n")]),
-        Happened::Entered(n) => put_line(sink, b"enter ", *n),
-        Happened::Empty(k) => put_line(sink, b"empty ", *k as u64),
-        Happened::Ahead(k) => put_line(sink, b"ahead ", *k as u64),
-        Happened::Went(k) => put_line(sink, b"go ", *k as u64),
+        Happened::Entered(n) => put_numbered(sink, b"enter ", *n),
+        Happened::Empty(k) => put_numbered(sink, b"empty ", *k as u64),
+        Happened::Ahead(k) => put_numbered(sink, b"ahead ", *k as u64),
+        Happened::Went(k) => put_numbered(sink, b"go ", *k as u64),
         Happened::Left(k, passed) => put_left(sink, core, *k, passed),
         Happened::Looked(array, cell, value) => put_looked(sink, core, *array, *cell, *value),
     }

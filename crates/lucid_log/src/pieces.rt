@@ -1,13 +1,16 @@
 // Texts in pieces, and the numbers in them. Numbers are printed on the stack.
-ghost use Rattle.std.specs.Prelude.{◌≡◌, ◌<◌, [], ◌++◌, decimal, OnOk, OnErr};
+ghost use Rattle.std.specs.Prelude.{◌≡◌, ◌<◌, [], ◌++◌, codes, decimal, OnOk, OnErr};
 ghost use Rattle.lucid_io.specs.Puts.{PutsAll, PutsPart, Leaves};
 ghost use Rattle.lucid_log.specs.Pieces.{numbers_text, hex_digit as digit_of, hex_text, piece_text, text_of};
 
 use itoa::Buffer;
 use lucid_io::{ROOM, Room, Sink, WriteFault, hold, release};
 
-// How many bytes a room has for a short text, as most lines are.
+// How many bytes a room has for a short text, as most blocks are.
 pub(crate) const SHORT: usize = 512;
+
+// How many bytes a room has for a line of few numbers. All of a room is zeroed, which takes longer than such a line.
+const LINE: usize = 64;
 
 /// A piece of a text.
 #[derive(Clone, Copy, Debug)]
@@ -27,11 +30,34 @@ pub fn put_pieces<S: Sink>(sink: &mut S, pieces: &[Piece]) -> Result<(), WriteFa
     ensures all { OnOk result (PutsAll S.written S.faults sink.old sink.new (text_of pieces.now)) }
     ensures part { OnErr result (PutsPart S.written S.faults sink.old sink.new (text_of pieces.now)) }
 {
-    if most_of(pieces) <= SHORT {
+    let most = most_of(pieces);
+    if most <= LINE {
+        put_line(sink, pieces)
+    } else if most <= SHORT {
         put_short(sink, pieces)
     } else {
         put_long(sink, pieces)
     }
+}
+
+/// Writes a word, a number and a line feed: a short line, and most lines of a drive are such. It costs less than by pieces.
+pub fn put_numbered<S: Sink>(sink: &mut S, word: &[u8], n: u64) -> Result<(), WriteFault>
+    ensures all { OnOk result (PutsAll S.written S.faults sink.old sink.new (word.now ++ decimal n ++ codes "\n")) }
+    ensures part { OnErr result (PutsPart S.written S.faults sink.old sink.new (word.now ++ decimal n ++ codes "\n")) }
+{
+    let mut room = Room::<LINE>::new();
+    hold(sink, &mut room, word)?;
+    hold_number(sink, &mut room, n)?;
+    hold(sink, &mut room, b"\n")?;
+    release(sink, &mut room)
+}
+
+fn put_line<S: Sink>(sink: &mut S, pieces: &[Piece]) -> Result<(), WriteFault>
+    ensures all { OnOk result (PutsAll S.written S.faults sink.old sink.new (text_of pieces.now)) }
+    ensures part { OnErr result (PutsPart S.written S.faults sink.old sink.new (text_of pieces.now)) }
+{
+    let mut room = Room::<LINE>::new();
+    put_through(sink, &mut room, pieces)
 }
 
 fn put_short<S: Sink>(sink: &mut S, pieces: &[Piece]) -> Result<(), WriteFault>
