@@ -17,6 +17,7 @@ mod laws;
 mod operate;
 mod place;
 mod program;
+mod rooms;
 mod run;
 mod whole;
 mod widths;
@@ -31,5 +32,6 @@ pub use laws::{
 };
 pub use lucid_base::{ArrayDef, ArrayName, Cells};
 pub use program::{Core, Flat};
+pub use rooms::Rooms;
 pub use whole::{run_into, run_whole};
 pub use widths::width_of;

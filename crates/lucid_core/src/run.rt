@@ -9,6 +9,7 @@ ghost use Rattle.lucid_core.specs.Values.{memop as memop_of, nothing as no_value
 use crate::Cells;
 use crate::draft::Draft;
 use crate::operate::nothing;
+use crate::rooms::Rooms;
 use lucid_base::{Bits, Items, MemAlu, Memory, Outs};
 use std::alloc::Global;
 use std::marker::Model;
@@ -49,33 +50,39 @@ impl Model for Run {
 }
 
 impl Run {
-    /// No outs yet, and no answer. The list of writes, which is empty, may have room already.
-    pub fn begin(alloc: Global, cells: Cells, locals: Items<Bits>, writes: Vec<Write>) -> Run
-        requires { writes.items ≡ [] }
+    /// No outs yet, and no answer. The lists of writes and of outs, which are empty, may have room already.
+    pub fn begin(cells: Cells, locals: Items<Bits>, writes: Vec<Write>, outs: Vec<Draft>) -> Run
+        requires writes { writes.items ≡ [] }
+        requires outs { outs.items ≡ [] }
         ensures state { result.state ≡ record { cells = cells; outs = []; locals = locals; answer = no_value } }
         ensures start { result.start ≡ cells }
     {
         Run {
             cells,
             writes,
-            outs: Vec::new(alloc),
+            outs,
             locals,
             answer: nothing(),
         }
     }
 
-    /// The cells as they are now.
-    pub fn finish(self) -> Cells
-        ensures { result ≡ self.state.cells }
+    /// The cells as they are now, and the lists for the next run.
+    pub fn finish(self) -> (Cells, Rooms)
+        ensures { result.0 ≡ self.state.cells }
     {
         let Run {
             cells,
-            writes: _,
-            outs: _,
-            locals: _,
+            writes,
+            outs,
+            locals,
             answer: _,
         } = self;
-        cells
+        let rooms = Rooms {
+            locals,
+            writes,
+            outs,
+        };
+        (cells, rooms)
     }
 
     /// Puts what was sent out, which in a valid core is at most 8 outs of at most 8 numbers, where nothing was.

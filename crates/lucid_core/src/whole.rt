@@ -11,14 +11,12 @@ use crate::depth::STACK;
 use crate::interpret::{effects, with_zeros};
 use crate::laws::{cells_stay_fit, outs_fit};
 use crate::place::{Moment, Place};
+use crate::rooms::Rooms;
 use crate::run::Run;
 use crate::{Cells, Core, HandlerDef, Stmt};
 use lucid_base::{Bits, Event, Items, Memory, Outs, Width};
 use std::alloc::Global;
 use std::mem;
-
-/// For how many writes of cells a run has room from the start.
-const WRITES: usize = 8;
 
 /// Runs the handler of an event that enters switch `me` at tick `now`, and gives what it sends out.
 /// An event without a handler changes nothing. What it sends out fits the program, and so do the cells after it, where they did before.
@@ -37,13 +35,14 @@ pub fn run_whole(
     ensures unchanged { OnErr result (cells.new ≡ cells.old) }
     ensures fit { IsTrue (cells_fit core.now cells.old) → IsTrue (cells_fit core.now cells.new) }
 {
+    let mut rooms = Rooms::new(alloc);
     let mut outs = Outs::new();
-    run_into(alloc, core, cells, now, me, event, &mut outs)?;
+    run_into(alloc, core, cells, now, me, event, &mut rooms, &mut outs)?;
     Ok(outs)
 }
 
 /// The same where what is sent out has its place, in which there is nothing: it is as large as all else that a run hands on, and so isn't
-/// moved.
+/// moved. The lists that the run needs are taken from `rooms` and put back there, so that many runs ask for their memory once.
 pub fn run_into(
     alloc: Global,
     core: &Core,
@@ -51,6 +50,7 @@ pub fn run_into(
     now: u64,
     me: u32,
     event: &Event,
+    rooms: &mut Rooms,
     outs: &mut Outs,
 ) -> Result<(), Memory>
     requires empty { outs.old ≡ [] }
@@ -72,6 +72,7 @@ pub fn run_into(
                 Moment { now, me },
                 event.args.as_slice(),
                 handler,
+                rooms,
                 outs,
             )?;
             Ok(())
@@ -96,6 +97,7 @@ fn handle(
     moment: Moment,
     args: &[u64],
     handler: &HandlerDef,
+    rooms: &mut Rooms,
     outs: &mut Outs,
 ) -> Result<(), Memory>
     requires empty { outs.old ≡ [] }
@@ -106,13 +108,17 @@ fn handle(
     ensures unchanged { OnErr result (cells.new ≡ cells.old) }
 {
     let widths = handler.locals.as_slice();
-    let locals = with_zeros(taken(alloc, widths, args)?, widths)?;
-    let writes = Vec::with_capacity(alloc, WRITES)?;
+    let Rooms {
+        locals,
+        writes,
+        outs: drafts,
+    } = mem::replace(rooms, Rooms::new(alloc)).emptied();
+    let locals = with_zeros(taken(locals, widths, args)?, widths)?;
     let mut run = Run::begin(
-        alloc,
         mem::replace(cells, Cells::none(alloc)),
         locals,
         writes,
+        drafts,
     );
     let none: [u32; 0] = [];
     let place = Place {
@@ -123,7 +129,9 @@ fn handle(
     };
     match run_body(&place, &mut run, handler.body.as_slice(), outs) {
         Ok(()) => {
-            *cells = run.finish();
+            let (after, used) = run.finish();
+            *cells = after;
+            *rooms = used;
             Ok(())
         }
         Err(error) => {
@@ -147,11 +155,12 @@ fn run_body(place: &Place, run: &mut Run, body: &[Stmt], outs: &mut Outs) -> Res
     Ok(())
 }
 
-/// Arguments as values of these widths, with room for a local of each.
-fn taken(alloc: Global, widths: &[Width], args: &[u64]) -> Result<Items<Bits>, Memory>
+/// Arguments as values of these widths, in a list that is empty.
+fn taken(list: Items<Bits>, widths: &[Width], args: &[u64]) -> Result<Items<Bits>, Memory>
+    requires { list ≡ [] }
     ensures { IfOk result (λ values. values ≡ taken_at widths.now args.now) }
 {
-    let mut values = Items::from_vec(Vec::with_capacity(alloc, widths.len())?);
+    let mut values = list;
     for (width, arg) in widths.iter().zip(args) {
         values.push(Bits::low(*width, *arg))?;
     }

@@ -27,7 +27,7 @@ use crate::switches::Switches;
 use crate::world::World;
 use lucid_base::Memory;
 use lucid_conf::{Limits, Scene};
-use lucid_core::{Core, outs_fit};
+use lucid_core::{Core, Rooms, outs_fit};
 use lucid_io::Sink;
 use lucid_net_pass::pass_does_as;
 use lucid_pipe::{Pipe, Watch};
@@ -88,6 +88,7 @@ impl<'a> Net<'a> {
                 queue,
                 entered: 0,
                 lost: 0,
+                rooms: Rooms::new(alloc),
             }),
             at: 0,
             failed: false,

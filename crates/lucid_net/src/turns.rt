@@ -40,6 +40,7 @@ fn run(
         tick,
         switch,
         event,
+        &mut now.rooms,
         outs,
     )
 }
