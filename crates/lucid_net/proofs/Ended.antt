@@ -1,37 +1,34 @@
 -- The end of a network with pipes: their cells, and what they are at the start.
-use Rattle.std.proofs.Common.{◌≡◌, ℕ, zero, suc, ◌+◌, ◌-◌, ◌*◌, ◌<◌, ◌≤◌, List, [], ◌∷◌, ◌++◌, length, get_or, map, drop, replicate, Option, None, Some, true, refl, sym, ◌∙◌, ap, subst, append_assoc, arith}
+use Rattle.std.proofs.Common.{◌≡◌, ℕ, zero, suc, ◌+◌, ◌-◌, ◌<◌, ◌≤◌, List, [], ◌∷◌, ◌++◌, length, get_or, map, drop, replicate, true, refl, sym, ◌∙◌, ap, subst, arith}
 use Rattle.std.proofs.lemmas.Bool.Decides.{nat_tests}
 use Rattle.std.proofs.lemmas.List.{length-map}
 use Rattle.std.specs.List.{AllByRecursion, list_all}
 use Rattle.lucid_base.specs.declared.array.ArrayDef.{ArrayDef}
 use Rattle.lucid_core.specs.Parts.{CoreParts}
-use Rattle.lucid_io.proofs.Leaves.{Leaves-after, Leaves-whole, PutsAll-last, PutsPart-last}
-use Rattle.lucid_io.specs.Puts.{Leaves, PutsAll, PutsPart}
 use Rattle.lucid_log.specs.Cells.{cells_text}
 use Rattle.lucid_log.specs.Ending.{ending_text}
 use Rattle.lucid_net_flight.proofs.Draining.{drained}
 use Rattle.lucid_net_flight.proofs.Flying.{flying_start}
 use Rattle.lucid_net_flight.proofs.Whole.{whole_at}
 use Rattle.lucid_net_flight.specs.Fitting.{fits}
-use Rattle.lucid_net_flight.specs.Flying.{Flying, IsFlying}
+use Rattle.lucid_net_flight.specs.Flying.{IsFlying}
 use Rattle.lucid_net_flight.specs.Runs.{late_text}
 use Rattle.lucid_net_flight.specs.Whole.{IsWhole}
-use Rattle.lucid_net_log.specs.Log.{all_cells, end_text, start, ticks}
+use Rattle.lucid_net_log.specs.Log.{all_cells, start, ticks}
 use Rattle.lucid_net_log.specs.Pieces.{pieces}
 use Rattle.lucid_net_log.specs.Ways.{Network}
 use Rattle.lucid_net_pass.specs.Does.{IsGood}
-use Rattle.lucid_net_pass.specs.Rows.{Cells, Rows, cells_of, first_cells, rows_in}
+use Rattle.lucid_net_pass.specs.Rows.{Cells, Rows, cells_of, rows_in}
 use Rattle.lucid_net_pass.specs.Stages.{stages_of}
 use Rattle.lucid_pipe.specs.Packets.{Packet}
 use Rattle.lucid_pipe.specs.Pipe.{PipeParts, empty_pipe as new_pipe}
-use Rattle.lucid_pipe_stream.specs.Rows.{Row, empty_pipe, row}
+use Rattle.lucid_pipe_stream.specs.Rows.{Row, empty_pipe}
 use Rattle.lucid_queue.specs.declared.pending.Pending.{Pending}
 use Rattle.lucid_tables.specs.Placed.{PlacedParts}
 use Rattle.lucid_net.specs.Kept.{is_kept}
 use Rattle.lucid_net.specs.Pipes.{IsDrained, IsPiped, IsReady, Piped, flying_of, kept_from}
 use Rattle.lucid_net.specs.Rows.{IsOf, held}
 use Rattle.lucid_net.specs.Seen.{last_text}
-use Rattle.lucid_net.proofs.Drained.{drained_within}
 use Rattle.lucid_net.proofs.Piping.{all_get, map_get}
 use Rattle.lucid_net.proofs.Running.{all_cells-next, all_cells-none}
 use Rattle.lucid_net.proofs.Went.{empty_of, rows_empty}

@@ -1,5 +1,5 @@
 -- A pipe between two ticks, by what the network whose events run whole does.
-use Rattle.std.proofs.Common.{◌≡◌, ℕ, zero, suc, ◌+◌, ◌-◌, ◌<◌, ◌≤◌, ◌⊎◌, inl, inr, List, [], ◌∷◌, length, get_or, map, Option, None, Some, option_map, refl, sym, ◌∙◌, ap, subst, arith}
+use Rattle.std.proofs.Common.{◌≡◌, ℕ, zero, suc, ◌-◌, ◌<◌, ◌≤◌, ◌⊎◌, inl, inr, List, [], ◌∷◌, length, get_or, map, Option, None, Some, option_map, refl, sym, ◌∙◌, ap, subst, arith}
 use Rattle.std.proofs.lemmas.Bool.{cases_lt}
 use Rattle.std.proofs.lemmas.List.FromFn.{get_or-map-range_with_len, length-map-range_with_len}
 use Rattle.std.specs.Option.{option_map_or}
@@ -15,7 +15,7 @@ use Rattle.lucid_net_flight.specs.Whole.{IsWhole}
 use Rattle.lucid_net_log.specs.Log.{ticks}
 use Rattle.lucid_net_log.specs.Ways.{Network, Run}
 use Rattle.lucid_net_pass.specs.Does.{IsGood}
-use Rattle.lucid_net_pass.specs.Rows.{Cells, Rows, cells_of, first_cells, rows_in, step_of, with_rows}
+use Rattle.lucid_net_pass.specs.Rows.{Cells, Rows, cells_of, first_cells, rows_in, step_of}
 use Rattle.lucid_net_pass.specs.Stages.{stages_of}
 use Rattle.lucid_pipe.specs.Packets.{Packet}
 use Rattle.lucid_pipe.specs.Pipe.{PipeParts}

@@ -1,5 +1,5 @@
 -- What leaves a pipe, and what comes in.
-use Rattle.std.proofs.Common.{◌≡◌, ℕ, ◌+◌, ◌-◌, ◌*◌, ◌<◌, ◌≤◌, List, [], ◌∷◌, length, Option, None, Some, IfSome, Bool, true, refl, sym, ◌∙◌, ap, subst, slice_get}
+use Rattle.std.proofs.Common.{◌≡◌, ◌+◌, List, length, Option, None, Some, IfSome, Bool, true, sym, ◌∙◌, ap, subst}
 use Rattle.std.specs.List.{list_all}
 use Rattle.lucid_core.specs.Parts.{CoreParts}
 use Rattle.lucid_net_log.proofs.Passing.{without_passes}

@@ -1,10 +1,10 @@
 -- The loops over switches with pipes.
-use Rattle.std.proofs.Common.{◌≡◌, ℕ, ◌+◌, ◌-◌, ◌<◌, ◌≤◌, List, [], ◌++◌, Option, refl, sym, ◌∙◌, ap, subst, arith}
-use Rattle.lucid_io.proofs.Leaves.{Leaves-after, Leaves-nothing, Leaves-whole}
+use Rattle.std.proofs.Common.{◌≡◌, ℕ, ◌+◌, ◌-◌, ◌<◌, ◌≤◌, List, Option, ◌∙◌, subst, arith}
+use Rattle.lucid_io.proofs.Leaves.{Leaves-nothing, Leaves-whole}
 use Rattle.lucid_io.specs.Puts.{Leaves, PutsAll}
 use Rattle.lucid_net_flight.proofs.Texts.{late_turns}
 use Rattle.lucid_net_flight.specs.Runs.{late_text, left_text}
-use Rattle.lucid_net_log.proofs.Telling.{pieces-all, pieces-next, pieces-none}
+use Rattle.lucid_net_log.proofs.Telling.{pieces-all, pieces-none}
 use Rattle.lucid_net_log.specs.Pieces.{pieces}
 use Rattle.lucid_net_log.specs.Ways.{Network}
 use Rattle.lucid_tables.specs.Placed.{PlacedParts}

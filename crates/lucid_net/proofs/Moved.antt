@@ -1,8 +1,8 @@
 -- Packets of a pipe that move one after another.
-use Rattle.std.proofs.Common.{◌≡◌, ℕ, ◌+◌, ◌-◌, ◌<◌, ◌≤◌, List, Option, None, length, refl, sym, ◌∙◌, ap, subst, arith}
+use Rattle.std.proofs.Common.{◌≡◌, ℕ, ◌+◌, ◌-◌, ◌<◌, ◌≤◌, Option, None, length, refl, sym, ◌∙◌, ap, subst, arith}
 use Rattle.std.specs.Option.{option_map}
 use Rattle.lucid_net_log.specs.Ways.{Run}
-use Rattle.lucid_net_pass.specs.Rows.{Cells, Rows, rows_in, step_of}
+use Rattle.lucid_net_pass.specs.Rows.{Rows, rows_in, step_of}
 use Rattle.lucid_net_pass.specs.Stages.{run_of_packet}
 use Rattle.lucid_pipe.specs.Packets.{Packet}
 use Rattle.lucid_pipe.specs.Pipe.{PipeParts, packet_at}

@@ -1,25 +1,22 @@
 -- The turn of a switch with a pipe, by what the network whose events run whole does.
-use Rattle.std.proofs.Common.{◌≡◌, ◌≢◌, ℕ, zero, suc, ◌+◌, ◌-◌, ◌*◌, ◌^◌, ◌<◌, ◌≤◌, ◌⊎◌, inl, inr, List, [], ◌∷◌, length, get_or, set, map, Option, None, Some, IfSome, Result, Ok, Err, OnOk, Bool, true, false, if◌then◌else◌, nat_lt, refl, sym, ◌∙◌, ap, subst, add-one, option_map, arith}
+use Rattle.std.proofs.Common.{◌≡◌, ℕ, zero, suc, ◌+◌, ◌-◌, ◌*◌, ◌^◌, ◌<◌, ◌≤◌, ◌⊎◌, inl, inr, List, [], ◌∷◌, length, get_or, set, map, Option, None, Some, IfSome, Result, Ok, Err, OnOk, true, refl, sym, ◌∙◌, ap, subst, add-one, arith}
 use Rattle.std.proofs.lemmas.Bool.{cases_lt}
 use Rattle.std.proofs.lemmas.Bool.Decides.{nat_tests}
 use Rattle.std.proofs.lemmas.List.{length-map}
 use Rattle.std.specs.List.{AllByRecursion, find, list_all}
 use Rattle.lucid_code.specs.Inputs.{IsInput}
-use Rattle.lucid_core.specs.Parts.{CoreParts}
 use Rattle.lucid_net_flight.proofs.Behind.{stays_behind}
 use Rattle.lucid_net_flight.proofs.Bounds.{most_entered, most_lost}
 use Rattle.lucid_net_flight.proofs.Fitting.{all_fit}
 use Rattle.lucid_net_flight.proofs.Flying.{flying_next, keeps_flying, leaves_run, leaving_early}
 use Rattle.lucid_net_flight.proofs.Leavers.{Entered, leaving_run, picture_long}
 use Rattle.lucid_net_flight.proofs.Whole.{clock_self, clock_start}
-use Rattle.lucid_net_flight.specs.Behind.{IsBehindBy, TurnBehind}
+use Rattle.lucid_net_flight.specs.Behind.{TurnBehind}
 use Rattle.lucid_net_flight.specs.Fitting.{fits}
-use Rattle.lucid_net_flight.specs.Flying.{Flying, IsFlying, IsSound, flying_turn, one_if, packet_for}
-use Rattle.lucid_net_flight.specs.Runs.{leaving, losses_by, made_by, runs}
+use Rattle.lucid_net_flight.specs.Flying.{Flying, IsFlying, flying_turn, one_if, packet_for}
+use Rattle.lucid_net_flight.specs.Runs.{leaving, losses_by, made_by}
 use Rattle.lucid_net_flight.specs.Stages.{fed}
-use Rattle.lucid_net_flight.specs.Whole.{clock}
 use Rattle.lucid_net_log.proofs.Passing.{without_passes}
-use Rattle.lucid_net_log.specs.Laws.{nth}
 use Rattle.lucid_net_log.specs.Log.{put_all, ticks, turns}
 use Rattle.lucid_net_log.specs.Ways.{Network, Run}
 use Rattle.lucid_net_pass.specs.Does.{IsGood}
@@ -28,7 +25,6 @@ use Rattle.lucid_net_pass.specs.Stages.{stages_of}
 use Rattle.lucid_pipe.specs.Packets.{Packet}
 use Rattle.lucid_pipe.specs.Pipe.{PipeParts}
 use Rattle.lucid_pipe_stream.specs.Moves.{advance, entered_by}
-use Rattle.lucid_pipe_stream.specs.Rows.{Row}
 use Rattle.lucid_pipe_stream.specs.Stream.{picture}
 use Rattle.lucid_queue.specs.Waiting.{is_ready, without_first}
 use Rattle.lucid_queue.specs.declared.pending.Pending.{Pending}

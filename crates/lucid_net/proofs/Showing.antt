@@ -1,5 +1,5 @@
 -- Pipes are shown, one after another.
-use Rattle.std.proofs.Common.{◌≡◌, ℕ, zero, suc, ◌+◌, ◌*◌, ◌-◌, ◌<◌, ◌≤◌, List, [], ◌∷◌, ◌++◌, Option, None, Some, Bool, true, false, is_some, length, get_or, drop, map, if◌then◌else◌, refl, sym, ◌∙◌, ap, subst, append_assoc, append-nil, drop-cons, drop_of_length-le, add-one, arith}
+use Rattle.std.proofs.Common.{◌≡◌, ℕ, zero, suc, ◌+◌, ◌<◌, ◌≤◌, List, [], ◌∷◌, ◌++◌, Option, None, Some, Bool, is_some, length, get_or, drop, if◌then◌else◌, refl, sym, ◌∙◌, ap, subst, append_assoc, append-nil, drop-cons, drop_of_length-le, add-one, arith}
 use Rattle.std.proofs.lemmas.List.{length-map}
 use Rattle.std.proofs.lemmas.List.Sums.{sum_by-cons}
 use Rattle.std.specs.List.{count_by}
@@ -8,9 +8,8 @@ use Rattle.lucid_net_flight.specs.Flying.{one_if}
 use Rattle.lucid_net_flight.specs.Runs.{entering}
 use Rattle.lucid_net_flight.specs.Stages.{fed, packet_of}
 use Rattle.lucid_net_log.specs.Ways.{Network, Run}
-use Rattle.lucid_net_pass.specs.Rows.{Cells, first_cells, rows_in, step_of}
+use Rattle.lucid_net_pass.specs.Rows.{first_cells, rows_in, step_of}
 use Rattle.lucid_net_pass.specs.Stages.{stages_of}
-use Rattle.lucid_pipe.specs.Packets.{Packet}
 use Rattle.lucid_pipe.specs.Pipe.{PipeParts, empty_pipe, in_flight}
 use Rattle.lucid_pipe.specs.Sights.{Shows, sight_of}
 use Rattle.lucid_pipe.specs.declared.sight.Sight.{Sight}
@@ -19,7 +18,7 @@ use Rattle.lucid_pipe_stream.specs.Rows.{Row, Steps, after_first}
 use Rattle.lucid_pipe_stream.specs.Stream.{next, picture, ran}
 use Rattle.lucid_tables.specs.Placed.{PlacedParts}
 use Rattle.lucid_net.specs.Numbered.{FewPipes, Packets, WithinPipes}
-use Rattle.lucid_net.specs.Pipes.{IsReady, piped_of}
+use Rattle.lucid_net.specs.Pipes.{piped_of}
 use Rattle.lucid_net.specs.Rows.{pipe_at}
 use Rattle.lucid_net.specs.Seen.{lag_by}
 use Rattle.lucid_net.specs.Sent.{net_of}

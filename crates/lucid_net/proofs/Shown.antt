@@ -1,5 +1,5 @@
 -- The pipe of a switch.
-use Rattle.std.proofs.Common.{◌≡◌, ℕ, ◌<◌, ◌≤◌, Option, None, Some, IfSome, get_or, ap}
+use Rattle.std.proofs.Common.{ℕ, ◌<◌, ◌≤◌, Option, None, Some, IfSome}
 use Rattle.lucid_pipe.specs.Pipe.{PipeParts}
 use Rattle.lucid_net.specs.Holds.{Holds}
 use Rattle.lucid_net.specs.Numbered.{PipeIs}

@@ -1,13 +1,7 @@
 -- What turns and ticks write, piece after piece.
-use Rattle.std.proofs.Common.{◌≡◌, ℕ, zero, suc, ◌+◌, ◌-◌, ◌<◌, ◌≤◌, List, [], ◌++◌, Option, None, Some, Result, Ok, Err, refl, sym, ◌∙◌, ap, subst, append_assoc, append-nil, arith}
-use Rattle.std.specs.List.{find}
+use Rattle.std.proofs.Common.{◌≡◌, ℕ, List, ◌++◌, Option, Result, Ok, Err, refl, sym, ◌∙◌, ap, subst, append_assoc}
 use Rattle.lucid_io.proofs.Leaves.{Leaves-after, PutsAll-last, PutsPart-at, PutsPart-last}
 use Rattle.lucid_io.specs.Puts.{Leaves}
-use Rattle.lucid_net_log.specs.Log.{State, enters, ticks, turn, turns}
-use Rattle.lucid_net_log.specs.Pieces.{pieces, tick_text, turn_text, untold}
-use Rattle.lucid_net_log.specs.Ways.{Network}
-use Rattle.lucid_queue.specs.Waiting.{is_ready}
-use Rattle.lucid_queue.specs.declared.pending.Pending.{Pending}
 use Rattle.lucid_net.specs.Writes.{Writes}
 use Rattle.lucid_net.specs.declared.error.NetError.TheVariants as error
 use Rattle.lucid_net.specs.declared.error.NetError.{NetError}

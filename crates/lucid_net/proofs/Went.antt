@@ -1,12 +1,11 @@
 -- Pipes and their rows.
-use Rattle.std.proofs.Common.{◌≡◌, ℕ, zero, suc, ◌+◌, ◌-◌, ◌<◌, ◌≤◌, ◌↔◌, List, [], ◌∷◌, Option, None, Some, Result, Ok, Err, Bool, if◌then◌else◌, false, is_some, IsSome, IfSome, length, map, replicate, slice_get, refl, sym, ap, ap₂, subst, ◌∙◌, arith}
+use Rattle.std.proofs.Common.{◌≡◌, ℕ, zero, suc, ◌+◌, ◌-◌, ◌<◌, ◌≤◌, ◌↔◌, List, [], ◌∷◌, Option, None, Some, Result, Ok, Err, if◌then◌else◌, false, is_some, IsSome, IfSome, length, map, replicate, slice_get, refl, sym, ap, ap₂, subst, ◌∙◌, arith}
 use Rattle.std.proofs.lemmas.List.{length-replicate}
 use Rattle.std.proofs.lemmas.List.Sums.{sum_by-cons}
 use Rattle.std.specs.List.{cons_option, count_by, filter_map}
 use Rattle.std.specs.Option.{option_and_then, option_map}
 use Rattle.lucid_base.specs.Cells.{row_of, zero_cells}
 use Rattle.lucid_base.specs.declared.event.Event.{Event}
-use Rattle.lucid_net_log.specs.Ways.{Run}
 use Rattle.lucid_net_pass.specs.Rows.{Cells, Rows, cells_of, first_cells, rows_in, step_of, with_rows}
 use Rattle.lucid_net_pass.specs.Stages.{run_of_packet, run_of_passed}
 use Rattle.lucid_pipe.proofs.ByArray.{view_is}

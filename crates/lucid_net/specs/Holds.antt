@@ -1,5 +1,5 @@
 -- What a pipe of a network holds between two ticks, by what the network whose events run whole does.
-use Rattle.std.specs.Prelude.{◌≡◌, ℕ, suc, ◌-◌, [], Option, Some, map, option_map, slice_index_or}
+use Rattle.std.specs.Prelude.{◌≡◌, ℕ, suc, ◌-◌, [], Some, map, option_map, slice_index_or}
 use Rattle.lucid_base.specs.Cells.{row_of}
 use Rattle.lucid_core.specs.Step.{Entry}
 use Rattle.lucid_net_flight.specs.Runs.{entering}

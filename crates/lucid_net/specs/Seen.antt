@@ -1,5 +1,5 @@
 -- What contracts see of a network in code.
-use Rattle.std.specs.Prelude.{◌≡◌, ℕ, ◌+◌, List, ◌++◌, Option, None, Some, Bool, false}
+use Rattle.std.specs.Prelude.{◌≡◌, ℕ, List, ◌++◌, Option, None, Some, Bool, false}
 use Rattle.lucid_conf.specs.declared.limits.Limits.{Limits}
 use Rattle.lucid_conf.specs.declared.scene.Scene.{Scene}
 use Rattle.lucid_core.specs.Parts.{CoreParts}

@@ -1,7 +1,6 @@
 -- What a watch is shown of a network, by what the network whose events run whole does.
 use Rattle.std.specs.Prelude.{◌≡◌, ℕ, zero, suc, ◌+◌, ◌≤◌, List, [], ◌∷◌, ◌++◌, Option, None, Some, Result, Ok, Err}
 use Rattle.lucid_net_flight.specs.Flying.{one_if}
-use Rattle.lucid_net_flight.specs.Runs.{entering}
 use Rattle.lucid_net_log.specs.Ways.{Network, Run}
 use Rattle.lucid_pipe.specs.Pipe.{PipeParts}
 use Rattle.lucid_pipe.specs.Sights.{sight_of}

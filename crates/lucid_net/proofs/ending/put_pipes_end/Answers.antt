@@ -1,13 +1,11 @@
-use Rattle.std.proofs.Common.{◌≡◌, ◌+◌, ◌++◌, List, ℕ, map, rules, refl, sym, ◌∙◌, ap, subst}
+use Rattle.std.proofs.Common.{◌≡◌, ◌++◌, List, map, rules, refl, sym, ap}
 use Rattle.std.proofs.lemmas.Result.{on_err_weaker, on_ok_weaker}
 use Rattle.lucid_io.proofs.Leaves.{Leaves-after, Leaves-whole, PutsAll-last, PutsPart-at, PutsPart-last, on_err}
-use Rattle.lucid_io.specs.Puts.{Leaves}
 use Rattle.lucid_log.specs.Ending.{ending_text}
 use Rattle.lucid_net_log.specs.Log.{all_cells}
 use Rattle.lucid_pipe.specs.Pipe.{PipeParts}
 use Rattle.lucid_net.specs.Pipes.{piped_of}
 use Rattle.lucid_net.specs.Rows.{held}
-use Rattle.lucid_net.specs.Seen.{last_text}
 use Rattle.lucid_net.specs.Sent.{net_of}
 use Rattle.lucid_net.proofs.Ended.{ended, last_is}
 use Rattle.lucid_net.proofs.ending.put_pipes_end.Goals as goal

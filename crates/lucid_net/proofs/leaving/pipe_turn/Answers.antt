@@ -1,9 +1,6 @@
-use Rattle.std.proofs.Common.{List, Option, ap, sym, ◌∙◌, subst, IfSome}
-use Rattle.std.specs.Option.{option_map}
+use Rattle.std.proofs.Common.{Option, subst, IfSome}
 use Rattle.lucid_net_log.specs.Ways.{Run}
 use Rattle.lucid_net_pass.specs.Rows.{rows_in}
-use Rattle.lucid_net_pass.specs.Stages.{run_of_packet}
-use Rattle.lucid_pipe.specs.Packets.{Packet}
 use Rattle.lucid_queue.specs.Waiting.{is_ready}
 use Rattle.lucid_net.specs.Leaving.{KeptAfter, left}
 use Rattle.lucid_net.proofs.Leaver.{kept_popped, moved_free}

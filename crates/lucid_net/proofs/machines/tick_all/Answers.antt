@@ -1,4 +1,4 @@
-use Rattle.std.proofs.Common.{◌≡◌, ◌+◌, subst}
+use Rattle.std.proofs.Common.{subst}
 use Rattle.lucid_net.specs.Sent.{net_of}
 use Rattle.lucid_net.specs.Stands.{IsAt, IsWholeAt, state_of}
 use Rattle.lucid_net.specs.declared.machines.Machines.{Machines}

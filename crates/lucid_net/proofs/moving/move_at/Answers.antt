@@ -1,9 +1,8 @@
-use Rattle.std.proofs.Common.{◌≡◌, List, Option, None, rules, ap, sym, ◌∙◌}
+use Rattle.std.proofs.Common.{Option, rules, ap, sym, ◌∙◌}
 use Rattle.std.specs.Option.{option_map}
 use Rattle.lucid_net_pass.specs.Rows.{Rows, rows_in}
 use Rattle.lucid_net_pass.specs.Stages.{run_of_packet}
 use Rattle.lucid_pipe.specs.Packets.{Packet}
-use Rattle.lucid_pipe.specs.Pipe.{PipeParts, packet_at}
 use Rattle.lucid_net.proofs.Went.{stays, stuck_none, went}
 use Rattle.lucid_net.proofs.moving.move_at.Goals as goal
 

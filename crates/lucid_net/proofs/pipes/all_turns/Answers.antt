@@ -1,4 +1,4 @@
-use Rattle.std.proofs.Common.{◌≡◌, ◌+◌, ◌-◌, ◌<◌, List, ℕ, refl, sym, ◌∙◌, subst, arith}
+use Rattle.std.proofs.Common.{◌≡◌, ◌+◌, ◌-◌, ◌<◌, ℕ, refl, ◌∙◌, subst, arith}
 use Rattle.lucid_io.proofs.Leaves.{Leaves-after}
 use Rattle.lucid_net_flight.specs.Runs.{late_text, left_text}
 use Rattle.lucid_net_log.proofs.Telling.{pieces-next}

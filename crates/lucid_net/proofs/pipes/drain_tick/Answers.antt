@@ -1,4 +1,4 @@
-use Rattle.std.proofs.Common.{◌≡◌, ◌+◌, ◌-◌, ◌<◌, List, ℕ, refl, sym, ◌∙◌, subst, arith}
+use Rattle.std.proofs.Common.{◌+◌, ◌-◌, refl, ◌∙◌, subst}
 use Rattle.lucid_io.proofs.Leaves.{Leaves-after, PutsPart-at, on_err}
 use Rattle.lucid_net_flight.specs.Runs.{left_text}
 use Rattle.lucid_net_log.proofs.Telling.{pieces-next}
@@ -6,8 +6,7 @@ use Rattle.lucid_net_log.specs.Pieces.{pieces}
 use Rattle.lucid_tables.specs.Placed.{PlacedParts}
 use Rattle.lucid_net.specs.Pipes.{IsDrained, piped_of}
 use Rattle.lucid_net.specs.Sent.{net_of}
-use Rattle.lucid_net.proofs.Drained.{drained_next}
-use Rattle.lucid_net.proofs.Loops.{tick_text_all, tick_text_first}
+use Rattle.lucid_net.proofs.Loops.{tick_text_first}
 use Rattle.lucid_net.proofs.pipes.drain_tick.Goals as goal
 
 pub loop-switch-init : goal.loop-switch-init

@@ -1,11 +1,11 @@
-use Rattle.std.proofs.Common.{◌≡◌, ◌+◌, List, ℕ, Option, [], rules, refl, sym, ◌∙◌, ap, subst}
-use Rattle.lucid_net_flight.specs.Runs.{left_text, leaving, made_by, text_by}
+use Rattle.std.proofs.Common.{Option, ◌∙◌, ap, subst}
+use Rattle.lucid_net_flight.specs.Runs.{made_by, text_by}
 use Rattle.lucid_net_log.specs.Ways.{Run}
 use Rattle.lucid_net_pass.specs.Rows.{rows_in}
 use Rattle.lucid_net.specs.Pipes.{piped_of}
 use Rattle.lucid_net.specs.Sent.{net_of}
 use Rattle.lucid_net.specs.Writes.{Writes}
-use Rattle.lucid_net.proofs.Piping.{comes_input, few_entered, few_lost, left_fits, left_is, left_kept, of_ok, ok_all, placed_at, rows_at, rows_some, turn_piped, with_own}
+use Rattle.lucid_net.proofs.Piping.{few_entered, few_lost, of_ok, ok_all, rows_at, rows_some, turn_piped, with_own}
 use Rattle.lucid_net.proofs.pipes.turn.Goals as goal
 
 pub pipe_turn-requires-clause-some : goal.pipe_turn-requires-clause-some

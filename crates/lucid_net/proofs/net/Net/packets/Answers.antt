@@ -1,4 +1,4 @@
-use Rattle.std.proofs.Common.{◌≡◌, ◌<◌, ℕ, false, sym, ◌∙◌, ap, subst}
+use Rattle.std.proofs.Common.{◌≡◌, ◌<◌, sym, ◌∙◌, ap, subst}
 use Rattle.lucid_net_flight.specs.Runs.{entering}
 use Rattle.lucid_net.specs.Seen.{Seen, lag, network, seen}
 use Rattle.lucid_net.specs.Sights.{in_last}

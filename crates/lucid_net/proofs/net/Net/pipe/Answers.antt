@@ -1,4 +1,4 @@
-use Rattle.std.proofs.Common.{◌≡◌, ◌<◌, ◌≤◌, ℕ, Option, IfSome, false, sym, ◌∙◌, ap, subst}
+use Rattle.std.proofs.Common.{◌≡◌, ◌<◌, IfSome, sym, ◌∙◌, ap, subst}
 use Rattle.lucid_net.specs.Holds.{Holds}
 use Rattle.lucid_net.specs.Rows.{PipeStands}
 use Rattle.lucid_net.specs.Seen.{Seen, network, seen}

@@ -1,5 +1,4 @@
-use Rattle.std.proofs.Common.{◌≡◌, List, None, false, sym, ◌∙◌, ap, subst}
-use Rattle.lucid_pipe.specs.declared.sight.Sight.{Sight}
+use Rattle.std.proofs.Common.{◌≡◌, ◌∙◌, ap, subst}
 use Rattle.lucid_net.specs.Seen.{Seen, network, seen}
 use Rattle.lucid_net.specs.Sights.{ShowsAll, sights}
 use Rattle.lucid_net.proofs.Showing.{shown_is}
