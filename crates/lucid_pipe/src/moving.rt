@@ -44,7 +44,8 @@ pub(crate) fn enter(
     };
 }
 
-/// The packet in slot `k` moves on. Where it comes out, its block is told.
+/// The packet in slot `k` moves on. Where it comes out, its block is told. It is inlined, since most callers know already that a packet is there.
+#[inline(always)]
 pub(crate) fn go_on(
     placed: &Placed,
     cells: &mut Cells,
@@ -76,6 +77,7 @@ pub(crate) fn go_on(
 }
 
 /// The packet of a block, which stands in slot `k`, moves on. Where it comes out, its block is told.
+#[inline(never)]
 fn pass_on(
     placed: &Placed,
     cells: &mut Cells,
