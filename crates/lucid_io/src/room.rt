@@ -40,6 +40,7 @@ impl<const N: usize> Room<N> {
     }
 
     // Lets the piece wait behind what waits already, and says whether there was room for it.
+    #[inline(always)]
     fn admit(&mut self, piece: &[u8]) -> bool
         ensures fits { result ≡ nat_le (length self.old + length piece.now) N }
         ensures after { self.new ≡ (if result then self.old ++ piece.now else self.old) }
@@ -59,7 +60,8 @@ impl<const N: usize> Room<N> {
 /// longer than the room is written too.
 ///
 /// Of both together all was put but what waits then; or, where the sink's count of faults rose in this call, a proper prefix
-/// was put, and nothing waits. Nothing is written where both fit the room.
+/// was put, and nothing waits. Nothing is written where both fit the room, as nearly all pieces do: so that much is inlined.
+#[inline(always)]
 pub fn hold<S: Sink, const N: usize>(
     sink: &mut S,
     room: &mut Room<N>,
@@ -73,6 +75,20 @@ pub fn hold<S: Sink, const N: usize>(
     if room.admit(piece) {
         return Ok(());
     }
+    hold_behind(sink, room, piece)
+}
+
+// Writes what waits, and then lets the piece wait, or writes it too where it is longer than the room.
+#[inline(never)]
+fn hold_behind<S: Sink, const N: usize>(
+    sink: &mut S,
+    room: &mut Room<N>,
+    piece: &[u8],
+) -> Result<(), WriteFault>
+    ensures all { OnOk result (Leaves S.written S.faults sink.old sink.new (room.old ++ piece.now) room.new) }
+    ensures part { OnErr result (PutsPart S.written S.faults sink.old sink.new (room.old ++ piece.now)) }
+    ensures lost { OnErr result (room.new ≡ []) }
+{
     release(sink, room)?;
     if room.admit(piece) {
         return Ok(());
