@@ -2,7 +2,7 @@
 ghost use Rattle.std.specs.Prelude.{◌≡◌, ◌<◌, length, slice_get};
 ghost use Rattle.std.specs.List.{fold};
 ghost use Rattle.std.specs.Option.{option_map_or};
-ghost use Rattle.lucid_code.specs.Guards.{all_hold};
+ghost use Rattle.lucid_code.specs.Guards.{all_hold, holds};
 ghost use Rattle.lucid_tables.specs.Registers.{registers_of};
 ghost use Rattle.lucid_tables.specs.Stages.{stage};
 ghost use Rattle.lucid_pipe.specs.Blocks.{machine, on_registers};
@@ -76,16 +76,33 @@ fn run_rows(
     }
 }
 
-/// Whether all literals hold.
+/// Whether all literals hold. Most patterns that fail do so at their first literal, which is asked without a loop.
+#[inline(always)]
 fn all_hold(registers: &[u64], pattern: &[Literal]) -> bool
     ensures { result ≡ all_hold registers.now pattern.now }
 {
+    match pattern {
+        [] => true,
+        [first, rest @ ..] => holds(registers, *first) && each_holds(registers, rest),
+    }
+}
+
+fn each_holds(registers: &[u64], pattern: &[Literal]) -> bool
+    ensures { result ≡ all_hold registers.now pattern.now }
+{
     for literal in pattern {
-        if (register(registers, literal.field) == literal.value) != literal.equal {
+        if !holds(registers, *literal) {
             return false;
         }
     }
     true
+}
+
+#[inline(always)]
+fn holds(registers: &[u64], literal: Literal) -> bool
+    ensures { result ≡ holds registers.now literal }
+{
+    (register(registers, literal.field) == literal.value) == literal.equal
 }
 
 /// The operations of these numbers, one after another.
