@@ -4,10 +4,11 @@ ghost use Rattle.lucid_base.specs.Ops.{low_of};
 
 use std::marker::Model;
 
-/// A number of bits from 1 to 64, which contracts see as that number.
+/// A number of bits from 1 to 64, which contracts see as that number. It is kept in a word, so that a number with its width has no bytes
+/// that mean nothing and is copied by words.
 #[derive(Clone, Copy, Debug, PartialEq, Eq)]
 pub struct Width {
-    bits: u8,
+    bits: u64,
 }
 
 impl Model for Width {
@@ -29,7 +30,7 @@ impl Width {
         ensures value { IfSome result (λ width. width ≡ w) }
     {
         if 1 <= w && w <= 64 {
-            Some(Width { bits: w as u8 })
+            Some(Width { bits: w })
         } else {
             None
         }
@@ -55,7 +56,7 @@ impl Width {
         ensures least { 1 ≤ result }
         ensures most { result ≤ 64 }
     {
-        self.bits
+        self.bits as u8
     }
 
     /// Whether `value` fits in this many bits.
