@@ -1,8 +1,9 @@
 // The cells of arrays.
-ghost use Rattle.std.specs.Prelude.{◌≡◌, ◌<◌, ℕ, [], IfOk, length, slice_index, slice_set};
-ghost use Rattle.lucid_base.specs.Cells.{zero_cells, cell_at, row_of, with_cell, place_of};
+ghost use Rattle.std.specs.Prelude.{◌≡◌, ◌<◌, [], IfOk, length, slice_index, slice_set};
+ghost use Rattle.lucid_base.specs.Cells.{zero_cells, cell_at, with_cell, place_of};
+ghost use Rattle.lucid_base.specs.Memop.{memop_of, memop_value};
 
-use crate::{ArrayDef, Items, Memory};
+use crate::{ArrayDef, Bits, Items, MemAlu, Memory};
 use std::alloc::Global;
 use std::marker::Model;
 
@@ -10,6 +11,13 @@ use std::marker::Model;
 #[derive(Drop)]
 pub struct Cells {
     arrays: Vec<Items<u64>>,
+}
+
+/// What a call of an array found in its cell, and what it answers.
+#[derive(Clone, Copy, Debug)]
+pub struct Touched {
+    pub held: u64,
+    pub answer: Bits,
 }
 
 impl Model for Cells {
@@ -59,20 +67,6 @@ impl Cells {
         }
     }
 
-    /// Where a cell of an array lies: a number below the size that stands for the same cell, where the array is there and has cells. What
-    /// reads a cell and writes it again asks once, since it costs a division.
-    #[tactic(auto, using(crate::proofs::CellPlaces::nowhere, crate::proofs::CellPlaces::same_read, crate::proofs::CellPlaces::same_written))]
-    pub fn place(&self, array: u32, cell: u64) -> u64
-        ensures value { result ≡ place_of (row_of self.now array) cell }
-        ensures read { cell_at self.now array result ≡ cell_at self.now array cell }
-        ensures written { (value : ℕ) → with_cell self.now array result value ≡ with_cell self.now array cell value }
-    {
-        match self.arrays.get(array as usize) {
-            None => cell,
-            Some(row) => place_in(row.as_slice(), cell),
-        }
-    }
-
     /// Lets a cell of an array hold `value`, where it is there. Cell `i` is `i` modulo the size.
     pub fn set(&mut self, array: u32, cell: u64, value: u64)
         ensures { self.new ≡ with_cell self.old array cell value }
@@ -80,6 +74,42 @@ impl Cells {
         if (array as usize) < self.arrays.len() {
             let row = &mut self.arrays[array as usize];
             write(row, cell, value);
+        }
+    }
+
+    /// Lets a cell of an array hold what a memop gives of what it held and an argument, where it is there, and gives what it held. Cell `i` is
+    /// `i` modulo the size; an array that isn't there, or has no cells, held 0. The cell is found once.
+    pub fn set_by(&mut self, array: u32, cell: u64, set: &MemAlu, arg: u64) -> u64
+        ensures held { result ≡ cell_at self.old array cell }
+        ensures stored { self.new ≡ with_cell self.old array cell (memop_of set.now (cell_at self.old array cell) arg) }
+    {
+        if (array as usize) < self.arrays.len() {
+            let row = &mut self.arrays[array as usize];
+            write_by(row, cell, set, arg)
+        } else {
+            0
+        }
+    }
+
+    /// A call of an array as the memory of a stage does it: the cell then holds what `set` gives, and the call answers what `get` gives, both
+    /// of what the cell held.
+    pub fn touch(
+        &mut self,
+        array: u32,
+        cell: u64,
+        get: &MemAlu,
+        get_arg: u64,
+        set: &MemAlu,
+        set_arg: u64,
+    ) -> Touched
+        ensures held { result.held ≡ cell_at self.old array cell }
+        ensures answer { result.answer ≡ memop_value get.now (cell_at self.old array cell) get_arg }
+        ensures stored { self.new ≡ with_cell self.old array cell (memop_of set.now (cell_at self.old array cell) set_arg) }
+    {
+        let held = self.set_by(array, cell, set, set_arg);
+        Touched {
+            held,
+            answer: get.apply_low(held, get_arg),
         }
     }
 }
@@ -92,17 +122,6 @@ fn copied(alloc: Global, rows: &[Items<u64>]) -> Result<Items<Items<u64>>, Memor
         copy.push(Items::from_slice(alloc, row.as_slice())?)?;
     }
     Ok(copy)
-}
-
-#[tactic(auto, using(crate::proofs::CellPlaces::nowhere_in))]
-fn place_in(row: &[u64], cell: u64) -> u64
-    ensures { result ≡ place_of row.now cell }
-{
-    if row.is_empty() {
-        cell
-    } else {
-        within(row, cell) as u64
-    }
 }
 
 fn read(row: &[u64], cell: u64) -> u64
@@ -121,6 +140,20 @@ fn write(row: &mut Items<u64>, cell: u64, value: u64)
     if !row.is_empty() {
         let at = within(row.as_slice(), cell);
         row.set(at, value);
+    }
+}
+
+fn write_by(row: &mut Items<u64>, cell: u64, set: &MemAlu, arg: u64) -> u64
+    ensures held { result ≡ slice_index row.old (place_of row.old cell) }
+    ensures stored { row.new ≡ slice_set row.old (place_of row.old cell) (memop_of set.now (slice_index row.old (place_of row.old cell)) arg) }
+{
+    if row.is_empty() {
+        0
+    } else {
+        let at = within(row.as_slice(), cell);
+        let held = row.as_slice()[at];
+        row.set(at, set.apply_low(held, arg).value);
+        held
     }
 }
 

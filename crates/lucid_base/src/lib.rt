@@ -22,7 +22,7 @@ mod width;
 pub use args::Args;
 pub use array::{ArrayDef, ArrayName};
 pub use bits::Bits;
-pub use cells::Cells;
+pub use cells::{Cells, Touched};
 pub use event::{Event, Out, Target};
 pub use hash::{hash_bits, hash_byte, hash_start, hash_word};
 pub use id::Id;

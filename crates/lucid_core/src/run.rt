@@ -183,12 +183,20 @@ impl Run {
         ensures stored { OnOk result (self.new ≡ with_state self.old (record self.old.state { cells = with_cell self.old.state.cells array index (memop_of set.now (cell_at self.old.state.cells array index) set_arg).value })) }
         ensures start { OnErr result (self.new.start ≡ self.old.start) }
     {
-        let cell = self.cells.place(array, index);
-        let old = self.cells.get(array, cell);
-        self.writes.push(Write { array, cell, old })?;
-        self.cells
-            .set(array, cell, set.apply_low(old, set_arg.value).value);
-        Ok(get.apply_low(old, get_arg.value))
+        let touched = self
+            .cells
+            .touch(array, index, get, get_arg.value, set, set_arg.value);
+        match self.writes.push(Write {
+            array,
+            cell: index,
+            old: touched.held,
+        }) {
+            Ok(()) => Ok(touched.answer),
+            Err(_) => {
+                self.cells.set(array, index, touched.held);
+                Err(Memory)
+            }
+        }
     }
 }
 

@@ -62,13 +62,17 @@ pub(crate) fn act(
             set_arg,
             to,
         } => {
-            let cell = cells.place(*array, value(registers, *index));
+            let cell = value(registers, *index);
             let get_arg = value(registers, *get_arg);
             let set_arg = value(registers, *set_arg);
-            let stored = cells.get(*array, cell);
-            cells.set(*array, cell, set.apply_low(stored, set_arg).value);
-            if let Some(k) = to {
-                put(widths, registers, *k, get.apply_low(stored, get_arg).value);
+            match to {
+                None => {
+                    cells.set_by(*array, cell, set, set_arg);
+                }
+                Some(k) => {
+                    let touched = cells.touch(*array, cell, get, get_arg, set, set_arg);
+                    put(widths, registers, *k, touched.answer.value);
+                }
             }
         }
         Act::Gen {
