@@ -1,4 +1,5 @@
 pub mod Answered
 pub mod Apart
+mod EveryKey
 pub mod LastNamed
 pub mod PlainScenarios

@@ -1,8 +1,8 @@
 -- What the items of the scenario's lists must be, a line a demand: an item that breaks one is bad. The words of the lines are in Fields.
-use Rattle.std.specs.Prelude.{ℕ, List, length, Bool, true, ◌&&◌, ◌||◌, not, nat_eq, nat_lt, nat_le, bytes_eq, codes, if◌then◌else◌}
+use Rattle.std.specs.Prelude.{ℕ, List, length, Bool, ◌&&◌, ◌||◌, not, nat_eq, nat_lt, nat_le, bytes_eq, codes, if◌then◌else◌}
 use Rattle.std.specs.Prelude.{Option, None, Some, option_and_then}
 use Rattle.std.specs.List.{list_any}
-use Rattle.serde_json.specs.Data.{Data, Members, no_members, member}
+use Rattle.serde_json.specs.Data.{Data, Members}
 use Rattle.serde_json.specs.Find.{get, as_object}
 use Rattle.lucid_core.specs.Fits.{event_fits}
 use Rattle.lucid_core.specs.Parts.{CoreParts}
@@ -12,6 +12,7 @@ use Rattle.lucid_conf.specs.declared.scene.Link.{Link}
 use Rattle.lucid_conf.specs.declared.scene.Step.{Step}
 use Rattle.lucid_conf.specs.declared.scene.Step.TheVariants.{Enter, Go, Look}
 use Rattle.lucid_conf.specs.Fields.{◌>>=◌, must, number_at, number_of, text_at, text_of, ends_at, args_of}
+use Rattle.lucid_conf.specs.Reading.{every_key}
 use Rattle.lucid_conf.specs.Named.{last_named, event_names, array_names}
 
 -- The link joins these two, in either direction.
@@ -58,8 +59,7 @@ abbrev pub is_event_key : List ℕ → Bool
 is_event_key k = bytes_eq k (codes "at") || bytes_eq k (codes "switch") || bytes_eq k (codes "name") || bytes_eq k (codes "args")
 
 abbrev pub are_event_keys : Members → Bool
-are_event_keys no_members = true
-are_event_keys (member k d ms) = is_event_key k && are_event_keys ms
+are_event_keys = every_key is_event_key
 
 abbrev pub event : CoreParts → ℕ → List FileEvent → Data → Option FileEvent
 event parts switches before d = do

@@ -33,10 +33,14 @@ abbrev pub check : Key → Bool → Reading (Unit {0})
 check k true = Ok tt
 check k false = bad k
 
+-- The condition holds of each key of an object.
+abbrev pub every_key : (List ℕ → Bool) → Members → Bool
+every_key p no_members = true
+every_key p (member k d ms) = p k && every_key p ms
+
 -- The value is an object (else the fault is `File`), and has none but these keys (else it is `Other`).
 abbrev pub all_known : List Key → Members → Bool
-all_known keys no_members = true
-all_known keys (member name d ms) = is_known keys name && all_known keys ms
+all_known keys = every_key (is_known keys)
 
 abbrev pub known_of : List Key → Option Members → Reading (Unit {0})
 known_of keys None = bad key.File

@@ -1,7 +1,7 @@
 // The steps of a scenario.
 ghost use Rattle.std.specs.Prelude.{◌≡◌, [], IfOk, IfSome};
 ghost use Rattle.std.specs.List.{All};
-ghost use Rattle.serde_json.specs.View.{view, items_view};
+ghost use Rattle.lucid_conf_json.specs.View.{view, items_view};
 ghost use Rattle.lucid_core.specs.Parts.{CoreParts};
 ghost use Rattle.lucid_conf.specs.declared.key.Key.TheVariants as key;
 ghost use Rattle.lucid_conf.specs.Answers.{Gives};
@@ -15,46 +15,46 @@ use crate::names::{Names, arrays_by_name, number_named};
 use crate::reading::{bad_at, items};
 use crate::{ConfError, Key, Step};
 use lucid_base::Items;
+use lucid_conf_json::{Value, at};
 use lucid_core::Core;
-use serde_json::Value;
 use std::alloc::Global;
 
 // The last of the most stages that a pipeline has.
 const LAST_STAGE: u64 = 31;
 
-fn go(item: &Value) -> Option<Step>
+fn go(item: &Value<'_>) -> Option<Step>
     ensures value { result ≡ go_read (view item.now) }
     ensures is { (parts : CoreParts) → IfSome result (IsStep parts) }
 {
     let k = number_at(item, 1)?;
-    if item.get(2usize).is_some() || k > LAST_STAGE {
+    if at(item, 2).is_some() || k > LAST_STAGE {
         return None;
     }
     Some(Step::Go(k as u32))
 }
 
-fn look(core: &Core, names: &Names, item: &Value) -> Option<Step>
+fn look(core: &Core, names: &Names, item: &Value<'_>) -> Option<Step>
     requires { NumbersLast names.now (array_names core.now.arrays) }
     ensures value { result ≡ look_read core.now (view item.now) }
     ensures is { IfSome result (IsStep core.now) }
 {
     let name = text_at(item, 1)?;
     let cell = number_at(item, 2)?;
-    if item.get(3usize).is_some() {
+    if at(item, 3).is_some() {
         return None;
     }
     let array = number_named(names, name)?;
     Some(Step::Look { array, cell })
 }
 
-fn step(core: &Core, names: &Names, item: &Value) -> Option<Step>
+fn step(core: &Core, names: &Names, item: &Value<'_>) -> Option<Step>
     requires { NumbersLast names.now (array_names core.now.arrays) }
     ensures value { result ≡ step_read core.now [] (view item.now) }
     ensures is { IfSome result (IsStep core.now) }
 {
     let word = text_at(item, 0)?;
     if word == "enter" {
-        if item.get(1usize).is_some() {
+        if at(item, 1).is_some() {
             None
         } else {
             Some(Step::Enter)
@@ -69,7 +69,7 @@ fn step(core: &Core, names: &Names, item: &Value) -> Option<Step>
 }
 
 /// The steps that the file has.
-pub(crate) fn steps(alloc: Global, value: &Value, core: &Core) -> Result<Items<Step>, ConfError>
+pub(crate) fn steps(alloc: Global, value: &Value<'_>, core: &Core) -> Result<Items<Step>, ConfError>
     ensures value { Gives result (list (view value.now) key.Steps (step_read core.now)) }
     ensures each { IfOk result (All (IsStep core.now)) }
 {
@@ -82,7 +82,7 @@ fn each_step(
     alloc: Global,
     core: &Core,
     names: &Names,
-    values: &[Value],
+    values: &[Value<'_>],
 ) -> Result<Items<Step>, ConfError>
     requires { NumbersLast names.now (array_names core.now.arrays) }
     ensures value { Gives result (each key.Steps (step_read core.now) [] (items_view values.now)) }
