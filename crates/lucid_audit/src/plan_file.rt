@@ -1,7 +1,9 @@
 // Reading a placement file, by the definition of specs/PlanFile.
 ghost use Rattle.std.specs.Prelude.{◌≡◌, [], None, Some, Ok, Err, IfOk, IfErr, codes, length, option_and_then};
 ghost use Rattle.serde_json.specs.Find.{get, as_array};
-ghost use Rattle.serde_json.specs.View.{view, items_view, members_view};
+ghost use Rattle.json.specs.Value.{members_view};
+ghost use Rattle.serde_json.specs.Data.{no_members};
+ghost use Rattle.lucid_conf_json.specs.View.{view, items_view, data_members};
 ghost use Rattle.lucid_conf.specs.Answers.{Reads};
 ghost use Rattle.lucid_audit.specs.declared.plan.PlanKey.TheVariants.{Nodes};
 ghost use Rattle.lucid_audit.specs.PlanFile as spec;
@@ -9,7 +11,7 @@ ghost use Rattle.lucid_audit.specs.PlanFile.{Gives, Refuses, Answers, plan_read,
 
 use crate::{Plan, PlanError, PlanKey};
 use lucid_base::Items;
-use serde_json::{Map, Value};
+use lucid_conf_json::{Scratch, Unread, Value, at, get, items_in, members_in, number_in};
 use std::alloc::Global;
 
 /// The plan that the bytes write for so many nodes: Ok exactly where they are JSON that `plan_read` reads, with what it reads; `NotJson`
@@ -18,25 +20,25 @@ pub fn plan_of(alloc: Global, bytes: &[u8], nodes: usize) -> Result<Plan, PlanEr
     ensures value { Answers result (plan_read nodes) bytes.now }
     ensures count { IfOk result (λ plan. length plan.pairs ≡ nodes) }
 {
-    let value = value_of(alloc, bytes)?;
+    let mut scratch = Scratch::new(alloc);
+    let value = value_of(alloc, bytes, &mut scratch)?;
     let pairs = read_plan(alloc, &value, nodes)?;
     Ok(Plan { pairs })
 }
 
-/// The value that the bytes spell.
-fn value_of(alloc: Global, bytes: &[u8]) -> Result<Value, PlanError>
+/// The value that the bytes spell. It borrows them, and what it unescapes stands in `scratch`.
+fn value_of<'a>(
+    alloc: Global,
+    bytes: &'a [u8],
+    scratch: &'a mut Scratch,
+) -> Result<Value<'a>, PlanError>
     ensures ok { IfOk result (λ v. Reads bytes.now (view v)) }
     ensures err { IfErr result (λ e. Refuses e (λ d. Ok d) bytes.now) }
 {
-    match Value::from_slice(alloc, bytes) {
+    match lucid_conf_json::value_of(alloc, bytes, scratch) {
         Ok(value) => Ok(value),
-        Err(error) => {
-            if error.is_memory() {
-                Err(PlanError::Memory)
-            } else {
-                Err(PlanError::NotJson)
-            }
-        }
+        Err(Unread::Memory) => Err(PlanError::Memory),
+        Err(Unread::NotJson) => Err(PlanError::NotJson),
     }
 }
 
@@ -50,11 +52,11 @@ fn bad<T>(key: PlanKey) -> Result<T, PlanError>
 
 /// The pairs that the file's value writes for so many nodes.
 #[tactic(auto, using(crate::proofs::Counted::none_ok))]
-fn read_plan(alloc: Global, value: &Value, nodes: usize) -> Result<Items<(u32, u32)>, PlanError>
+fn read_plan(alloc: Global, value: &Value<'_>, nodes: usize) -> Result<Items<(u32, u32)>, PlanError>
     ensures value { Gives result (plan_read nodes (view value.now)) }
     ensures count { IfOk result (λ pairs. length pairs ≡ nodes) }
 {
-    match value.as_object() {
+    match members_in(value) {
         None => bad(PlanKey::File),
         Some(members) => {
             if all_known(members) {
@@ -67,11 +69,12 @@ fn read_plan(alloc: Global, value: &Value, nodes: usize) -> Result<Items<(u32, u
 }
 
 /// Whether the file has no key but `nodes`.
-fn all_known(members: &Map<String, Value>) -> bool
-    ensures { result ≡ spec.all_known (members_view members.now.entries) }
+#[tactic(auto, using(lucid_conf_json::proofs::EveryKey::names_decide))]
+fn all_known(members: &[(&str, Value<'_>)]) -> bool
+    ensures { result ≡ spec.all_known (data_members (members_view members.now) no_members) }
 {
-    for (key, _) in members.iter() {
-        if key.as_str() != "nodes" {
+    for member in members {
+        if member.0 != "nodes" {
             return false;
         }
     }
@@ -80,22 +83,30 @@ fn all_known(members: &Map<String, Value>) -> bool
 
 /// The pairs of the list `nodes`.
 #[tactic(auto, using(crate::proofs::Counted::none_ok))]
-fn read_nodes(alloc: Global, value: &Value, nodes: usize) -> Result<Items<(u32, u32)>, PlanError>
+fn read_nodes(
+    alloc: Global,
+    value: &Value<'_>,
+    nodes: usize,
+) -> Result<Items<(u32, u32)>, PlanError>
     ensures value { Gives result (nodes_read nodes (option_and_then as_array (get (codes "nodes") (view value.now)))) }
     ensures count { IfOk result (λ pairs. length pairs ≡ nodes) }
 {
-    match value.get("nodes") {
+    match get(value, "nodes") {
         None => bad(PlanKey::Nodes),
-        Some(found) => match found.as_array() {
+        Some(found) => match items_in(found) {
             None => bad(PlanKey::Nodes),
-            Some(list) => counted(alloc, list.as_slice(), nodes),
+            Some(list) => counted(alloc, list, nodes),
         },
     }
 }
 
 /// The pairs of a list that has so many.
 #[tactic(auto, using(crate::proofs::Counted::counted, crate::proofs::Counted::none_ok))]
-fn counted(alloc: Global, values: &[Value], nodes: usize) -> Result<Items<(u32, u32)>, PlanError>
+fn counted(
+    alloc: Global,
+    values: &[Value<'_>],
+    nodes: usize,
+) -> Result<Items<(u32, u32)>, PlanError>
     ensures value { Gives result (nodes_read nodes (Some (items_view values.now))) }
     ensures count { IfOk result (λ pairs. length pairs ≡ nodes) }
 {
@@ -108,7 +119,7 @@ fn counted(alloc: Global, values: &[Value], nodes: usize) -> Result<Items<(u32, 
 
 /// The pairs of a list.
 #[tactic(auto, using(crate::proofs::Counted::none_ok))]
-fn each_pair(alloc: Global, values: &[Value]) -> Result<Items<(u32, u32)>, PlanError>
+fn each_pair(alloc: Global, values: &[Value<'_>]) -> Result<Items<(u32, u32)>, PlanError>
     ensures value { Gives result (pairs_from [] (items_view values.now)) }
     ensures count { IfOk result (λ pairs. length pairs ≡ length values.now) }
 {
@@ -138,22 +149,22 @@ fn bad_at<T>(place: usize) -> Result<T, PlanError>
 }
 
 /// `[stage, table]`
-fn pair(item: &Value) -> Option<(u32, u32)>
+fn pair(item: &Value<'_>) -> Option<(u32, u32)>
     ensures { result ≡ spec.pair (view item.now) }
 {
     let stage = small_at(item, 0)?;
     let table = small_at(item, 1)?;
-    if item.get(2usize).is_some() {
+    if at(item, 2).is_some() {
         return None;
     }
     Some((stage, table))
 }
 
 /// The number below 2^32 at a place of a list.
-fn small_at(item: &Value, place: usize) -> Option<u32>
+fn small_at(item: &Value<'_>, place: usize) -> Option<u32>
     ensures { result ≡ spec.small_at place (view item.now) }
 {
-    let number = item.get(place)?.as_u64()?;
+    let number = number_in(at(item, place)?)?;
     if number < 4_294_967_296 {
         Some(number as u32)
     } else {

@@ -4,6 +4,7 @@ use Rattle.std.specs.Prelude.{Option, None, Some, option_and_then}
 use Rattle.std.specs.List.{list_any}
 use Rattle.serde_json.specs.Data.{Data, Members}
 use Rattle.serde_json.specs.Find.{get, as_object}
+use Rattle.lucid_conf_json.specs.Keys.{every_key}
 use Rattle.lucid_core.specs.Fits.{event_fits}
 use Rattle.lucid_core.specs.Parts.{CoreParts}
 use Rattle.lucid_conf.specs.declared.scene.Down.{Down}
@@ -12,7 +13,6 @@ use Rattle.lucid_conf.specs.declared.scene.Link.{Link}
 use Rattle.lucid_conf.specs.declared.scene.Step.{Step}
 use Rattle.lucid_conf.specs.declared.scene.Step.TheVariants.{Enter, Go, Look}
 use Rattle.lucid_conf.specs.Fields.{◌>>=◌, must, number_at, number_of, text_at, text_of, ends_at, args_of}
-use Rattle.lucid_conf.specs.Reading.{every_key}
 use Rattle.lucid_conf.specs.Named.{last_named, event_names, array_names}
 
 -- The link joins these two, in either direction.

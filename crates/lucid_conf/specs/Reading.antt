@@ -2,8 +2,9 @@
 -- `Data` is the value, in which an object has each key once. A number is one that is written by digits alone and is below 2^64.
 use Rattle.std.specs.Prelude.{ℕ, ◌≤◌, List, [], ◌∷◌, ◌++◌, length, Bool, true, false, ◌&&◌, nat_le, if◌then◌else◌}
 use Rattle.std.specs.Prelude.{Option, Some, None, option_and_then, Result, Ok, Err}
-use Rattle.serde_json.specs.Data.{Data, Items, no_items, item, Members, no_members, member}
+use Rattle.serde_json.specs.Data.{Data, Items, no_items, item, Members}
 use Rattle.serde_json.specs.Find.{get, as_number, as_u64, as_array, as_object}
+use Rattle.lucid_conf_json.specs.Keys.{every_key}
 use Rattle.lucid_conf.specs.declared.key.Key.{Key}
 use Rattle.lucid_conf.specs.declared.key.Key.TheVariants as key
 use Rattle.lucid_conf.specs.Keys.{name_of, is_known}
@@ -32,11 +33,6 @@ or_bad k None = bad k
 abbrev pub check : Key → Bool → Reading (Unit {0})
 check k true = Ok tt
 check k false = bad k
-
--- The condition holds of each key of an object.
-abbrev pub every_key : (List ℕ → Bool) → Members → Bool
-every_key p no_members = true
-every_key p (member k d ms) = p k && every_key p ms
 
 -- The value is an object (else the fault is `File`), and has none but these keys (else it is `Other`).
 abbrev pub all_known : List Key → Members → Bool

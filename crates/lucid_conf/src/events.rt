@@ -26,7 +26,7 @@ fn is_event_key(key: &str) -> bool
     key == "at" || key == "switch" || key == "name" || key == "args"
 }
 
-#[tactic(auto, using(crate::proofs::EveryKey::names_decide))]
+#[tactic(auto, using(lucid_conf_json::proofs::EveryKey::names_decide))]
 fn are_event_keys(members: &[(&str, Value<'_>)]) -> bool
     ensures { result ≡ are_keys (data_members (members_view members.now) no_members) }
 {

@@ -11,7 +11,6 @@ ghost use Rattle.lucid_conf.specs.Reading.{number as number_read, required as re
 use crate::{ConfError, Key};
 use lucid_conf_json::{Scratch, Unread, Value, get, items_in, members_in, number_in};
 use std::alloc::Global;
-use std::slice;
 
 /// The value that the bytes spell. It borrows them, and what it unescapes stands in `scratch`.
 pub(crate) fn value_of<'a>(
@@ -56,7 +55,7 @@ fn is_known(keys: &[Key], text: &str) -> bool
     keys.iter().any(|key| key.name() == text)
 }
 
-#[tactic(auto, using(crate::proofs::EveryKey::names_decide))]
+#[tactic(auto, using(lucid_conf_json::proofs::EveryKey::names_decide))]
 fn all_known(keys: &[Key], members: &[(&str, Value<'_>)]) -> bool
     ensures { result ≡ all_are_known keys.now (data_members (members_view members.now) no_members) }
 {
@@ -133,8 +132,8 @@ pub(crate) fn items<'v, 'a>(value: &'v Value<'a>, key: Key) -> Result<&'v [Value
 }
 
 /// No items, for as long as the value is there.
-fn no_items<'v, 'a>(value: &'v Value<'a>) -> &'v [Value<'a>]
+fn no_items<'v, 'a>(_value: &'v Value<'a>) -> &'v [Value<'a>]
     ensures { result.now ≡ [] }
 {
-    &slice::from_ref(value)[..0]
+    &[]
 }

@@ -1,3 +1,4 @@
+pub mod EveryKey
 mod Looks
 mod Numbers
 mod Spelled

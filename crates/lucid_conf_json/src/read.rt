@@ -11,7 +11,7 @@ use simdutf8::compat::from_utf8;
 use std::alloc::Global;
 
 /// Why bytes give no value.
-#[derive(Clone, Copy, Debug, PartialEq, Eq)]
+#[derive(Clone, Copy)]
 pub enum Unread {
     /// They are no JSON: not UTF-8, no JSON value, more than 127 lists and objects within one another, or a number past the range of a float.
     NotJson,

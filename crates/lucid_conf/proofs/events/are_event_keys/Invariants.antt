@@ -1,9 +1,9 @@
 use Rattle.std.proofs.Common.{◌≡◌, drop}
 use Rattle.json.specs.Value.{members_view}
 use Rattle.serde_json.specs.Data.{no_members}
+use Rattle.lucid_conf_json.specs.Keys.{every_name}
 use Rattle.lucid_conf_json.specs.View.{data_members}
 use Rattle.lucid_conf.specs.Items.{is_event_key, are_event_keys}
-use Rattle.lucid_conf.proofs.EveryKey.{every_name}
 use Rattle.lucid_conf.proofs.events.are_event_keys.Given as goal
 
 -- what is left decides what the whole decides

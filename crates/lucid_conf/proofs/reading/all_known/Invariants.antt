@@ -1,10 +1,10 @@
 use Rattle.std.proofs.Common.{◌≡◌, drop}
 use Rattle.json.specs.Value.{members_view}
 use Rattle.serde_json.specs.Data.{no_members}
+use Rattle.lucid_conf_json.specs.Keys.{every_name}
 use Rattle.lucid_conf_json.specs.View.{data_members}
 use Rattle.lucid_conf.specs.Keys.{is_known}
 use Rattle.lucid_conf.specs.Reading.{all_known}
-use Rattle.lucid_conf.proofs.EveryKey.{every_name}
 use Rattle.lucid_conf.proofs.reading.all_known.Given as goal
 
 -- what is left decides what the whole decides

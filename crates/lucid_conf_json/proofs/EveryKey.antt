@@ -8,11 +8,7 @@ use Rattle.std.specs.Ordering.{match_ordering}
 use Rattle.json.specs.Json as json
 use Rattle.serde_json.specs.Data.{Data, Members, no_members, member, put}
 use Rattle.lucid_conf_json.specs.View.{data_of, data_members}
-use Rattle.lucid_conf.specs.Reading.{every_key}
-
-abbrev pub every_name : (List ℕ → Bool) → json.Members → Bool
-every_name p json.no_members = true
-every_name p (json.member k j ms) = p k && every_name p ms
+use Rattle.lucid_conf_json.specs.Keys.{every_key, every_name}
 
 twice : (a b : Bool) → (a && b) ≡ (a && (a && b))
 twice true b = refl
