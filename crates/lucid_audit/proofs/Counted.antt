@@ -1,11 +1,11 @@
 -- The items of a list, counted, and what holds of an answer that is never Ok.
 use Rattle.std.proofs.Common.{◌≡◌, ℕ, Result, Ok, Err, IfOk, List, [], ◌∷◌, length, refl, ap, suc}
-use Rattle.json.specs.declared.value.Value.{Value}
-use Rattle.lucid_conf_json.specs.View.{items_view}
+use Rattle.serde_json.specs.View.{items_view}
+use Rattle.serde_json.specs.declared.value.Value.{Value}
 use Rattle.lucid_audit.specs.declared.plan.PlanError.{PlanError}
 use Rattle.lucid_audit.specs.PlanFile.{count_of}
 
-pub counted : {A : Type 0} (vs : List (Value A)) → count_of (items_view vs) ≡ length vs
+pub counted : (vs : List Value) → count_of (items_view vs) ≡ length vs
 counted [] = refl
 counted (v ∷ vs) = ap suc (counted vs)
 

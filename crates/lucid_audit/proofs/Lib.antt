@@ -2,7 +2,7 @@ mod FirstStages
 mod Firsts
 mod Growing
 mod Widths
-mod Places
+pub mod Places
 mod FitsKeep
 mod FitsAccepted
 mod AuditExamples

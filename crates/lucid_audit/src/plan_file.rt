@@ -1,9 +1,7 @@
 // Reading a placement file, by the definition of specs/PlanFile.
 ghost use Rattle.std.specs.Prelude.{◌≡◌, [], None, Some, Ok, Err, IfOk, IfErr, codes, length, option_and_then};
 ghost use Rattle.serde_json.specs.Find.{get, as_array};
-ghost use Rattle.json.specs.Value.{members_view};
-ghost use Rattle.serde_json.specs.Data.{no_members};
-ghost use Rattle.lucid_conf_json.specs.View.{view, items_view, data_members};
+ghost use Rattle.serde_json.specs.View.{view, items_view, members_view};
 ghost use Rattle.lucid_conf.specs.Answers.{Reads};
 ghost use Rattle.lucid_audit.specs.declared.plan.PlanKey.TheVariants.{Nodes};
 ghost use Rattle.lucid_audit.specs.PlanFile as spec;
@@ -11,7 +9,7 @@ ghost use Rattle.lucid_audit.specs.PlanFile.{Gives, Refuses, Answers, plan_read,
 
 use crate::{Plan, PlanError, PlanKey};
 use lucid_base::Items;
-use lucid_conf_json::{Scratch, Unread, Value, at, get, items_in, members_in, number_in};
+use lucid_json::{Map, Unread, Value, at, get, items_in, members_in, number_in};
 use std::alloc::Global;
 
 /// The plan that the bytes write for so many nodes: Ok exactly where they are JSON that `plan_read` reads, with what it reads; `NotJson`
@@ -20,22 +18,17 @@ pub fn plan_of(alloc: Global, bytes: &[u8], nodes: usize) -> Result<Plan, PlanEr
     ensures value { Answers result (plan_read nodes) bytes.now }
     ensures count { IfOk result (λ plan. length plan.pairs ≡ nodes) }
 {
-    let mut scratch = Scratch::new(alloc);
-    let value = value_of(alloc, bytes, &mut scratch)?;
+    let value = value_of(alloc, bytes)?;
     let pairs = read_plan(alloc, &value, nodes)?;
     Ok(Plan { pairs })
 }
 
-/// The value that the bytes spell. It borrows them, and what it unescapes stands in `scratch`.
-fn value_of<'a>(
-    alloc: Global,
-    bytes: &'a [u8],
-    scratch: &'a mut Scratch,
-) -> Result<Value<'a>, PlanError>
+/// Reads the value that the bytes spell.
+fn value_of(alloc: Global, bytes: &[u8]) -> Result<Value, PlanError>
     ensures ok { IfOk result (λ v. Reads bytes.now (view v)) }
     ensures err { IfErr result (λ e. Refuses e (λ d. Ok d) bytes.now) }
 {
-    match lucid_conf_json::value_of(alloc, bytes, scratch) {
+    match lucid_json::value_of(alloc, bytes) {
         Ok(value) => Ok(value),
         Err(Unread::Memory) => Err(PlanError::Memory),
         Err(Unread::NotJson) => Err(PlanError::NotJson),
@@ -52,7 +45,7 @@ fn bad<T>(key: PlanKey) -> Result<T, PlanError>
 
 /// The pairs that the file's value writes for so many nodes.
 #[tactic(auto, using(crate::proofs::Counted::none_ok))]
-fn read_plan(alloc: Global, value: &Value<'_>, nodes: usize) -> Result<Items<(u32, u32)>, PlanError>
+fn read_plan(alloc: Global, value: &Value, nodes: usize) -> Result<Items<(u32, u32)>, PlanError>
     ensures value { Gives result (plan_read nodes (view value.now)) }
     ensures count { IfOk result (λ pairs. length pairs ≡ nodes) }
 {
@@ -69,12 +62,11 @@ fn read_plan(alloc: Global, value: &Value<'_>, nodes: usize) -> Result<Items<(u3
 }
 
 /// Whether the file has no key but `nodes`.
-#[tactic(auto, using(lucid_conf_json::proofs::EveryKey::names_decide))]
-fn all_known(members: &[(&str, Value<'_>)]) -> bool
-    ensures { result ≡ spec.all_known (data_members (members_view members.now) no_members) }
+fn all_known(members: &Map<String, Value>) -> bool
+    ensures { result ≡ spec.all_known (members_view members.now.entries) }
 {
-    for member in members {
-        if member.0 != "nodes" {
+    for (key, _) in members.iter() {
+        if key.as_str() != "nodes" {
             return false;
         }
     }
@@ -83,11 +75,7 @@ fn all_known(members: &[(&str, Value<'_>)]) -> bool
 
 /// The pairs of the list `nodes`.
 #[tactic(auto, using(crate::proofs::Counted::none_ok))]
-fn read_nodes(
-    alloc: Global,
-    value: &Value<'_>,
-    nodes: usize,
-) -> Result<Items<(u32, u32)>, PlanError>
+fn read_nodes(alloc: Global, value: &Value, nodes: usize) -> Result<Items<(u32, u32)>, PlanError>
     ensures value { Gives result (nodes_read nodes (option_and_then as_array (get (codes "nodes") (view value.now)))) }
     ensures count { IfOk result (λ pairs. length pairs ≡ nodes) }
 {
@@ -102,11 +90,7 @@ fn read_nodes(
 
 /// The pairs of a list that has so many.
 #[tactic(auto, using(crate::proofs::Counted::counted, crate::proofs::Counted::none_ok))]
-fn counted(
-    alloc: Global,
-    values: &[Value<'_>],
-    nodes: usize,
-) -> Result<Items<(u32, u32)>, PlanError>
+fn counted(alloc: Global, values: &[Value], nodes: usize) -> Result<Items<(u32, u32)>, PlanError>
     ensures value { Gives result (nodes_read nodes (Some (items_view values.now))) }
     ensures count { IfOk result (λ pairs. length pairs ≡ nodes) }
 {
@@ -119,7 +103,7 @@ fn counted(
 
 /// The pairs of a list.
 #[tactic(auto, using(crate::proofs::Counted::none_ok))]
-fn each_pair(alloc: Global, values: &[Value<'_>]) -> Result<Items<(u32, u32)>, PlanError>
+fn each_pair(alloc: Global, values: &[Value]) -> Result<Items<(u32, u32)>, PlanError>
     ensures value { Gives result (pairs_from [] (items_view values.now)) }
     ensures count { IfOk result (λ pairs. length pairs ≡ length values.now) }
 {
@@ -149,7 +133,7 @@ fn bad_at<T>(place: usize) -> Result<T, PlanError>
 }
 
 /// `[stage, table]`
-fn pair(item: &Value<'_>) -> Option<(u32, u32)>
+fn pair(item: &Value) -> Option<(u32, u32)>
     ensures { result ≡ spec.pair (view item.now) }
 {
     let stage = small_at(item, 0)?;
@@ -161,7 +145,7 @@ fn pair(item: &Value<'_>) -> Option<(u32, u32)>
 }
 
 /// The number below 2^32 at a place of a list.
-fn small_at(item: &Value<'_>, place: usize) -> Option<u32>
+fn small_at(item: &Value, place: usize) -> Option<u32>
     ensures { result ≡ spec.small_at place (view item.now) }
 {
     let number = number_in(at(item, place)?)?;

@@ -4,7 +4,7 @@ use Rattle.std.specs.Prelude.{Option, None, Some, option_and_then}
 use Rattle.std.specs.List.{list_any}
 use Rattle.serde_json.specs.Data.{Data, Members}
 use Rattle.serde_json.specs.Find.{get, as_object}
-use Rattle.lucid_conf_json.specs.Keys.{every_key}
+use Rattle.lucid_json.specs.Keys.{every_key}
 use Rattle.lucid_core.specs.Fits.{event_fits}
 use Rattle.lucid_core.specs.Parts.{CoreParts}
 use Rattle.lucid_conf.specs.declared.scene.Down.{Down}

@@ -4,7 +4,7 @@ use Rattle.std.specs.Prelude.{ℕ, ◌≤◌, List, [], ◌∷◌, ◌++◌, len
 use Rattle.std.specs.Prelude.{Option, Some, None, option_and_then, Result, Ok, Err}
 use Rattle.serde_json.specs.Data.{Data, Items, no_items, item, Members}
 use Rattle.serde_json.specs.Find.{get, as_number, as_u64, as_array, as_object}
-use Rattle.lucid_conf_json.specs.Keys.{every_key}
+use Rattle.lucid_json.specs.Keys.{every_key}
 use Rattle.lucid_conf.specs.declared.key.Key.{Key}
 use Rattle.lucid_conf.specs.declared.key.Key.TheVariants as key
 use Rattle.lucid_conf.specs.Keys.{name_of, is_known}

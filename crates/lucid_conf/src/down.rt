@@ -1,7 +1,7 @@
 // The windows in which a link is down.
 ghost use Rattle.std.specs.Prelude.{◌≡◌, ◌<◌, ◌≤◌, [], length, IfOk, IfSome};
 ghost use Rattle.std.specs.List.{All};
-ghost use Rattle.lucid_conf_json.specs.View.{items_view, view};
+ghost use Rattle.serde_json.specs.View.{items_view, view};
 ghost use Rattle.lucid_conf.specs.declared.key.Key.TheVariants as key;
 ghost use Rattle.lucid_conf.specs.Answers.{Gives};
 ghost use Rattle.lucid_conf.specs.Items.{most_windows, window as window_read};
@@ -14,12 +14,12 @@ use crate::links::are_linked;
 use crate::reading::{bad, bad_at, items};
 use crate::{ConfError, Down, Key, Link};
 use lucid_base::Items;
-use lucid_conf_json::{Value, at, get};
+use lucid_json::{Value, at, get};
 use std::alloc::Global;
 
 const MOST_WINDOWS: usize = 1_024;
 
-fn window(links: &[Link], before: &[Down], item: &Value<'_>) -> Option<Down>
+fn window(links: &[Link], before: &[Down], item: &Value) -> Option<Down>
     ensures value { result ≡ window_read links.now before.now (view item.now) }
     ensures is { IfSome result (IsWindow links.now) }
     ensures few { IfSome result (λ _. length before.now < most_windows) }
@@ -45,7 +45,7 @@ fn window(links: &[Link], before: &[Down], item: &Value<'_>) -> Option<Down>
 /// The windows that the file has; in version 1 the key must be absent.
 pub(crate) fn down(
     alloc: Global,
-    value: &Value<'_>,
+    value: &Value,
     version: u64,
     links: &[Link],
 ) -> Result<Items<Down>, ConfError>
@@ -59,11 +59,7 @@ pub(crate) fn down(
     each_window(alloc, links, items(value, Key::Down)?)
 }
 
-fn each_window(
-    alloc: Global,
-    links: &[Link],
-    values: &[Value<'_>],
-) -> Result<Items<Down>, ConfError>
+fn each_window(alloc: Global, links: &[Link], values: &[Value]) -> Result<Items<Down>, ConfError>
     ensures value { Gives result (each key.Down (window_read links.now) [] (items_view values.now)) }
     ensures each { IfOk result (All (IsWindow links.now)) }
     ensures few { IfOk result (λ windows. length windows ≤ most_windows) }

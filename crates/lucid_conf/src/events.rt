@@ -1,9 +1,7 @@
 // The events of a scenario.
 ghost use Rattle.std.specs.Prelude.{◌≡◌, [], IfOk, IfSome};
 ghost use Rattle.std.specs.List.{All};
-ghost use Rattle.json.specs.Value.{members_view};
-ghost use Rattle.serde_json.specs.Data.{no_members};
-ghost use Rattle.lucid_conf_json.specs.View.{view, items_view, data_members};
+ghost use Rattle.serde_json.specs.View.{view, items_view, members_view};
 ghost use Rattle.lucid_conf.specs.declared.key.Key.TheVariants as key;
 ghost use Rattle.lucid_conf.specs.Answers.{Gives};
 ghost use Rattle.lucid_conf.specs.Items.{is_event_key as is_key, are_event_keys as are_keys, event as event_read};
@@ -16,8 +14,8 @@ use crate::names::{Names, events_by_name, number_named};
 use crate::reading::{bad_at, items};
 use crate::{ConfError, FileEvent, Key};
 use lucid_base::{Event, Items};
-use lucid_conf_json::{Value, get, members_in};
 use lucid_core::Core;
+use lucid_json::{Map, Value, get, members_in};
 use std::alloc::Global;
 
 fn is_event_key(key: &str) -> bool
@@ -26,19 +24,18 @@ fn is_event_key(key: &str) -> bool
     key == "at" || key == "switch" || key == "name" || key == "args"
 }
 
-#[tactic(auto, using(lucid_conf_json::proofs::EveryKey::names_decide))]
-fn are_event_keys(members: &[(&str, Value<'_>)]) -> bool
-    ensures { result ≡ are_keys (data_members (members_view members.now) no_members) }
+fn are_event_keys(members: &Map<String, Value>) -> bool
+    ensures { result ≡ are_keys (members_view members.now.entries) }
 {
-    for member in members {
-        if !is_event_key(member.0) {
+    for (key, _) in members.iter() {
+        if !is_event_key(key.as_str()) {
             return false;
         }
     }
     true
 }
 
-fn event(core: &Core, names: &Names, switches: u32, item: &Value<'_>) -> Option<FileEvent>
+fn event(core: &Core, names: &Names, switches: u32, item: &Value) -> Option<FileEvent>
     requires { NumbersLast names.now (event_names core.now.events) }
     ensures value { result ≡ event_read core.now switches [] (view item.now) }
     ensures is { IfSome result (IsFileEvent core.now switches) }
@@ -67,7 +64,7 @@ fn event(core: &Core, names: &Names, switches: u32, item: &Value<'_>) -> Option<
 /// The events that the file has.
 pub(crate) fn events(
     alloc: Global,
-    value: &Value<'_>,
+    value: &Value,
     core: &Core,
     switches: u32,
 ) -> Result<Items<FileEvent>, ConfError>
@@ -84,7 +81,7 @@ fn each_event(
     core: &Core,
     names: &Names,
     switches: u32,
-    values: &[Value<'_>],
+    values: &[Value],
 ) -> Result<Items<FileEvent>, ConfError>
     requires { NumbersLast names.now (event_names core.now.events) }
     ensures value { Gives result (each key.Events (event_read core.now switches) [] (items_view values.now)) }

@@ -1,45 +1,45 @@
 // Parts of an item. Each function is the word of its name in specs/Fields.antt; a part that is not there, or of another kind, is None.
 ghost use Rattle.std.specs.Prelude.{◌≡◌, option_map};
-ghost use Rattle.lucid_conf_json.specs.View.{view};
+ghost use Rattle.serde_json.specs.View.{view};
 ghost use Rattle.lucid_conf.specs.Fields.{number_at as number_at_place, number_of as number_under, text_at as text_at_place};
 ghost use Rattle.lucid_conf.specs.Fields.{text_of as text_under, args_of as args_in};
 
 use lucid_base::Args;
-use lucid_conf_json::{Value, at, get, items_in, number_in, text_in};
+use lucid_json::{Value, at, get, items_in, number_in, text_in};
 
 // An event's arguments are at most so many.
 const MOST_ARGS: usize = 8;
 
 /// The number at a place of a list.
-pub(crate) fn number_at(value: &Value<'_>, place: usize) -> Option<u64>
+pub(crate) fn number_at(value: &Value, place: usize) -> Option<u64>
     ensures { result ≡ number_at_place place (view value.now) }
 {
     number_in(at(value, place)?)
 }
 
 /// The number under a key of an object.
-pub(crate) fn number_of(value: &Value<'_>, key: &str) -> Option<u64>
+pub(crate) fn number_of(value: &Value, key: &str) -> Option<u64>
     ensures { result ≡ number_under key.now (view value.now) }
 {
     number_in(get(value, key)?)
 }
 
 /// The text at a place of a list.
-pub(crate) fn text_at<'a>(value: &Value<'a>, place: usize) -> Option<&'a str>
+pub(crate) fn text_at(value: &Value, place: usize) -> Option<&str>
     ensures { option_map (λ s. s.now) result ≡ text_at_place place (view value.now) }
 {
     text_in(at(value, place)?)
 }
 
 /// The text under a key of an object.
-pub(crate) fn text_of<'a>(value: &Value<'a>, key: &str) -> Option<&'a str>
+pub(crate) fn text_of<'v>(value: &'v Value, key: &str) -> Option<&'v str>
     ensures { option_map (λ s. s.now) result ≡ text_under key.now (view value.now) }
 {
     text_in(get(value, key)?)
 }
 
 /// The numbers of a list of at most 8 numbers.
-pub(crate) fn args_of(value: &Value<'_>) -> Option<Args>
+pub(crate) fn args_of(value: &Value) -> Option<Args>
     ensures { result ≡ args_in (view value.now) }
 {
     let mut args = Args::new();

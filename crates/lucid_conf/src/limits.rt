@@ -1,13 +1,13 @@
 // The limits file. Each line of `read_limits` is a line of the table.
 ghost use Rattle.std.specs.Prelude.{IfOk};
-ghost use Rattle.lucid_conf_json.specs.View.{view};
+ghost use Rattle.serde_json.specs.View.{view};
 ghost use Rattle.lucid_conf.specs.Answers.{Answers, Gives};
 ghost use Rattle.lucid_conf.specs.Kept.{AreLimits};
 ghost use Rattle.lucid_conf.specs.Tables.{limits_read};
 
 use crate::reading::{file, number, value_of};
 use crate::{ConfError, Key};
-use lucid_conf_json::{Scratch, Value};
+use lucid_json::Value;
 use std::alloc::Global;
 
 /// What a target has room for.
@@ -45,12 +45,11 @@ pub fn limits_of(alloc: Global, bytes: &[u8]) -> Result<Limits, ConfError>
     ensures answers { Answers result limits_read bytes.now }
     ensures ranges { IfOk result AreLimits }
 {
-    let mut scratch = Scratch::new(alloc);
-    let value = value_of(alloc, bytes, &mut scratch)?;
+    let value = value_of(alloc, bytes)?;
     read_limits(&value)
 }
 
-fn read_limits(value: &Value<'_>) -> Result<Limits, ConfError>
+fn read_limits(value: &Value) -> Result<Limits, ConfError>
     ensures value { Gives result (limits_read (view value.now)) }
     ensures ranges { IfOk result AreLimits }
 {

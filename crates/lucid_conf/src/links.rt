@@ -1,7 +1,7 @@
 // The links of a scenario.
 ghost use Rattle.std.specs.Prelude.{◌≡◌, ◌<◌, ◌^◌, IsTrue, [], false, IfOk, IfSome};
 ghost use Rattle.std.specs.List.{All, AllPairs};
-ghost use Rattle.lucid_conf_json.specs.View.{view, items_view};
+ghost use Rattle.serde_json.specs.View.{view, items_view};
 ghost use Rattle.lucid_conf.specs.declared.key.Key.TheVariants as key;
 ghost use Rattle.lucid_conf.specs.Answers.{Gives};
 ghost use Rattle.lucid_conf.specs.Items.{are_linked as are_joined, link as link_read};
@@ -12,7 +12,7 @@ use crate::items::number_at;
 use crate::reading::{bad_at, items};
 use crate::{ConfError, Key, Link};
 use lucid_base::Items;
-use lucid_conf_json::{Value, at};
+use lucid_json::{Value, at};
 use std::alloc::Global;
 
 // The longest latency of a link, in ticks.
@@ -31,7 +31,7 @@ pub(crate) fn are_linked(links: &[Link], a: u64, b: u64) -> bool
     false
 }
 
-fn link(switches: u32, before: &[Link], item: &Value<'_>) -> Option<Link>
+fn link(switches: u32, before: &[Link], item: &Value) -> Option<Link>
     ensures value { result ≡ link_read switches before.now (view item.now) }
     ensures is { IfSome result (IsLink switches) }
     ensures apart { IfSome result (λ l. are_joined before.now l.a l.b ≡ false) }
@@ -59,11 +59,7 @@ fn link(switches: u32, before: &[Link], item: &Value<'_>) -> Option<Link>
 }
 
 /// The links that the file has.
-pub(crate) fn links(
-    alloc: Global,
-    value: &Value<'_>,
-    switches: u32,
-) -> Result<Items<Link>, ConfError>
+pub(crate) fn links(alloc: Global, value: &Value, switches: u32) -> Result<Items<Link>, ConfError>
     ensures value { Gives result (list (view value.now) key.Links (link_read switches)) }
     ensures each { IfOk result (All (IsLink switches)) }
     ensures apart { IfOk result (AllPairs AreApart) }
@@ -71,7 +67,7 @@ pub(crate) fn links(
     each_link(alloc, switches, items(value, Key::Links)?)
 }
 
-fn each_link(alloc: Global, switches: u32, values: &[Value<'_>]) -> Result<Items<Link>, ConfError>
+fn each_link(alloc: Global, switches: u32, values: &[Value]) -> Result<Items<Link>, ConfError>
     ensures value { Gives result (each key.Links (link_read switches) [] (items_view values.now)) }
     ensures each { IfOk result (All (IsLink switches)) }
     ensures apart { IfOk result (AllPairs AreApart) }

@@ -7,9 +7,29 @@ ghost use Rattle.lucid_conf.specs.Named.{event_names, array_names, NumbersLast};
 use indexmap::IndexMap;
 use lucid_base::{ArrayDef, Id, Memory};
 use lucid_core::EventDef;
+use lucid_seed::{Seed, Seeded};
 use std::alloc::Global;
 
-pub(crate) type Names = IndexMap<String, u32>;
+/// Seeded by the names that it has, so that names which collide in it can't be chosen beforehand.
+pub(crate) type Names = IndexMap<String, u32, Seeded>;
+
+// What makes the hashers of a table of these events.
+fn seeded_by_events(events: &[EventDef]) -> Seeded {
+    let mut seed = Seed::new();
+    for event in events {
+        seed.add(event.name.bytes());
+    }
+    seed.hashers()
+}
+
+// What makes the hashers of a table of these arrays.
+fn seeded_by_arrays(arrays: &[ArrayDef]) -> Seeded {
+    let mut seed = Seed::new();
+    for array in arrays {
+        seed.add(array.name.bytes());
+    }
+    seed.hashers()
+}
 
 fn put(alloc: Global, names: &mut Names, id: &Id, number: usize) -> Result<(), Memory>
     ensures { OnOk result ((n : List ℕ) → get_by_text names.new n ≡ (if bytes_eq n id.now then Some number else get_by_text names.old n)) }
@@ -29,7 +49,7 @@ fn put(alloc: Global, names: &mut Names, id: &Id, number: usize) -> Result<(), M
 pub(crate) fn events_by_name(alloc: Global, events: &[EventDef]) -> Result<Names, Memory>
     ensures { IfOk result (λ names. NumbersLast names (event_names events.now)) }
 {
-    let mut names = IndexMap::new(alloc);
+    let mut names = IndexMap::with_hasher(alloc, seeded_by_events(events));
     for i in 0..events.len() {
         put(alloc, &mut names, &events[i].name, i)?;
     }
@@ -40,7 +60,7 @@ pub(crate) fn events_by_name(alloc: Global, events: &[EventDef]) -> Result<Names
 pub(crate) fn arrays_by_name(alloc: Global, arrays: &[ArrayDef]) -> Result<Names, Memory>
     ensures { IfOk result (λ names. NumbersLast names (array_names arrays.now)) }
 {
-    let mut names = IndexMap::new(alloc);
+    let mut names = IndexMap::with_hasher(alloc, seeded_by_arrays(arrays));
     for i in 0..arrays.len() {
         put(alloc, &mut names, &arrays[i].name, i)?;
     }

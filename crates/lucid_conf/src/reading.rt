@@ -1,27 +1,21 @@
 // Reading a value key by key. Each function is the word of its name in specs/Reading.antt.
-ghost use Rattle.std.specs.Prelude.{◌≡◌, [], IfOk, IfErr, Ok, None};
-ghost use Rattle.json.specs.Value.{members_view};
-ghost use Rattle.serde_json.specs.Data.{no_members};
-ghost use Rattle.lucid_conf_json.specs.View.{view, items_view, data_members};
+ghost use Rattle.std.specs.Prelude.{◌≡◌, IfOk, IfErr, Ok, None};
+ghost use Rattle.serde_json.specs.View.{view, items_view, members_view};
 ghost use Rattle.lucid_conf.specs.Answers.{Reads, Refuses, Gives, Fails};
 ghost use Rattle.lucid_conf.specs.Keys.{is_known as is_known_name};
 ghost use Rattle.lucid_conf.specs.Reading.{IsBetween, bad as bad_key, or_bad_at, all_known as all_are_known, file as file_read};
 ghost use Rattle.lucid_conf.specs.Reading.{number as number_read, required as required_read, items as items_read};
 
 use crate::{ConfError, Key};
-use lucid_conf_json::{Scratch, Unread, Value, get, items_in, members_in, number_in};
+use lucid_json::{Map, Unread, Value, get, items_in, members_in, number_in};
 use std::alloc::Global;
 
-/// The value that the bytes spell. It borrows them, and what it unescapes stands in `scratch`.
-pub(crate) fn value_of<'a>(
-    alloc: Global,
-    bytes: &'a [u8],
-    scratch: &'a mut Scratch,
-) -> Result<Value<'a>, ConfError>
+/// Reads the value that the bytes spell.
+pub(crate) fn value_of(alloc: Global, bytes: &[u8]) -> Result<Value, ConfError>
     ensures ok { IfOk result (λ v. Reads bytes.now (view v)) }
     ensures err { IfErr result (λ e. Refuses e (λ d. Ok d) bytes.now) }
 {
-    match lucid_conf_json::value_of(alloc, bytes, scratch) {
+    match lucid_json::value_of(alloc, bytes) {
         Ok(value) => Ok(value),
         Err(Unread::Memory) => Err(ConfError::Memory),
         Err(Unread::NotJson) => Err(ConfError::NotJson),
@@ -55,12 +49,11 @@ fn is_known(keys: &[Key], text: &str) -> bool
     keys.iter().any(|key| key.name() == text)
 }
 
-#[tactic(auto, using(lucid_conf_json::proofs::EveryKey::names_decide))]
-fn all_known(keys: &[Key], members: &[(&str, Value<'_>)]) -> bool
-    ensures { result ≡ all_are_known keys.now (data_members (members_view members.now) no_members) }
+fn all_known(keys: &[Key], members: &Map<String, Value>) -> bool
+    ensures { result ≡ all_are_known keys.now (members_view members.now.entries) }
 {
-    for member in members {
-        if !is_known(keys, member.0) {
+    for (key, _) in members.iter() {
+        if !is_known(keys, key.as_str()) {
             return false;
         }
     }
@@ -68,7 +61,7 @@ fn all_known(keys: &[Key], members: &[(&str, Value<'_>)]) -> bool
 }
 
 /// The value is an object, and has none but these keys.
-pub(crate) fn file(value: &Value<'_>, keys: &[Key]) -> Result<(), ConfError>
+pub(crate) fn file(value: &Value, keys: &[Key]) -> Result<(), ConfError>
     ensures { Gives result (file_read (view value.now) keys.now) }
 {
     match members_in(value) {
@@ -85,7 +78,7 @@ pub(crate) fn file(value: &Value<'_>, keys: &[Key]) -> Result<(), ConfError>
 
 /// A number from `least` to `most`, or the default where the key is absent.
 pub(crate) fn number(
-    value: &Value<'_>,
+    value: &Value,
     key: Key,
     least: u64,
     most: u64,
@@ -105,7 +98,7 @@ pub(crate) fn number(
 }
 
 /// A number that has to be there.
-pub(crate) fn required(value: &Value<'_>, key: Key) -> Result<u64, ConfError>
+pub(crate) fn required(value: &Value, key: Key) -> Result<u64, ConfError>
     ensures { Gives result (required_read (view value.now) key) }
 {
     match get(value, key.name()) {
@@ -117,23 +110,16 @@ pub(crate) fn required(value: &Value<'_>, key: Key) -> Result<u64, ConfError>
     }
 }
 
-/// The items of a list, none where the key is absent.
-pub(crate) fn items<'v, 'a>(value: &'v Value<'a>, key: Key) -> Result<&'v [Value<'a>], ConfError>
+/// The items of a list, none if the key is absent.
+pub(crate) fn items(value: &Value, key: Key) -> Result<&[Value], ConfError>
     ensures ok { IfOk result (λ items. items_read (view value.now) key ≡ Ok (items_view items.now)) }
     ensures err { IfErr result (λ e. Fails e (items_read (view value.now) key)) }
 {
     match get(value, key.name()) {
-        None => Ok(no_items(value)),
+        None => Ok(&[]),
         Some(found) => match items_in(found) {
-            None => Err(ConfError::BadField { key, place: None }),
+            None => bad(key),
             Some(list) => Ok(list),
         },
     }
-}
-
-/// No items, for as long as the value is there.
-fn no_items<'v, 'a>(_value: &'v Value<'a>) -> &'v [Value<'a>]
-    ensures { result.now ≡ [] }
-{
-    &[]
 }

@@ -1,6 +1,6 @@
 // The scenario file. Each line of `read_scene` is a line of the table.
 ghost use Rattle.std.specs.Prelude.{◌≡◌, ◌≤◌, ◌*◌, ◌^◌, IfOk};
-ghost use Rattle.lucid_conf_json.specs.View.{view};
+ghost use Rattle.serde_json.specs.View.{view};
 ghost use Rattle.lucid_conf.specs.Answers.{Answers, Gives};
 ghost use Rattle.lucid_conf.specs.Kept.{IsScene};
 ghost use Rattle.lucid_conf.specs.Reading.{IsBetween};
@@ -12,8 +12,8 @@ use crate::links::links;
 use crate::reading::{bad, file, number, required, value_of};
 use crate::steps::steps;
 use crate::{ConfError, Key, Scene};
-use lucid_conf_json::{Scratch, Value};
 use lucid_core::Core;
+use lucid_json::Value;
 use std::alloc::Global;
 
 const KEYS: [Key; 7] = [
@@ -37,8 +37,7 @@ pub fn scene_of(alloc: Global, bytes: &[u8], core: &Core) -> Result<Scene, ConfE
     ensures answers { Answers result (scene_read core.now) bytes.now }
     ensures keeps { IfOk result (IsScene core.now) }
 {
-    let mut scratch = Scratch::new(alloc);
-    let value = value_of(alloc, bytes, &mut scratch)?;
+    let value = value_of(alloc, bytes)?;
     read_scene(alloc, &value, core)
 }
 
@@ -54,7 +53,7 @@ fn cells(core: &Core) -> u64
     sum
 }
 
-fn switches(value: &Value<'_>, core: &Core) -> Result<u32, ConfError>
+fn switches(value: &Value, core: &Core) -> Result<u32, ConfError>
     ensures value { Gives result (switches_read core.now (view value.now)) }
     ensures within { IfOk result (IsBetween 1 64) }
     ensures few { IfOk result (λ switches. cells_in core.now.arrays * switches ≤ most_cells) }
@@ -66,7 +65,7 @@ fn switches(value: &Value<'_>, core: &Core) -> Result<u32, ConfError>
     Ok(switches as u32)
 }
 
-fn stop(value: &Value<'_>, switches: u32) -> Result<u64, ConfError>
+fn stop(value: &Value, switches: u32) -> Result<u64, ConfError>
     requires { 1 ≤ switches }
     ensures value { Gives result (stop_read switches (view value.now)) }
     ensures few { IfOk result (λ stop. stop * switches ≤ most_ticks) }
@@ -78,7 +77,7 @@ fn stop(value: &Value<'_>, switches: u32) -> Result<u64, ConfError>
     }
 }
 
-fn read_scene(alloc: Global, value: &Value<'_>, core: &Core) -> Result<Scene, ConfError>
+fn read_scene(alloc: Global, value: &Value, core: &Core) -> Result<Scene, ConfError>
     ensures value { Gives result (scene_read core.now (view value.now)) }
     ensures keeps { IfOk result (IsScene core.now) }
 {

@@ -1,7 +1,7 @@
 // The steps of a scenario.
 ghost use Rattle.std.specs.Prelude.{◌≡◌, [], IfOk, IfSome};
 ghost use Rattle.std.specs.List.{All};
-ghost use Rattle.lucid_conf_json.specs.View.{view, items_view};
+ghost use Rattle.serde_json.specs.View.{view, items_view};
 ghost use Rattle.lucid_core.specs.Parts.{CoreParts};
 ghost use Rattle.lucid_conf.specs.declared.key.Key.TheVariants as key;
 ghost use Rattle.lucid_conf.specs.Answers.{Gives};
@@ -15,14 +15,14 @@ use crate::names::{Names, arrays_by_name, number_named};
 use crate::reading::{bad_at, items};
 use crate::{ConfError, Key, Step};
 use lucid_base::Items;
-use lucid_conf_json::{Value, at};
 use lucid_core::Core;
+use lucid_json::{Value, at};
 use std::alloc::Global;
 
 // The last of the most stages that a pipeline has.
 const LAST_STAGE: u64 = 31;
 
-fn go(item: &Value<'_>) -> Option<Step>
+fn go(item: &Value) -> Option<Step>
     ensures value { result ≡ go_read (view item.now) }
     ensures is { (parts : CoreParts) → IfSome result (IsStep parts) }
 {
@@ -33,7 +33,7 @@ fn go(item: &Value<'_>) -> Option<Step>
     Some(Step::Go(k as u32))
 }
 
-fn look(core: &Core, names: &Names, item: &Value<'_>) -> Option<Step>
+fn look(core: &Core, names: &Names, item: &Value) -> Option<Step>
     requires { NumbersLast names.now (array_names core.now.arrays) }
     ensures value { result ≡ look_read core.now (view item.now) }
     ensures is { IfSome result (IsStep core.now) }
@@ -47,7 +47,7 @@ fn look(core: &Core, names: &Names, item: &Value<'_>) -> Option<Step>
     Some(Step::Look { array, cell })
 }
 
-fn step(core: &Core, names: &Names, item: &Value<'_>) -> Option<Step>
+fn step(core: &Core, names: &Names, item: &Value) -> Option<Step>
     requires { NumbersLast names.now (array_names core.now.arrays) }
     ensures value { result ≡ step_read core.now [] (view item.now) }
     ensures is { IfSome result (IsStep core.now) }
@@ -69,7 +69,7 @@ fn step(core: &Core, names: &Names, item: &Value<'_>) -> Option<Step>
 }
 
 /// The steps that the file has.
-pub(crate) fn steps(alloc: Global, value: &Value<'_>, core: &Core) -> Result<Items<Step>, ConfError>
+pub(crate) fn steps(alloc: Global, value: &Value, core: &Core) -> Result<Items<Step>, ConfError>
     ensures value { Gives result (list (view value.now) key.Steps (step_read core.now)) }
     ensures each { IfOk result (All (IsStep core.now)) }
 {
@@ -82,7 +82,7 @@ fn each_step(
     alloc: Global,
     core: &Core,
     names: &Names,
-    values: &[Value<'_>],
+    values: &[Value],
 ) -> Result<Items<Step>, ConfError>
     requires { NumbersLast names.now (array_names core.now.arrays) }
     ensures value { Gives result (each key.Steps (step_read core.now) [] (items_view values.now)) }

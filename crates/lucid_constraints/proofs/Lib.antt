@@ -1,5 +1,7 @@
 pub mod CircleWalk
+mod Covering
 pub mod CycleLemmas
+pub mod Joining
 pub mod LawProofs
 pub mod LookLemmas
 pub mod MeansLemmas

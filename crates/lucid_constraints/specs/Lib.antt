@@ -1,4 +1,5 @@
 pub mod Circle
+pub mod Cover
 pub mod Cycle
 pub mod Laws
 pub mod Marks

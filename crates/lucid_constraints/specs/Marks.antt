@@ -1,7 +1,7 @@
 -- A table that tells of the pairs of few names whether they are there. Only contracts inside this crate cite this page.
 use Rattle.std.specs.Prelude.{◌≡◌, ℕ, ◌+◌, ◌*◌, ◌<◌, Bool, false, if◌then◌else◌, ◌&&◌, nat_eq, nat_lt, List, [], ◌∷◌, ◌++◌, get_or, length, Option}
-use Rattle.std.specs.Prelude.{None, Some, IfSome}
-use Rattle.std.specs.List.{list_any}
+use Rattle.std.specs.Prelude.{None, Some, IfSome, is_some, true}
+use Rattle.std.specs.List.{list_all, list_any}
 use Rattle.std.specs.Option.{option_and_then, option_map}
 use Rattle.lucid_base.specs.declared.array.ArrayName.{ArrayName}
 use Rattle.lucid_base.specs.declared.array.ArrayName.TheVariants.{Global, Param}
@@ -38,3 +38,7 @@ Notes old number new = (p : Pair) (pairs : List Pair) → number ≡ pair_number
 -- how many places the table has: it is made once the pairs are more than 16
 abbrev pub places : List Bool → List Pair → ℕ
 places marks pairs = if nat_eq (length marks) 0 && nat_lt 16 (length pairs) then 5256 else length marks
+
+-- each has a place in the table
+abbrev pub AreNumbered : List Pair → Type 0
+AreNumbered pairs = list_all (λ p. is_some (pair_number p)) pairs ≡ true

@@ -3,6 +3,7 @@
 // cycle exactly where the names have a strictly rising numbering. Stands on lucid_base alone.
 #![tactic(auto)]
 
+mod cover;
 mod cycle;
 mod ends;
 mod laws;

@@ -13,11 +13,12 @@ use std::alloc::Global;
 const FEW: usize = 16;
 
 /// The places of the table: 73 atoms before 72 names.
-const PLACES: usize = 5256;
+pub const PLACES: usize = 5256;
 
 /// The place of the name among the first 8 array parameters and 64 declared arrays.
 pub fn name_number(name: ArrayName) -> Option<usize>
-    ensures { result ≡ name_number_of name }
+    ensures number { result ≡ name_number_of name }
+    ensures few { IfSome result (λ n. n < 72) }
 {
     match name {
         ArrayName::Param(i) => { if i < 8 { Some(i as usize) } else { None } }
@@ -25,7 +26,7 @@ pub fn name_number(name: ArrayName) -> Option<usize>
     }
 }
 
-fn atom_number(atom: Atom) -> Option<usize>
+pub fn atom_number(atom: Atom) -> Option<usize>
     ensures number { result ≡ atom_number_of atom }
     ensures few { IfSome result (λ n. n < 73) }
 {

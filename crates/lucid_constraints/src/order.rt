@@ -1,12 +1,13 @@
 // Pairs without repeats.
-ghost use Rattle.std.specs.Prelude.{◌≡◌, ◌≢◌, ◌+◌, ◌++◌, ◌∷◌, false, [], IfOk, OnErr, OnOk, AllPairs, map};
+ghost use Rattle.std.specs.Prelude.{◌≡◌, ◌≢◌, ◌+◌, ◌++◌, ◌∷◌, false, true, [], OnErr, OnOk, AllPairs, map};
 ghost use Rattle.std.specs.List.{list_any};
 ghost use Rattle.lucid_constraints.specs.Marks.{pair_number as pair_number_of};
 ghost use Rattle.lucid_constraints.specs.Same.{same_pair as are_same_pairs, joined, join_all};
 ghost use Rattle.lucid_constraints.specs.Substitution.{pair as pair_before, pairs_at, needs_from};
 
+use crate::cover::{param_places, rows_held, start_held};
 use crate::ends::name_at;
-use crate::marks::{mark, marked, pair_number, tabulate};
+use crate::marks::{PLACES, mark, marked, pair_number, tabulate};
 use crate::pair::{Atom, Pair};
 use lucid_base::{ArrayName, Items, Memory, Steps};
 use std::alloc::Global;
@@ -19,18 +20,20 @@ pub struct Order {
     pairs: Items<Pair>,
     /// The table of these pairs, once they are many.
     marks: Vec<bool>,
+    /// Whether each of them has a place in such a table.
+    numbered: bool,
 }
 
 impl Model for Order {
-    ghost use Rattle.std.specs.Prelude.{List, ◌≢◌, AllPairs};
+    ghost use Rattle.std.specs.Prelude.{List, ◌≡◌, ◌≢◌, AllPairs, true};
     ghost use Rattle.lucid_constraints.specs.declared.pair.Pair.{Pair};
-    ghost use Rattle.lucid_constraints.specs.Marks.{Marked};
+    ghost use Rattle.lucid_constraints.specs.Marks.{AreNumbered, Marked};
 
     ghost Value = { List Pair };
 
     ghost view = { λ o. o.pairs };
 
-    ghost invariant = { λ o. AllPairs (λ p q. p ≢ q) o.pairs × Marked o.marks.items o.pairs };
+    ghost invariant = { λ o. AllPairs (λ p q. p ≢ q) o.pairs × Marked o.marks.items o.pairs × (o.numbered ≡ true → AreNumbered o.pairs) };
 }
 
 // Cold: once there is a table the loops over many pairs pass it by.
@@ -54,6 +57,7 @@ impl Order {
         Order {
             pairs: Items::new(alloc),
             marks: Vec::new(alloc),
+            numbered: true,
         }
     }
 
@@ -89,6 +93,7 @@ impl Order {
     {
         self.pairs.push(pair)?;
         mark(&mut self.marks, number);
+        self.numbered = self.numbered && number.is_some();
         Ok(())
     }
 
@@ -141,30 +146,46 @@ impl Order {
         }
     }
 
-    /// The pairs as a caller sees them who gives the function the arrays `names` and calls it at the places `start`.
-    /// The work is in proportion to the pairs that it makes times those that it gives.
-    pub fn substitute(&self, names: &[ArrayName], start: &[Atom]) -> Result<Order, Memory>
-        ensures { IfOk result (λ order. order ≡ needs_from names.now start.now [] self.now) }
+    /// Whether the tables show that all is asked that a function asks.
+    fn covers(&self, of: &Order, names: &[ArrayName], start: &[Atom]) -> bool
+        ensures { result ≡ true → needs_from names.now start.now self.now of.now ≡ self.now }
     {
-        substituted(self.alloc(), self.pairs.as_slice(), names, start)
+        if self.marks.len() != PLACES || of.marks.len() != PLACES || !of.numbered {
+            return false;
+        }
+        match param_places(names) {
+            None => false,
+            Some(places) => {
+                rows_held(&places, &of.marks, &self.marks)
+                    && start_held(&places, &of.marks, &self.marks, start)
+            }
+        }
     }
-}
 
-fn substituted(
-    alloc: Global,
-    pairs: &[Pair],
-    names: &[ArrayName],
-    start: &[Atom],
-) -> Result<Order, Memory>
-    ensures { IfOk result (λ order. order ≡ needs_from names.now start.now [] pairs.now) }
-{
-    // With room for all at once: most of them are different to a caller too.
-    let mut done = Order {
-        pairs: Items::from_vec(Vec::with_capacity(alloc, pairs.len())?),
-        marks: Vec::new(alloc),
-    };
-    for pair in pairs {
-        done.join_at(names, start, *pair)?;
+    /// Adds what a function's pairs are to the caller.
+    fn join_each(
+        &mut self,
+        pairs: &[Pair],
+        names: &[ArrayName],
+        start: &[Atom],
+    ) -> Result<(), Memory>
+        ensures { OnOk result (self.new ≡ needs_from names.now start.now self.old pairs.now) }
+    {
+        for pair in pairs {
+            self.join_at(names, start, *pair)?;
+        }
+        Ok(())
     }
-    Ok(done)
+
+    /// Adds the pairs of a function as a caller sees them who gives it the arrays `names` and calls it at the places `start`.
+    /// Where nothing is new the work is in proportion to the places; else to the function's pairs, and those with the start times the places.
+    #[tactic(auto, using(crate::proofs::Joining::needs_joined))]
+    pub fn take_in(&mut self, of: &Order, names: &[ArrayName], start: &[Atom]) -> Result<(), Memory>
+        ensures { OnOk result (self.new ≡ join_all are_same_pairs self.old (needs_from names.now start.now [] of.now)) }
+    {
+        if self.covers(of, names, start) {
+            return Ok(());
+        }
+        self.join_each(of.pairs(), names, start)
+    }
 }

@@ -1,6 +1,5 @@
 pub mod Arrays
 pub mod BodiesFit
-pub mod CellsLemmas
 pub mod Entries
 pub mod Fine
 pub mod Folds

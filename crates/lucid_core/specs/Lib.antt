@@ -16,7 +16,6 @@ pub mod Numbers
 pub mod OutCount
 pub mod Parts
 pub mod Returns
-pub mod Running
 pub mod Scope
 pub mod Step
 pub mod Syntax

@@ -1,28 +1,21 @@
-// The elaborated program (a core) and its meaning: what an event does when its handler runs whole.
-// A `Core` and a `Flat` are valid by their types. `run_whole` is the definition of the step, changes no cell where memory runs out,
-// and gives outs that fit the program.
-// The rules of validity are in specs/Valid.antt, each in a file of its own; the meaning is in specs/Step.antt, Meaning.antt and Computations.antt.
-// Stands on lucid_base alone.
+// The elaborated program (a core), the rules that make one valid, and its meaning: what an event does when its handler runs whole.
+// Promises: every `Core` and `Flat` is valid by its type (specs/Valid.antt). The laws in laws.rt hold of all cells, ticks, switches and events.
+// The meaning is `step` of specs/Step.antt, over specs/Meaning.antt and specs/Computations.antt. The interpreter is lucid_core_run.
+// Nearly every crate depends on this one: it changes only to correct a fault, and whoever trusts the main theorem must agree to a change of specs/.
 #![tactic(auto)]
 
 mod body;
 mod cells;
 mod defs;
 mod depth;
-mod draft;
 mod ending;
 mod fits;
-mod interpret;
 mod laws;
-mod operate;
-mod place;
 mod program;
-mod rooms;
-mod run;
-mod whole;
 mod widths;
 
 pub use body::{Expr, Stmt, Touch};
+pub use cells::NewCells;
 pub use defs::{EventDef, FunDef, HandlerDef, MemopDef};
 pub use depth::below;
 pub use ending::Ending;
@@ -32,6 +25,4 @@ pub use laws::{
 };
 pub use lucid_base::{ArrayDef, ArrayName, Cells};
 pub use program::{Core, Flat};
-pub use rooms::Rooms;
-pub use whole::{run_into, run_whole};
 pub use widths::width_of;

@@ -8,6 +8,7 @@ ghost use Rattle.lucid_core.specs.Valid.{IsValid, IsValidFlat};
 use crate::fits::args_fit;
 use crate::{EventDef, FunDef, HandlerDef, MemopDef};
 use lucid_base::{ArrayDef, Event, Id};
+use std::alloc::Global;
 use std::marker::Model;
 
 /// An elaborated program: every width is written and every name is a number. Contracts see its parts, which are a valid core.
@@ -37,6 +38,11 @@ impl Model for Core {
 }
 
 impl Core {
+    /// The allocator of its lists.
+    pub(crate) fn allocator(&self) -> Global {
+        *self.arrays.allocator()
+    }
+
     /// The core of these parts. It takes no memory.
     pub fn new(
         arrays: Vec<ArrayDef>,

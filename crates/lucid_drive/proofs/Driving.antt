@@ -7,11 +7,11 @@ use Rattle.std.specs.Option.{option_map_or}
 use Rattle.lucid_core.specs.Parts.{CoreParts}
 use Rattle.lucid_core.specs.Step as core
 use Rattle.lucid_core.specs.Step.{Entry}
-use Rattle.lucid_pipe_stream.specs.Picture.{IsPicture, after}
-use Rattle.lucid_pipe_stream.specs.Places as places
-use Rattle.lucid_pipe_stream.specs.Rows.{Row, Steps, row, whole}
-use Rattle.lucid_pipe_stream.proofs.LooksLaw.{enters_picture, keeps_picture, leaves_picture, looks}
-use Rattle.lucid_pipe_stream.proofs.PlacesLaw as laws
+use Rattle.lucid_pipe_laws.specs.Picture.{IsPicture, after}
+use Rattle.lucid_pipe_laws.specs.Places as places
+use Rattle.lucid_pipe_laws.specs.Rows.{Row, Steps, row, whole}
+use Rattle.lucid_pipe_laws.proofs.LooksLaw.{enters_picture, keeps_picture, leaves_picture, looks}
+use Rattle.lucid_pipe_laws.proofs.PlacesLaw as laws
 use Rattle.lucid_drive.specs.Drive.{Drive, Progress, came, entries, is_taken, moved}
 use Rattle.lucid_drive.specs.Driven.{DoSteps, Gone, IsDriven}
 

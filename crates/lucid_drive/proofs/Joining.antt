@@ -8,7 +8,7 @@ use Rattle.lucid_core.specs.Parts.{CoreParts}
 use Rattle.lucid_core.specs.Step.{after}
 use Rattle.lucid_io.proofs.Leaves.{Leaves-after, Leaves-whole, PutsAll-last, PutsPart-at, PutsPart-last}
 use Rattle.lucid_io.specs.Puts.{Leaves, PutsAll, PutsPart}
-use Rattle.lucid_normal_form.specs.Stands.{StandsFor}
+use Rattle.lucid_normal_spec.specs.Stands.{StandsFor}
 use Rattle.lucid_pipe.specs.Packets.{Packet}
 use Rattle.lucid_pipe.specs.Pipe.{PipeParts, empty_pipe}
 use Rattle.lucid_pipe.specs.declared.sight.Sight.{Sight}

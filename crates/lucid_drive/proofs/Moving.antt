@@ -14,16 +14,16 @@ use Rattle.lucid_core.specs.Step.{Entry}
 use Rattle.lucid_pipe.specs.Packets.{Packet, left_by, told}
 use Rattle.lucid_pipe.specs.Pipe.{PipeParts, comes_out, empty_pipe, entered, executed, gone, packet_at}
 use Rattle.lucid_pipe.specs.Rows.{own, owns, pipe_rows, rows_of, steps_of}
-use Rattle.lucid_pipe_stream.specs.Moves.{entered_by, goes, through}
-use Rattle.lucid_pipe_stream.specs.Rows.{Row, Steps, after_first, row}
+use Rattle.lucid_pipe_laws.specs.Moves.{entered_by, goes, through}
+use Rattle.lucid_pipe_laws.specs.Rows.{Row, Steps, after_first, row}
 use Rattle.lucid_pipe.specs.declared.passed.Passed.{Passed}
 use Rattle.lucid_pipe.proofs.Settles.{there_free, there_full}
 use Rattle.lucid_tables.specs.Placed.{PlacedParts}
 use Rattle.lucid_tables.specs.declared.stage.StageCode.{StageCode}
-use Rattle.lucid_normal_form.specs.Stands.{StandsFor}
+use Rattle.lucid_normal_spec.specs.Stands.{StandsFor}
 use Rattle.lucid_drive.specs.Drive.{Progress, begun, entries, moved}
 use Rattle.lucid_drive.specs.Driven.{Gone, IsDriven}
-use Rattle.lucid_pipe_stream.specs.Picture.{IsPicture}
+use Rattle.lucid_pipe_laws.specs.Picture.{IsPicture}
 use Rattle.lucid_drive.specs.Standing.{Cells, Fits, IsAt, IsGood, drive_of, first_cells, gone_of, packet_of}
 use Rattle.lucid_drive.proofs.Driving.{all_at, enters_driven, goes_driven, leaves_driven, left_sends, length_take, take_at, take_more}
 use Rattle.lucid_drive.proofs.Standing.{Laws, do_steps, one_more_came, row_at, rows_many, stages, step, taken}

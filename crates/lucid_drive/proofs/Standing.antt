@@ -22,19 +22,19 @@ use Rattle.lucid_pipe.specs.Laws.{MovesAsRows}
 use Rattle.lucid_pipe.specs.Packets.{Packet, left_by, meets, sent_by}
 use Rattle.lucid_pipe.specs.Pipe.{PipeParts, packet_at, sizes}
 use Rattle.lucid_pipe.specs.Rows.{by_array, own, owns, pipe_rows, rows_of, steps_of}
-use Rattle.lucid_pipe_stream.specs.Rows.{Row, Steps, row, whole}
+use Rattle.lucid_pipe_laws.specs.Rows.{Row, Steps, row, whole}
 use Rattle.lucid_code.specs.Inputs.{IsInput}
 use Rattle.lucid_tables.specs.Numbers.{is_in}
 use Rattle.lucid_tables.specs.Placed.{PlacedParts, stage_of}
 use Rattle.lucid_tables.specs.Stages.{pass, pass_from}
 use Rattle.lucid_tables.specs.declared.stage.StageCode.{StageCode}
-use Rattle.lucid_normal_form.specs.Stands.{Happens, StandsFor}
+use Rattle.lucid_normal_spec.specs.Stands.{Happens, StandsFor}
 use Rattle.lucid_drive.specs.Drive.{Drive, Progress, came, entries, is_taken}
 use Rattle.lucid_drive.specs.Driven.{DoSteps}
-use Rattle.lucid_pipe_stream.specs.Picture as picture
+use Rattle.lucid_pipe_laws.specs.Picture as picture
 use Rattle.lucid_drive.specs.Standing.{Cells, Fits, IsAt, IsGood, drive_of, first_cells, gone_of, packet_of}
 use Rattle.lucid_drive.proofs.Driving.{after_is, all_take, length_take, look_is, take_take, taken_is}
-use Rattle.lucid_pipe_stream.proofs.LooksLaw.{no_more}
+use Rattle.lucid_pipe_laws.proofs.LooksLaw.{no_more}
 use Rattle.lucid_pipe.proofs.Beside.{same_cells}
 use Rattle.lucid_pipe.proofs.ByArray.{owns_at}
 

@@ -5,8 +5,8 @@ use Rattle.lucid_base.specs.declared.event.Out.{Out}
 use Rattle.lucid_core.specs.Parts.{CoreParts}
 use Rattle.lucid_core.specs.Step as core
 use Rattle.lucid_core.specs.Step.{Entry}
-use Rattle.lucid_pipe_stream.specs.Picture.{IsPicture}
-use Rattle.lucid_pipe_stream.specs.Rows.{Row, Steps, whole}
+use Rattle.lucid_pipe_laws.specs.Picture.{IsPicture}
+use Rattle.lucid_pipe_laws.specs.Rows.{Row, Steps, whole}
 use Rattle.lucid_drive.specs.Drive.{Drive, Progress, entries}
 
 -- What left: which event entered, when and where, and what it sent out.

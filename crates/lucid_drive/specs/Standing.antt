@@ -10,7 +10,7 @@ use Rattle.lucid_pipe.specs.Packets.{Packet, entering, sent_by}
 use Rattle.lucid_pipe.specs.Pipe.{PipeParts}
 use Rattle.lucid_pipe.specs.Rows.{owns, pipe_rows, steps_of}
 use Rattle.lucid_tables.specs.Placed.{PlacedParts, stage_of}
-use Rattle.lucid_normal_form.specs.Stands.{StandsFor}
+use Rattle.lucid_normal_spec.specs.Stands.{StandsFor}
 use Rattle.lucid_drive.specs.Drive.{Drive, Progress, entries}
 use Rattle.lucid_drive.specs.Driven.{Gone, IsDriven}
 

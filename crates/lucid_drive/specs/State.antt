@@ -4,7 +4,7 @@ use Rattle.std.specs.Option.{option_map_or}
 use Rattle.lucid_conf.specs.Kept.{IsScene}
 use Rattle.lucid_conf.specs.declared.scene.Scene.{Scene}
 use Rattle.lucid_core.specs.Parts.{CoreParts}
-use Rattle.lucid_normal_form.specs.Stands.{StandsFor}
+use Rattle.lucid_normal_spec.specs.Stands.{StandsFor}
 use Rattle.lucid_pipe.specs.Pipe.{PipeParts, empty_pipe, packet_at}
 use Rattle.lucid_tables.specs.Placed.{PlacedParts}
 use Rattle.lucid_drive.specs.Drive.{Done, Drive, Progress, begun, does, progress_from, stays, text_from}

@@ -6,7 +6,7 @@
 // moves.rt has the steps as moves of the pipe, happened.rt what came of them, put.rt and ending.rt what is written, laws.rt what holds at the
 // beginning, and a drive that is worked by hand. Of specs/, Flush says how the packets in flight finish, Changes what a call makes of the
 // pipe, Happened what a step did, Driven and Standing what a pipe is that stands where a drive is, and Examples holds the drive worked by hand.
-// Stands on lucid_base, lucid_io, lucid_core, lucid_code, lucid_normal_form, lucid_tables, lucid_pipe_stream, lucid_pipe, lucid_log, lucid_conf.
+// Stands on lucid_base, lucid_io, lucid_core, lucid_code, lucid_normal_spec, lucid_tables, lucid_pipe_laws, lucid_pipe, lucid_log, lucid_conf.
 #![tactic(auto)]
 
 mod calls;

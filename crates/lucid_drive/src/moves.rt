@@ -1,7 +1,7 @@
 // The steps of a drive, as moves of its pipe. Each is told for whatever progress the pipe stands at, and needs no more of a pipe than that.
 ghost use Rattle.std.specs.Prelude.{◌≡◌, ◌+◌, ◌<◌, ◌^◌, None, length};
 ghost use Rattle.lucid_conf.specs.Kept.{IsScene, IsStep};
-ghost use Rattle.lucid_normal_form.specs.Stands.{StandsFor};
+ghost use Rattle.lucid_normal_spec.specs.Stands.{StandsFor};
 ghost use Rattle.lucid_drive.specs.Changes.{Changes};
 ghost use Rattle.lucid_drive.specs.Drive.{Progress, does, enters, goes, look_text, stays};
 ghost use Rattle.lucid_drive.specs.Happened.{Did, happened_at, happened_within};

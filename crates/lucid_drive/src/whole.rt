@@ -3,7 +3,7 @@ ghost use Rattle.std.specs.Prelude.{◌≡◌, ◌≤◌, ◌∷◌, [], length,
 ghost use Rattle.lucid_conf.specs.Kept.{IsScene};
 ghost use Rattle.lucid_core.specs.Step.{after};
 ghost use Rattle.lucid_io.specs.Puts.{PutsAll, PutsPart};
-ghost use Rattle.lucid_normal_form.specs.Stands.{StandsFor};
+ghost use Rattle.lucid_normal_spec.specs.Stands.{StandsFor};
 ghost use Rattle.lucid_pipe.specs.Pipe.{empty_pipe};
 ghost use Rattle.lucid_drive.specs.Drive.{Progress, after_steps, drive_log, entries, flight_text};
 ghost use Rattle.lucid_drive.specs.Sights.{ShowsAll, ShowsSome, sight_at, sights, sights_to};

@@ -11,9 +11,9 @@ use Rattle.lucid_core.specs.declared.body.Expr.TheOpen.{Expr-F, Stmt-F}
 use Rattle.lucid_core.specs.declared.body.Expr.TheVariants as e
 use Rattle.lucid_core.specs.declared.body.Expr.TheViews.{roll-Expr, roll-Stmt}
 use Rattle.lucid_core.specs.declared.body.Stmt.TheVariants as s
-use Rattle.lucid_effects_order.specs.Evaluation.{both, expr_step, optional, sequence, stmt_step, touch_step}
-use Rattle.lucid_effects_schemes.specs.declared.scheme.Scheme.{Scheme}
-use Rattle.lucid_effects_schemes.specs.Schemes.{Advance, Walked, body_found, either, expr_found, finds, given_found, goes_through, stmt_found, touch_found, visit}
+use Rattle.lucid_effects_spec.specs.Evaluation.{both, expr_step, optional, sequence, stmt_step, touch_step}
+use Rattle.lucid_effects_spec.specs.declared.scheme.Scheme.{Scheme}
+use Rattle.lucid_effects_spec.specs.Schemes.{Advance, Walked, body_found, either, expr_found, finds, given_found, goes_through, stmt_found, touch_found, visit}
 
 expr_is : (x : Expr) (y : Expr-F Expr Stmt Touch) → roll-Expr y ≡ x → (fs : List Scheme) (w : Walked) → expr_found x fs w ≡ expr_step finds (map-Expr Expr Stmt Touch Advance Advance Advance expr_found stmt_found touch_found y) fs w
 expr_is x y is fs w = ap (λ (z : Expr). expr_found z fs w) (sym is) ∙ ap (λ (f : Advance). f fs w) (fold-roll-Expr Advance Advance Advance (expr_step finds) (stmt_step finds) (touch_step finds) y)

@@ -6,13 +6,13 @@ use Rattle.std.proofs.lemmas.Bool.{ltb-true, ltb-false}
 use Rattle.std.proofs.lemmas.List.Elements.{All-append, All-cons, All-nil, Contains-append_left, Contains-append_right}
 use Rattle.lucid_base.specs.declared.array.ArrayName.{ArrayName}
 use Rattle.lucid_constraints.specs.Cycle.{FindsCycle, FormsCycle, Needed}
-use Rattle.lucid_effects_order.specs.Order.{Body, InOrder}
-use Rattle.lucid_effects_order.proofs.Cycles.{cycles_refuse}
+use Rattle.lucid_effects_spec.specs.Order.{Body, InOrder}
+use Rattle.lucid_effects_spec.proofs.Cycles.{cycles_refuse}
 use Rattle.lucid_effects.specs.declared.first.Refused.{Refused}
-use Rattle.lucid_effects_schemes.specs.declared.scheme.Scheme.{Scheme}
+use Rattle.lucid_effects_spec.specs.declared.scheme.Scheme.{Scheme}
 use Rattle.lucid_effects.specs.First.{IsFirst, IsRefusedFirst, comes_first, kept}
-use Rattle.lucid_effects_schemes.specs.Schemes.{scheme_of, schemes_of}
-use Rattle.lucid_effects_schemes.proofs.CyclesTell.{cycles_tell}
+use Rattle.lucid_effects_spec.specs.Schemes.{scheme_of, schemes_of}
+use Rattle.lucid_effects_spec.proofs.CyclesTell.{cycles_tell}
 
 -- ---- the first so far
 

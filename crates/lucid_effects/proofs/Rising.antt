@@ -10,10 +10,10 @@ use Rattle.lucid_core.specs.declared.body.Touch.{Touch, out-Touch, roll-out-Touc
 use Rattle.lucid_core.specs.declared.body.Expr.TheFolds.{fold-roll-Touch}
 use Rattle.lucid_core.specs.declared.body.Expr.TheVariants as e
 use Rattle.lucid_core.specs.declared.body.Stmt.TheVariants as s
-use Rattle.lucid_effects_order.specs.Evaluation.{both, expr_step, optional, sequence, stmt_step, touch_step}
-use Rattle.lucid_effects_order.proofs.Walks.{expr_relates, stmt_relates}
-use Rattle.lucid_effects_schemes.specs.declared.scheme.Scheme.{Scheme}
-use Rattle.lucid_effects_schemes.specs.Schemes.{Advance, Walked, begun, body_found, either, expr_found, finds, given_found, passes, stmt_found, through, touch_found, visit}
+use Rattle.lucid_effects_spec.specs.Evaluation.{both, expr_step, optional, sequence, stmt_step, touch_step}
+use Rattle.lucid_effects_spec.proofs.Walks.{expr_relates, stmt_relates}
+use Rattle.lucid_effects_spec.specs.declared.scheme.Scheme.{Scheme}
+use Rattle.lucid_effects_spec.specs.Schemes.{Advance, Walked, begun, body_found, either, expr_found, finds, given_found, passes, stmt_found, through, touch_found, visit}
 use Rattle.lucid_effects.proofs.Forms.{bin_is, cmp_is, gen_is, if_is, inlined_is, multi_is}
 
 abbrev Up : Advance → Type 0

@@ -6,12 +6,12 @@ use Rattle.lucid_core.specs.declared.defs.FunDef.{FunDef}
 use Rattle.lucid_core.specs.declared.defs.HandlerDef.{HandlerDef}
 use Rattle.lucid_core.specs.Parts.{CoreParts}
 use Rattle.lucid_core.specs.Valid.{IsSound}
-use Rattle.lucid_effects_order.specs.Evaluation.{body_walk}
-use Rattle.lucid_effects_order.specs.Size.{fun_nodes, handler_nodes, nodes, size, total}
-use Rattle.lucid_effects_schemes.specs.declared.scheme.Scheme.{Scheme}
-use Rattle.lucid_effects_schemes.specs.Laws.{TakesFewSteps, steps_a_node}
-use Rattle.lucid_effects_schemes.specs.Schemes.{begun, body_found, schemes_of}
-use Rattle.lucid_effects_schemes.proofs.Costs.{walks_are_short}
+use Rattle.lucid_effects_spec.specs.Evaluation.{body_walk}
+use Rattle.lucid_effects_spec.specs.Size.{fun_nodes, handler_nodes, nodes, size, total}
+use Rattle.lucid_effects_spec.specs.declared.scheme.Scheme.{Scheme}
+use Rattle.lucid_effects_spec.specs.SchemeLaws.{TakesFewSteps, steps_a_node}
+use Rattle.lucid_effects_spec.specs.Schemes.{begun, body_found, schemes_of}
+use Rattle.lucid_effects_spec.proofs.Costs.{walks_are_short}
 
 module _ {A : Type 0} (f : A → ℕ) where
   total_more : (xs : List A) (i : ℕ) (x : A) → slice_get xs i ≡ Some x → total (map f (take (suc i) xs)) ≡ total (map f (take i xs)) + f x

@@ -5,11 +5,11 @@ use Rattle.lucid_core.specs.declared.body.Stmt.{Stmt}
 use Rattle.lucid_core.specs.declared.defs.FunDef.{FunDef}
 use Rattle.lucid_core.specs.declared.defs.HandlerDef.{HandlerDef}
 use Rattle.lucid_core.proofs.Grown.{grown}
-use Rattle.lucid_effects_order.specs.Order.{Body, fun_bodies, handler_bodies}
+use Rattle.lucid_effects_spec.specs.Order.{Body, fun_bodies, handler_bodies}
 use Rattle.lucid_effects.specs.declared.first.Refused.{Refused}
-use Rattle.lucid_effects_schemes.specs.declared.scheme.Scheme.{Scheme}
+use Rattle.lucid_effects_spec.specs.declared.scheme.Scheme.{Scheme}
 use Rattle.lucid_effects.specs.First.{IsFirst, Judges}
-use Rattle.lucid_effects_schemes.specs.Schemes.{handler_schemes, scheme_of, schemes_of}
+use Rattle.lucid_effects_spec.specs.Schemes.{handler_schemes, scheme_of, schemes_of}
 
 take_more : {A : Type 0} (xs : List A) (i : ℕ) (x : A) → slice_get xs i ≡ Some x → take (suc i) xs ≡ take i xs ++ x ∷ []
 take_more [] i x is = absurd (cc)

@@ -1,7 +1,7 @@
 -- What a refusal of the check tells of a program.
 use Rattle.lucid_core.specs.Parts.{CoreParts}
 use Rattle.std.specs.Prelude.{length}
-use Rattle.lucid_effects_order.specs.Order.{bodies}
+use Rattle.lucid_effects_spec.specs.Order.{bodies}
 use Rattle.lucid_effects.specs.First.{IsRefusedFirst}
 use Rattle.lucid_effects.specs.declared.error.OrderError.{OrderError}
 use Rattle.lucid_effects.specs.declared.error.OrderError.TheVariants.{NoOrder, Memory}

@@ -5,10 +5,10 @@ use Rattle.lucid_base.specs.declared.array.ArrayName.{ArrayName}
 use Rattle.lucid_core.specs.declared.body.Stmt.{Stmt}
 use Rattle.lucid_core.specs.declared.defs.FunDef.{FunDef}
 use Rattle.lucid_core.specs.declared.defs.HandlerDef.{HandlerDef}
-use Rattle.lucid_effects_order.specs.Order.{Body, InOrder, handler_bodies}
-use Rattle.lucid_effects_order.specs.Refused.{IsFirstOf}
-use Rattle.lucid_effects_schemes.specs.declared.scheme.Scheme.{Scheme}
-use Rattle.lucid_effects_schemes.specs.Schemes.{schemes_of}
+use Rattle.lucid_effects_spec.specs.Order.{Body, InOrder, handler_bodies}
+use Rattle.lucid_effects_spec.specs.Refused.{IsFirstOf}
+use Rattle.lucid_effects_spec.specs.declared.scheme.Scheme.{Scheme}
+use Rattle.lucid_effects_spec.specs.Schemes.{schemes_of}
 use Rattle.lucid_effects.specs.declared.first.Refused.{Refused}
 
 -- It is declaration `decl`, and these names are its cycle.

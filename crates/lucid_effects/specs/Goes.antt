@@ -1,8 +1,8 @@
 -- A function of the check does a walk. Only contracts inside this crate cite this page.
 use Rattle.std.specs.Prelude.{◌≡◌, ℕ, Result, Ok, Err}
 use Rattle.lucid_base.specs.declared.memory.Memory.{Memory}
-use Rattle.lucid_effects_schemes.specs.declared.scheme.Scheme.{Scheme}
-use Rattle.lucid_effects_schemes.specs.Schemes.{Walked}
+use Rattle.lucid_effects_spec.specs.declared.scheme.Scheme.{Scheme}
+use Rattle.lucid_effects_spec.specs.Schemes.{Walked}
 
 abbrev pub walked : Scheme → ℕ → Walked
 walked s steps = record { needs = s.needs; ends = s.ends; steps = steps }

@@ -4,10 +4,10 @@ use Rattle.lucid_core.specs.declared.defs.FunDef.{FunDef}
 use Rattle.lucid_core.specs.declared.defs.HandlerDef.{HandlerDef}
 use Rattle.lucid_core.specs.Parts.{CoreParts}
 use Rattle.lucid_core.specs.Valid.{IsSound}
-use Rattle.lucid_effects_order.specs.Size.{fun_nodes, handler_nodes}
-use Rattle.lucid_effects_schemes.specs.declared.scheme.Scheme.{Scheme}
-use Rattle.lucid_effects_schemes.specs.Laws.{steps_a_node}
-use Rattle.lucid_effects_schemes.specs.Schemes.{schemes_of}
+use Rattle.lucid_effects_spec.specs.Size.{fun_nodes, handler_nodes}
+use Rattle.lucid_effects_spec.specs.declared.scheme.Scheme.{Scheme}
+use Rattle.lucid_effects_spec.specs.SchemeLaws.{steps_a_node}
+use Rattle.lucid_effects_spec.specs.Schemes.{schemes_of}
 
 -- Of the functions of any valid program of so many arrays.
 abbrev pub FunsTake : ℕ → List FunDef → ℕ → ℕ → Type 0

@@ -1,11 +1,11 @@
 // The check of a program.
 ghost use Rattle.std.specs.Prelude.{◌≡◌, ◌++◌, ◌≤◌, ◌+◌, ◌*◌, [], length, take, Err, IfErr, IfOk, IsOk, MatchOption, OnOk};
-ghost use Rattle.lucid_effects_order.specs.Laws.{TouchesRise};
-ghost use Rattle.lucid_effects_order.specs.Order.{IsAccepted, bodies, fun_bodies};
-ghost use Rattle.lucid_effects_order.specs.Size.{nodes};
-ghost use Rattle.lucid_effects_schemes.specs.Laws.{steps_a_node};
-ghost use Rattle.lucid_effects_schemes.specs.Principal.{ArePrincipal};
-ghost use Rattle.lucid_effects_schemes.specs.Schemes.{all_schemes, handler_schemes, schemes_of};
+ghost use Rattle.lucid_effects_spec.specs.Laws.{TouchesRise};
+ghost use Rattle.lucid_effects_spec.specs.Order.{IsAccepted, bodies, fun_bodies};
+ghost use Rattle.lucid_effects_spec.specs.Size.{nodes};
+ghost use Rattle.lucid_effects_spec.specs.SchemeLaws.{steps_a_node};
+ghost use Rattle.lucid_effects_spec.specs.Principal.{ArePrincipal};
+ghost use Rattle.lucid_effects_spec.specs.Schemes.{all_schemes, handler_schemes, schemes_of};
 ghost use Rattle.lucid_effects.specs.Answers.{Tells};
 ghost use Rattle.lucid_effects.specs.First.{IsFirst, JudgesHandlers};
 ghost use Rattle.lucid_effects.specs.Spent.{FunsTake, HandlersTake};
@@ -16,8 +16,7 @@ use crate::error::OrderError;
 use crate::first::Refused;
 use lucid_base::{Memory, Steps};
 use lucid_core::{Core, FunDef, HandlerDef};
-use lucid_effects_order::touches_rise;
-use lucid_effects_schemes::Scheme;
+use lucid_effects_spec::{Scheme, touches_rise};
 use std::alloc::Global;
 use std::sync::ledger::Ledger;
 

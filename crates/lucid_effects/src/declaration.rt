@@ -1,6 +1,6 @@
 // The check of one body.
 ghost use Rattle.std.specs.Prelude.{◌≡◌, ◌≤◌, IfOk, OnOk};
-ghost use Rattle.lucid_effects_schemes.specs.Schemes.{begun, body_found, scheme_of};
+ghost use Rattle.lucid_effects_spec.specs.Schemes.{begun, body_found, scheme_of};
 ghost use Rattle.lucid_effects.specs.First.{Judges};
 
 use crate::first::{Refused, is_earlier, keep};
@@ -8,12 +8,12 @@ use crate::walk::body;
 use lucid_base::{Items, Memory, Steps};
 use lucid_constraints::{Atom, Order};
 use lucid_core::Stmt;
-use lucid_effects_schemes::Scheme;
+use lucid_effects_spec::Scheme;
 use std::alloc::Global;
 use std::sync::ledger::Ledger;
 
 /// The scheme of a body, behind functions with these schemes.
-#[tactic(auto, using(lucid_effects_schemes::proofs::Counting::scheme_is))]
+#[tactic(auto, using(lucid_effects_spec::proofs::Counting::scheme_is))]
 fn scheme<L: Ledger>(
     alloc: Global,
     schemes: &[Scheme],

@@ -3,15 +3,15 @@ ghost use Rattle.std.specs.Prelude.{◌≡◌, ◌+◌, ◌≤◌, [], length, m
 ghost use Rattle.std.specs.Option.{option_map};
 ghost use Rattle.lucid_constraints.specs.Same.{same_atom, same_pair, join_all};
 ghost use Rattle.lucid_constraints.specs.Substitution.{pair};
-ghost use Rattle.lucid_effects_order.specs.Evaluation.{optional, sequence};
+ghost use Rattle.lucid_effects_spec.specs.Evaluation.{optional, sequence};
 ghost use Rattle.lucid_effects.specs.Goes.{Goes, walked};
-ghost use Rattle.lucid_effects_schemes.specs.Schemes.{passes as passes_by, through as through_by, goes_through as goes_through_by, finds};
-ghost use Rattle.lucid_effects_schemes.specs.Schemes.{expr_found, given_found, stmt_found, touch_found, body_found};
+ghost use Rattle.lucid_effects_spec.specs.Schemes.{passes as passes_by, through as through_by, goes_through as goes_through_by, finds};
+ghost use Rattle.lucid_effects_spec.specs.Schemes.{expr_found, given_found, stmt_found, touch_found, body_found};
 
 use lucid_base::{ArrayName, Items, Memory, Steps};
 use lucid_constraints::{Atom, Order, Pair, ends_at, join_ends};
 use lucid_core::{Expr, Stmt, Touch};
-use lucid_effects_schemes::Scheme;
+use lucid_effects_spec::Scheme;
 use std::alloc::Global;
 use std::mem;
 use std::sync::ledger::Ledger;
@@ -32,15 +32,13 @@ fn add_before<L: Ledger>(
     Ok(())
 }
 
-fn add_all<L: Ledger>(needs: &mut Order, steps: &mut Steps<L>, more: &[Pair]) -> Result<(), Memory>
-    ensures needs { OnOk result (needs.new ≡ join_all same_pair needs.old more.now) }
-    ensures steps { OnOk result (steps.new ≡ steps.old + length more.now) }
-    ensures most { steps.new ≤ steps.old + length more.now }
+/// Counts a step for each of these pairs.
+fn count<L: Ledger>(steps: &mut Steps<L>, pairs: &[Pair])
+    ensures { steps.new ≡ steps.old + length pairs.now }
 {
-    for pair in more {
-        needs.add(*pair, steps)?;
+    for _pair in pairs {
+        steps.tick();
     }
-    Ok(())
 }
 
 /// A call of an array, for which no function's scheme counts.
@@ -71,9 +69,9 @@ fn through<L: Ledger>(
     ensures found { Goes (through_by (Some f.now) names.now) at.old steps.old at.new steps.new result }
     ensures most { steps.new ≤ (through_by (Some f.now) names.now (walked at.old steps.old)).steps }
 {
-    let needs = f.needs.substitute(names, at.ends.as_slice())?;
+    count(steps, f.needs.pairs());
     let ends = ends_at(alloc, f.ends.as_slice(), names, at.ends.as_slice())?;
-    add_all(&mut at.needs, steps, needs.pairs())?;
+    at.needs.take_in(&f.needs, names, at.ends.as_slice())?;
     at.ends = ends;
     Ok(())
 }

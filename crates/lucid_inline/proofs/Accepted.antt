@@ -2,10 +2,10 @@
 use Rattle.std.proofs.Common.{◌≡◌, ℕ, zero, suc, All, List, [], ◌∷◌, Some, arith, length, map, refl, slice_get}
 use Rattle.lucid_core.specs.declared.defs.HandlerDef.{HandlerDef}
 use Rattle.lucid_core.specs.Parts.{CoreParts}
-use Rattle.lucid_inline_form.specs.Flat.{flat_handler, flat_of}
-use Rattle.lucid_inline_form.specs.Laws.{KeepsOrder}
-use Rattle.lucid_effects_order.specs.Order.{InOrder, IsAccepted, handler_bodies}
-use Rattle.lucid_effects_order.proofs.Rising.{handler_in_order}
+use Rattle.lucid_inline_spec.specs.Flat.{flat_handler, flat_of}
+use Rattle.lucid_inline_spec.specs.Laws.{KeepsOrder}
+use Rattle.lucid_effects_spec.specs.Order.{InOrder, IsAccepted, handler_bodies}
+use Rattle.lucid_effects_spec.proofs.Rising.{handler_in_order}
 
 module _ (core : CoreParts) where
   abbrev declared_arrays : ℕ

@@ -1,1 +1,5 @@
 pub mod Accepted
+mod Fewer
+pub mod Puts
+mod Sizes
+mod SmallCores

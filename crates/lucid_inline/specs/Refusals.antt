@@ -3,7 +3,7 @@ use Rattle.std.specs.Prelude.{◌≡◌, ℕ, ◌<◌, ◌≤◌, Some, sum}
 use Rattle.lucid_core.specs.Parts.{CoreParts}
 use Rattle.lucid_inline_count.specs.Counts.{capped}
 use Rattle.lucid_inline_count.specs.Sums.{FirstPast}
-use Rattle.lucid_inline_form.specs.Counts.{handler_lengths, handler_sizes}
+use Rattle.lucid_inline_spec.specs.Counts.{handler_lengths, handler_sizes}
 use Rattle.lucid_inline.specs.declared.error.InlineError.{InlineError}
 use Rattle.lucid_inline.specs.declared.error.InlineError.TheVariants.{TooMany, TooLarge, Memory}
 

@@ -1,10 +1,17 @@
-// Inlining: the flat form of a core, in which each call has its body put in, within its limits. Both counts of a core are found before
-// anything is built (lucid_inline_count), and one whose counts are too great is refused (specs/Refusals.antt).
-// Stands on lucid_core, lucid_inline_form, lucid_inline_count and lucid_inline_build.
+// Inlining: the flat form of a core, in which each call is replaced by the body of its function.
+// `inline` counts first (lucid_inline_count) and builds only what is within its limits; otherwise it refuses (specs/Refusals.antt).
+// The flat form does at each event what the core does, calls the same arrays in the same order, and is valid by its type.
+// The definition of the flat form is lucid_inline_spec; lucid_top_fit uses this crate. Bodies may change; the clauses of `inline` are fixed.
 #![tactic(auto)]
 
+mod bodies;
+mod depth;
 mod error;
+mod group;
 mod limits;
+mod program;
+mod single;
+mod site;
 
 pub use error::InlineError;
 pub use limits::inline;

@@ -1,15 +1,15 @@
 // The flat form of a core within its limits.
 ghost use Rattle.std.specs.Prelude.{◌≡◌, IfErr, IfOk};
-ghost use Rattle.lucid_inline_form.specs.Flat.{flat_of};
-ghost use Rattle.lucid_inline_form.specs.Laws.{KeepsOrder, KeepsSteps};
+ghost use Rattle.lucid_inline_spec.specs.Flat.{flat_of};
+ghost use Rattle.lucid_inline_spec.specs.Laws.{KeepsOrder, KeepsSteps};
 ghost use Rattle.lucid_inline.specs.Refusals.{Fits, Refused, largest};
-ghost use Rattle.lucid_effects_order.specs.Order.{IsAccepted};
+ghost use Rattle.lucid_effects_spec.specs.Order.{IsAccepted};
 
 use crate::error::InlineError;
+use crate::program::flatten;
 use lucid_core::{Core, Flat};
-use lucid_inline_build::flatten;
 use lucid_inline_count::count_core;
-use lucid_inline_form::{keeps_order, keeps_steps};
+use lucid_inline_spec::{keeps_order, keeps_steps};
 use std::alloc::Global;
 
 /// The largest flat form that is built.

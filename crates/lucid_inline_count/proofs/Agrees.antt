@@ -18,10 +18,10 @@ use Rattle.lucid_core.specs.OutCount.{Count, total as sum}
 use Rattle.lucid_core.specs.Syntax as c
 use Rattle.lucid_core.specs.Syntax.{is_core_expr, is_core_stmt, is_core_touch}
 use Rattle.lucid_core.proofs.Fine.{both_pass}
-use Rattle.lucid_inline_form.proofs.Kept.{or_false}
-use Rattle.lucid_inline_form.proofs.Outs.{total-append}
-use Rattle.lucid_inline_form.specs.Counts as z
-use Rattle.lucid_inline_form.specs.Counts.{expr_size, stmt_size, touch_size}
+use Rattle.lucid_inline_spec.proofs.Kept.{or_false}
+use Rattle.lucid_inline_spec.proofs.Outs.{total-append}
+use Rattle.lucid_inline_spec.specs.Counts as z
+use Rattle.lucid_inline_spec.specs.Counts.{expr_size, stmt_size, touch_size}
 use Rattle.lucid_inline_count.specs.declared.counts.Counts.{Counts}
 use Rattle.lucid_inline_count.specs.Found as t
 use Rattle.lucid_inline_count.specs.Found.{ExprTally, Round, Tally, expr_found, group, held_with, joined, names_of, one_more, ops, stmt_tally, total, touch_found}

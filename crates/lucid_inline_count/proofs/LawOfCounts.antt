@@ -12,7 +12,7 @@ use Rattle.lucid_core.specs.Numbers.{all_hold}
 use Rattle.lucid_core.specs.Parts.{CoreParts}
 use Rattle.lucid_core.specs.Syntax.{is_core_stmt}
 use Rattle.lucid_core.specs.Valid.{IsValid}
-use Rattle.lucid_inline_form.specs.Counts.{body_size, fun_sizes, handler_lengths, handler_sizes}
+use Rattle.lucid_inline_spec.specs.Counts.{body_size, fun_sizes, handler_lengths, handler_sizes}
 use Rattle.lucid_inline_count.specs.declared.counts.Counts.{Counts}
 use Rattle.lucid_inline_count.specs.Bodies.{body_found, fun_found, funs_found, handlers_found, held_first}
 use Rattle.lucid_inline_count.specs.Counts.{capped, counted, counts_at}

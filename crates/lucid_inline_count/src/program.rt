@@ -4,7 +4,7 @@ ghost use Rattle.lucid_inline_count.specs.Bodies.{body_found, funs_found, handle
 ghost use Rattle.lucid_core.specs.Events.{event_params};
 ghost use Rattle.lucid_core.specs.Numbered.{rising};
 ghost use Rattle.lucid_inline_count.specs.Sums.{IsSum};
-ghost use Rattle.lucid_inline_form.specs.Counts.{handler_lengths, handler_sizes};
+ghost use Rattle.lucid_inline_spec.specs.Counts.{handler_lengths, handler_sizes};
 
 use crate::blocks::block;
 use crate::body::Body;

@@ -11,7 +11,7 @@ pub record FileView : Type 0 where
   pub faults : ℕ
 
 -- the files; how many faults all names met that aren't there; the numbers of the calls that fail, and of the next call;
--- the place of the begun file, and how many of its bytes it gave since
+-- the place of the begun file, and how many of its bytes it gave since; how many reads were made
 pub record MemFilesView : Type 0 where
   pub files : List FileView
   pub absent : ℕ
@@ -19,6 +19,7 @@ pub record MemFilesView : Type 0 where
   pub calls : ℕ
   pub begun : Option ℕ
   pub given : ℕ
+  pub reads : ℕ
 
 -- the place of the first file of this name
 abbrev pub place_of : List FileView → List ℕ → Option ℕ
@@ -87,8 +88,8 @@ after_failed_begin s name = record (blamed s (place_of s.files name)) { calls = 
 
 -- after a `read` that gave n bytes
 abbrev pub after_read : MemFilesView → ℕ → MemFilesView
-after_read s n = record s { calls = raised s.calls; given = s.given + n }
+after_read s n = record s { calls = raised s.calls; given = s.given + n; reads = raised s.reads }
 
 -- after a `read` that failed
 abbrev pub after_failed_read : MemFilesView → MemFilesView
-after_failed_read s = record (blamed s s.begun) { calls = raised s.calls }
+after_failed_read s = record (blamed s s.begun) { calls = raised s.calls; reads = raised s.reads }

@@ -1,9 +1,9 @@
 // Named files that are read from their start, one at a time. Every reader above goes by these clauses alone.
-ghost use Rattle.std.specs.Prelude.{◌≡◌, ℕ, List, IsSome, MatchResult, Option, OnOk, OnErr};
+ghost use Rattle.std.specs.Prelude.{◌≡◌, ◌⊎◌, ℕ, List, IsSome, MatchResult, Option, OnOk, OnErr};
 ghost use Rattle.std.specs.Io.{ReadsAtMost};
 ghost use Rattle.std.specs.Io.KnownBytes.{ReadConsumes};
 ghost use Rattle.lucid_base.specs.Saturating.{saturating_sum};
-ghost use Rattle.lucid_io.specs.Counts.{Rose, NoneFell, SameCounts, AllRose, OthersKept};
+ghost use Rattle.lucid_io.specs.Counts.{raised, Rose, NoneFell, SameCounts, AllRose, OthersKept};
 ghost use Rattle.lucid_io.specs.Contents.{SameHeld, Tells};
 
 /// A call on a file or a sink failed. Which count of faults rose says why.
@@ -26,6 +26,12 @@ pub trait Files {
     /// How many bytes the begun file gave since its `begin`. It stops at the last u64.
     ghost given: { Self → ℕ };
 
+    /// How many reads were made. The count stops at the last u64.
+    ghost reads: { Self → ℕ };
+
+    /// Whether a file of this name was ever to be begun.
+    ghost tried: { Self → List ℕ → Type 0 };
+
     /// How many faults each name has met. A count never falls, and stands still at the last u64.
     ghost faults: { Self → List ℕ → ℕ };
 
@@ -39,6 +45,11 @@ pub trait Files {
         ensures one { OnOk result ((other : List ℕ) → begun self.new other → IsSome (held self.old other) → other ≡ name.now) }
         ensures left { OnOk result (Tells (held self.old name.now) (left self.new)) }
         ensures given { given self.new ≡ 0 }
+
+        // the calls
+        ensures reads { reads self.new ≡ reads self.old }
+        ensures tried { tried self.new name.now }
+        ensures no_other { (other : List ℕ) → tried self.new other → tried self.old other ⊎ (other ≡ name.now) }
 
         // the counts
         ensures later { NoneFell (faults self.old) (faults self.new) }
@@ -55,6 +66,10 @@ pub trait Files {
         ensures bound { ReadsAtMost result room.new }
         ensures bytes { ReadConsumes (left self.old) (left self.new) result room.new }
         ensures given { MatchResult result (λ n. given self.new ≡ saturating_sum (given self.old) n) (λ _. given self.new ≡ given self.old) }
+
+        // the calls
+        ensures reads { reads self.new ≡ raised (reads self.old) }
+        ensures untried { (name : List ℕ) → tried self.new name → tried self.old name }
 
         // the counts
         ensures later { NoneFell (faults self.old) (faults self.new) }

@@ -1,10 +1,10 @@
 // Files in memory, which fail at the calls that their maker chooses. They tell everything.
-ghost use Rattle.std.specs.Prelude.{◌≡◌, ◌↔◌, ℕ, ◌+◌, ◌-◌, ◌^◌, ◌<◌, ◌≤◌, ◌++◌, List, [], Option, Some, length, map, min, take, drop, IsTrue, IsErr, IsSome, IfOk, OnOk, OnErr, MatchResult};
+ghost use Rattle.std.specs.Prelude.{◌≡◌, ◌↔◌, ◌⊎◌, ℕ, ◌+◌, ◌-◌, ◌^◌, ◌<◌, ◌≤◌, ◌++◌, List, [], Option, Some, length, map, min, take, drop, IsTrue, IsErr, IsSome, IfOk, OnOk, OnErr, MatchResult};
 ghost use Rattle.std.specs.Io.{ReadsAtMost};
 ghost use Rattle.std.specs.Io.KnownBytes.{ReadConsumes};
 ghost use Rattle.lucid_base.specs.Saturating.{saturating_sum};
 ghost use Rattle.lucid_io.specs.Contents.{SameHeld, Tells};
-ghost use Rattle.lucid_io.specs.Counts.{Rose, NoneFell, SameCounts, AllRose, OthersKept, is_failing};
+ghost use Rattle.lucid_io.specs.Counts.{raised, Rose, NoneFell, SameCounts, AllRose, OthersKept, is_failing};
 ghost use Rattle.lucid_io.specs.MemFiles.{bytes_of, IsBegun, unread, faults_of, begin_fails, after_begin, after_failed_begin, after_read, after_failed_read, place_of, blamed_files, blamed_absent, left_at};
 
 use crate::counts::{next_fails, raise};
@@ -39,6 +39,7 @@ pub struct MemFiles {
     calls: u64,
     begun: Option<usize>,
     given: usize,
+    reads: u64,
 }
 
 impl Model for MemFiles {
@@ -49,7 +50,7 @@ impl Model for MemFiles {
 
     ghost use Rattle.lucid_io.specs.MemFilesFields.{file_view, IsThere, IsWithin};
 
-    ghost view = { λ s. record { files = map file_view s.files.items; absent = s.absent; fails = s.fails.items; calls = s.calls; begun = s.begun; given = s.given } };
+    ghost view = { λ s. record { files = map file_view s.files.items; absent = s.absent; fails = s.fails.items; calls = s.calls; begun = s.begun; given = s.given; reads = s.reads } };
 
     ghost invariant = { λ s. IsThere (map file_view s.files.items) s.begun × IsWithin (map file_view s.files.items) s.begun s.given };
 }
@@ -69,6 +70,7 @@ impl MemFiles {
             calls: 0,
             begun: None,
             given: 0,
+            reads: 0,
         })
     }
 
@@ -99,6 +101,7 @@ impl MemFiles {
         ensures err { OnErr result (self.new ≡ after_failed_read self.old) }
         ensures small { self.new.given < 2 ^ 64 }
     {
+        raise(&mut self.reads);
         if next_fails(&self.fails, &mut self.calls) {
             blame(&mut self.files, &mut self.absent, self.begun);
             return Err(Failed);
@@ -118,6 +121,11 @@ impl Files for MemFiles {
 
     ghost given = { λ s. s.given };
 
+    ghost reads = { λ s. s.reads };
+
+    // of names nothing is told
+    ghost tried = { λ _ name. Unit {0} };
+
     ghost faults = { faults_of };
 
     /// Fails exactly where the call's number stands in `fails`, or no file has the name; then nothing is begun.
@@ -133,6 +141,9 @@ impl Files for MemFiles {
         ensures one { OnOk result ((other : List ℕ) → IsBegun self.new other → IsSome (bytes_of self.old other) → other ≡ name.now) }
         ensures left { OnOk result (Tells (bytes_of self.old name.now) (Some (unread self.new))) }
         ensures given { self.new.given ≡ 0 }
+        ensures reads { self.new.reads ≡ self.old.reads }
+        ensures tried { Unit {0} }
+        ensures no_other { (other : List ℕ) → Unit {0} → Unit {0} ⊎ (other ≡ name.now) }
         ensures later { NoneFell (faults_of self.old) (faults_of self.new) }
         ensures quiet { OnOk result (SameCounts (faults_of self.old) (faults_of self.new)) }
         ensures cause { OnErr result (Rose (faults_of self.old name.now) (faults_of self.new name.now)) }
@@ -157,6 +168,8 @@ impl Files for MemFiles {
         ensures bound { ReadsAtMost result room.new }
         ensures bytes { ReadConsumes (Some (unread self.old)) (Some (unread self.new)) result room.new }
         ensures given { MatchResult result (λ n. self.new.given ≡ saturating_sum self.old.given n) (λ _. self.new.given ≡ self.old.given) }
+        ensures reads { self.new.reads ≡ raised self.old.reads }
+        ensures untried { (name : List ℕ) → Unit {0} → Unit {0} }
         ensures later { NoneFell (faults_of self.old) (faults_of self.new) }
         ensures quiet { OnOk result (SameCounts (faults_of self.old) (faults_of self.new)) }
         ensures cause { OnErr result (AllRose (IsBegun self.old) (faults_of self.old) (faults_of self.new)) }

@@ -1,13 +1,10 @@
 // A whole file, up to a limit.
-ghost use Rattle.std.specs.Prelude.{◌≡◌, ◌≢◌, ◌⊎◌, ◌+◌, ◌^◌, ◌<◌, ◌≤◌, length, IfSome, IfOk};
+ghost use Rattle.std.specs.Prelude.{◌≡◌, ◌≢◌, ◌⊎◌, ◌+◌, ◌^◌, ◌<◌, ◌≤◌, ℕ, List, length, IfSome, IfOk};
 ghost use Rattle.lucid_io.specs.Counts.{Rose, NoneFell, SameCounts, AllRose, OthersKept};
 ghost use Rattle.lucid_io.specs.Contents.{SameHeld};
 
 use crate::files::Files;
-use lucid_base::{Steps, uncounted};
 use std::alloc::{AllocError, Global};
-use std::marker::Brand;
-use std::sync::ledger::{Blank, Ledger};
 
 /// Why a file was not taken whole.
 #[derive(Clone, Copy, Debug, PartialEq, Eq)]
@@ -38,7 +35,8 @@ const CHUNK: usize = 4096;
 ///
 /// `ReadFault` comes only where the name's count of faults rose in this call, and no other answer changes a count. `TooLong` comes exactly
 /// where the file gave `limit + 1` bytes, unless memory ran out. So where no count of the name rose and the file tells at most `limit` bytes,
-/// the answer is those bytes, or want of memory. No more than `limit + 1` bytes are ever taken, by at most `limit + 2` reads.
+/// the answer is those bytes, or want of memory. No more than `limit + 1` bytes are ever taken, by at most `limit + 2` reads, and no file of
+/// another name is begun.
 pub fn read_all<F: Files>(
     alloc: Global,
     files: &mut F,
@@ -53,6 +51,10 @@ pub fn read_all<F: Files>(
     ensures given { IfOk result (λ v. F.given files.new ≡ length v.items) }
     ensures no_more { F.given files.new ≤ limit + 1 }
 
+    // the calls
+    ensures reads { F.reads files.new ≤ F.reads files.old + limit + 2 }
+    ensures no_other { (other : List ℕ) → F.tried files.new other → F.tried files.old other ⊎ (other ≡ name.now) }
+
     // when each error comes
     ensures read_fault { result ≡ Err Take.ReadFault → Rose (F.faults files.old name.now) (F.faults files.new name.now) }
     ensures too_long { result ≡ Err Take.TooLong → F.given files.new ≡ limit + 1 }
@@ -66,50 +68,17 @@ pub fn read_all<F: Files>(
     ensures others { OthersKept (λ other. other ≡ name.now) (F.held files.old) (F.faults files.old) (F.faults files.new) }
 {
     match files.begin(name) {
-        Ok(()) => take_counted::<F, Brand>(alloc, files, limit, uncounted()),
+        Ok(()) => take_rest(alloc, files, limit),
         Err(_) => Err(Take::ReadFault),
     }
 }
 
-// `take_rest`, with a counter of its own.
-fn take_counted<F: Files, L: Ledger>(
-    alloc: Global,
-    files: &mut F,
-    limit: usize,
-    blank: Blank,
-) -> Result<Vec<u8>, Take>
+// What the begun file has left, which is at most `limit` bytes. Each read but the last takes a byte.
+fn take_rest<F: Files>(alloc: Global, files: &mut F, limit: usize) -> Result<Vec<u8>, Take>
     requires small { limit < 2 ^ 32 }
     requires start { F.given files.old ≡ 0 }
-    requires name { blank.name ≡ L.name }
-    requires parts { blank.parts ≡ L.parts }
-    requires cut { 0 < L.parts }
-    ensures bytes { IfOk result (λ v. IfSome (F.left files.old) (λ left. v.items ≡ left)) }
-    ensures within { IfOk result (λ v. length v.items ≤ limit) }
-    ensures given { IfOk result (λ v. F.given files.new ≡ length v.items) }
-    ensures no_more { F.given files.new ≤ limit + 1 }
-    ensures read_fault { result ≡ Err Take.ReadFault → AllRose (F.begun files.old) (F.faults files.old) (F.faults files.new) }
-    ensures too_long { result ≡ Err Take.TooLong → F.given files.new ≡ limit + 1 }
-    ensures gave_more { F.given files.new ≡ limit + 1 → (result ≡ Err Take.TooLong) ⊎ (result ≡ Err Take.Memory) }
-    ensures longer { result ≡ Err Take.TooLong → IfSome (F.left files.old) (λ left. limit < length left) }
-    ensures held { SameHeld (F.held files.old) (F.held files.new) }
-    ensures later { NoneFell (F.faults files.old) (F.faults files.new) }
-    ensures quiet { result ≢ Err Take.ReadFault → SameCounts (F.faults files.old) (F.faults files.new) }
-    ensures others { OthersKept (F.begun files.old) (F.held files.old) (F.faults files.old) (F.faults files.new) }
-{
-    let mut steps = Steps::<L>::new(blank);
-    take_rest(alloc, files, limit, &mut steps)
-}
-
-// What the begun file has left, which is at most `limit` bytes. Each read is a step, and each but the last takes a byte.
-fn take_rest<F: Files, L: Ledger>(
-    alloc: Global,
-    files: &mut F,
-    limit: usize,
-    steps: &mut Steps<L>,
-) -> Result<Vec<u8>, Take>
-    requires small { limit < 2 ^ 32 }
-    requires start { F.given files.old ≡ 0 }
-    ensures reads { steps.new ≤ steps.old + limit + 2 }
+    ensures reads { F.reads files.new ≤ F.reads files.old + limit + 2 }
+    ensures untried { (other : List ℕ) → F.tried files.new other → F.tried files.old other }
     ensures bytes { IfOk result (λ v. IfSome (F.left files.old) (λ left. v.items ≡ left)) }
     ensures within { IfOk result (λ v. length v.items ≤ limit) }
     ensures given { IfOk result (λ v. F.given files.new ≡ length v.items) }
@@ -127,7 +96,6 @@ fn take_rest<F: Files, L: Ledger>(
     let mut room = [0u8; CHUNK];
     'fill: while bytes.len() <= limit {
         let wanted = CHUNK.min(limit + 1 - bytes.len());
-        steps.tick();
         match files.read(&mut room[..wanted]) {
             Ok(0) => return Ok(bytes),
             Ok(count) => bytes.extend_from_slice(&room[..count])?,

@@ -7,12 +7,13 @@ use crate::files::{Failed, Files};
 use std::fs;
 use std::io::Read;
 
-/// Files by path, opened for reading. One count of faults serves all names, and what is begun has every name.
+/// Files by path, opened for reading. One count of faults serves all names, what is begun has every name, and every name counts as tried.
 #[derive(Drop)]
 pub struct RealFiles<R: fs::Files + Drop> {
     rt: R,
     file: Option<R::File>,
     given: u64,
+    reads: u64,
     faults: u64,
 }
 
@@ -20,12 +21,14 @@ impl<R: fs::Files + Drop> RealFiles<R> {
     /// The files of this runtime, with nothing given and no fault met.
     pub fn new(rt: R) -> RealFiles<R>
         ensures given { ⟦<RealFiles<R> as Files>⟧.given result ≡ 0 }
+        ensures reads { ⟦<RealFiles<R> as Files>⟧.reads result ≡ 0 }
         ensures faults { (name : List ℕ) → ⟦<RealFiles<R> as Files>⟧.faults result name ≡ 0 }
     {
         RealFiles {
             rt,
             file: None,
             given: 0,
+            reads: 0,
             faults: 0,
         }
     }
@@ -34,6 +37,7 @@ impl<R: fs::Files + Drop> RealFiles<R> {
     fn fail(&mut self) -> Failed
         ensures file { self.new.file ≡ self.old.file }
         ensures given { self.new.given ≡ self.old.given }
+        ensures reads { self.new.reads ≡ self.old.reads }
         ensures faults { self.new.faults ≡ raised self.old.faults }
     {
         raise(&mut self.faults);
@@ -53,6 +57,10 @@ impl<R: fs::Files + Drop> Files for RealFiles<R> {
 
     ghost given = { λ s. s.given };
 
+    ghost reads = { λ s. s.reads };
+
+    ghost tried = { λ _ name. Unit {0} };
+
     ghost faults = { λ s name. s.faults };
 
     /// Opens the file. One that was begun before is closed. Want of memory that the machine meets here is a fault too.
@@ -70,6 +78,7 @@ impl<R: fs::Files + Drop> Files for RealFiles<R> {
 
     /// Reads on. It fails with no file open.
     fn read(&mut self, room: &mut [u8]) -> Result<usize, Failed> {
+        raise(&mut self.reads);
         if let Some(file) = &mut self.file
             && let Ok(count) = file.read(room)
         {

@@ -48,7 +48,7 @@ fn placed(alloc: Global, code: &Code, limits: &Limits, layout: Layout) -> Result
     products_name();
     guards_contradict();
     let ops = code.ops();
-    let copy = code.copy(alloc)?;
+    let copy = code.copy()?;
     let Layout { stages, .. } = layout;
     let stages = stage_codes(alloc, ops, stages)?;
     Placed::new(alloc, copy, stages)

@@ -5,8 +5,8 @@ ghost use Rattle.lucid_log_tally.specs.Line.{last_line};
 ghost use Rattle.lucid_log_tally.specs.Tally.{with_more};
 
 use crate::line::Line;
-use http_server::Log;
 use lucid_base::{hash_byte, hash_start};
+use lucid_history::History;
 use lucid_io::{Failed, Sink};
 use std::marker::Model;
 
@@ -19,7 +19,7 @@ pub struct Tally {
     line: Line,
     ended: bool,
     faults: u64,
-    bytes: Log<u8, u8>,
+    bytes: History<u8>,
 }
 
 impl Model for Tally {
@@ -30,12 +30,11 @@ impl Model for Tally {
     ghost use Rattle.std.specs.Prelude.{◌≡◌, length};
     ghost use Rattle.lucid_base.specs.Hash.{fnv_1a};
     ghost use Rattle.lucid_log_tally.specs.Line.{lines};
-    ghost use Rattle.lucid_log_tally.specs.Tally.{logged};
 
-    ghost view = { λ t. record { bytes = logged t.bytes.items; faults = t.faults } };
+    ghost view = { λ t. record { bytes = t.bytes.items; faults = t.faults } };
 
-    ghost invariant = { λ t. (t.count ≡ length (logged t.bytes.items)) × (t.hash ≡ fnv_1a (logged t.bytes.items)) ×
-        (record { kept = t.line; ended = t.ended } ≡ lines (logged t.bytes.items)) };
+    ghost invariant = { λ t. (t.count ≡ length t.bytes.items) × (t.hash ≡ fnv_1a t.bytes.items) ×
+        (record { kept = t.line; ended = t.ended } ≡ lines t.bytes.items) };
 }
 
 impl Tally {
@@ -49,7 +48,7 @@ impl Tally {
             line: Line::new(),
             ended: true,
             faults: 0,
-            bytes: Log::new(),
+            bytes: History::new(),
         }
     }
 
@@ -88,7 +87,7 @@ impl Tally {
         if !self.ended {
             self.line.push(byte);
         }
-        self.bytes = self.bytes.and(&byte, &byte);
+        self.bytes = self.bytes.and(&byte);
     }
 }
 

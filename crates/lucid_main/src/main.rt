@@ -1,80 +1,46 @@
-// The program: hands the words, the machine's files, its two output streams and the passes to the top call, and ends with its status.
-// Nothing else belongs here but the room in which output waits, so that a log costs few calls of the system.
+// The program: passes the words, the machine's files, its two output streams and the passes to the top call, and ends with its status.
+// Nothing is buffered here: each piece that the top call writes goes to the machine at once.
 #![tactic(auto)]
 
 use lucid_base::Memory;
-use lucid_io::{Files, RealFiles, RealOut, Sink, put_all};
+use lucid_io::{Files, RealFiles, RealOut, Sink};
 use lucid_pass::{Copies, Dead, Direct, Fold, Pass};
 use lucid_pipe::NoWatch;
 use lucid_top::{Status, lucid};
+use lucid_top_words::{Refusal, refuse};
 use std::alloc::Global;
 use std::env;
-use std::io::{BufWriter, ErrorKind, Write};
+use std::io::ErrorKind;
 use std::process::ExitCode;
 
-/// How many bytes of output may wait until they are handed to the machine together.
-const WAITING: usize = 65536;
-
 fn main(rt: HostRuntime) -> ExitCode {
-    let alloc = rt.alloc();
+    let mut out = RealOut::new(rt.stdout());
     let mut err = RealOut::new(rt.stderr());
-    let status = match BufWriter::with_capacity(alloc, WAITING, rt.stdout()) {
-        Ok(mut output) => {
-            let status = answered(rt, &mut output, &mut err);
-            handed_on(status, output, &mut err)
-        }
-        Err(_) => told(&mut err, Status::Memory),
+    let status = match words(&rt) {
+        Ok(words) => answered(
+            rt.alloc(),
+            words.as_slice(),
+            &mut RealFiles::new(rt),
+            &mut out,
+            &mut err,
+        ),
+        Err(refusal) => refuse(&mut err, &[], refusal),
     };
     ExitCode::from(status.code())
 }
 
-/// Does what the program's words ask for.
-fn answered<O: Write, E: Sink>(rt: HostRuntime, output: &mut O, err: &mut E) -> Status {
-    match words(&rt) {
-        Ok(words) => {
-            let mut out = RealOut::new(output);
-            match called(
-                rt.alloc(),
-                words.as_slice(),
-                &mut RealFiles::new(rt),
-                &mut out,
-                err,
-            ) {
-                Ok(status) => status,
-                Err(_) => told(err, Status::Memory),
-            }
-        }
-        Err(status) => told(err, status),
-    }
-}
-
-/// Hands on what waits. Where that fails and the call has told no line of its own, it ends as where a write of it failed. No write comes behind
-/// one that failed: what then waits is let go.
-fn handed_on<O: Write + Drop, E: Sink>(
-    status: Status,
-    mut output: BufWriter<O>,
+/// Does what the words ask for. Reports out of memory if there is no memory for the passes.
+fn answered<F: Files, W: Sink, E: Sink>(
+    alloc: Global,
+    words: &[String],
+    files: &mut F,
+    out: &mut W,
     err: &mut E,
 ) -> Status {
-    let handed = match status {
-        Status::WriteFault => Ok(()),
-        _ => output.flush(),
-    };
-    let (_output, _waiting) = output.into_parts();
-    match (handed, status) {
-        (Err(_), Status::Ok) => told(err, Status::WriteFault),
-        (_, status) => status,
+    match called(alloc, words, files, out, err) {
+        Ok(status) => status,
+        Err(_) => refuse(err, words, Refusal::Memory),
     }
-}
-
-/// Ends beside the call, with the line of this status.
-fn told<E: Sink>(err: &mut E, status: Status) -> Status {
-    let line: &[u8] = match status {
-        Status::Usage => b"usage\n",
-        Status::WriteFault => b"write fault\n",
-        _ => b"memory\n",
-    };
-    let _ = put_all(err, line);
-    status
 }
 
 /// The top call, with the passes in the order in which they run.
@@ -94,16 +60,16 @@ fn called<F: Files, W: Sink, E: Sink>(
 }
 
 /// The program's words, without its name. A word that isn't UTF-8 is none of the forms of words.
-fn words(rt: &HostRuntime) -> Result<Vec<String>, Status> {
+fn words(rt: &HostRuntime) -> Result<Vec<String>, Refusal> {
     let given = match env::args(rt) {
         Ok(given) => given,
-        Err(error) if error.kind() == ErrorKind::InvalidData => return Err(Status::Usage),
-        Err(_) => return Err(Status::Memory),
+        Err(error) if error.kind() == ErrorKind::InvalidData => return Err(Refusal::Usage),
+        Err(_) => return Err(Refusal::Memory),
     };
     let mut words = Vec::new(rt.alloc());
     for word in given.skip(1) {
         if words.push(word).is_err() {
-            return Err(Status::Memory);
+            return Err(Refusal::Memory);
         }
     }
     Ok(words)

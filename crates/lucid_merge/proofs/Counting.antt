@@ -9,6 +9,7 @@ use Rattle.lucid_tables.specs.Numbers.{is_in}
 use Rattle.lucid_tables.specs.Rows.{named_fields}
 use Rattle.lucid_tables.proofs.Members.{is_in_append}
 use Rattle.lucid_merge.specs.Product.{is_same, has, union, pair, default, clash, pairs_with, pairs, includes, keep, kept_of, product}
+use Rattle.lucid_merge.proofs.Reading.{read_otherwise}
 use Rattle.lucid_merge.proofs.Literals.{same_refl, literal_is, has_union, included, includes_from, has_field}
 use Rattle.lucid_merge.specs.RowCounts.{patterns_of, SameFor, IsNew, RowsAreCounted}
 
@@ -263,4 +264,4 @@ unfolding product
 patterns_alone a b c d e f = alike_to (product a b) (product c d) (alike_kept (pairs a b) (pairs c d) [] [] tt (alike_pairs a c b d (alike_from a c e) (alike_from b d f)))
 
 pub rows_are_counted : RowsAreCounted
-rows_are_counted = record { patterns = patterns_alone; new_field = counted }
+rows_are_counted = record { patterns = patterns_alone; new_field = counted; read_otherwise = read_otherwise }

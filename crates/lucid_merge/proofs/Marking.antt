@@ -125,7 +125,7 @@ told_still marks new rows after row (Err e) more h t ok err = subst (AreTold new
 
 -- ---- rows in another order
 
-module _ (t : Row → Bool) (rows before behind : List Row) (cut : rows ≡ before ++ behind) where
+module _ {A : Type 0} (t : A → Bool) (rows before behind : List A) (cut : rows ≡ before ++ behind) where
   turned : list_any t rows ≡ (list_any t behind || list_any t before)
   turned = ap (list_any t) cut ∙ list_any-append t before behind ∙ or_comm (list_any t before) (list_any t behind)
 

@@ -1,11 +1,14 @@
 // The rows of a product that are kept, and marks that tell where a row may stand whose pattern a pair includes.
-ghost use Rattle.std.specs.Prelude.{◌≡◌, ◌+◌, ◌<◌, ◌≤◌, ◌++◌, [], ◌∷◌, ℕ, true, length, slice_index_or, IfOk, OnOk};
+ghost use Rattle.std.specs.Prelude.{◌≡◌, ◌+◌, ◌<◌, ◌≤◌, ◌++◌, [], ◌∷◌, ℕ, true, length, bit_or, nat_eq, slice_index_or, IfOk, OnOk};
 ghost use Rattle.std.specs.List.{list_any};
 ghost use Rattle.lucid_tables.specs.declared.table.Row.{Row as TableRow};
 ghost use Rattle.lucid_merge.specs.Marks.{slot, long_slot, own_slot, is_marked, has_other, tells, may_cover, is_told};
-ghost use Rattle.lucid_merge.specs.Product.{includes, union};
+ghost use Rattle.lucid_merge.specs.Product.{clash, includes, union};
+ghost use Rattle.lucid_merge.specs.Signs.{AreHeard, covers, is_heard, rows_of};
 
+use crate::contested::{clash_by, lone_literals};
 use crate::patterns::{include_together, is_same};
+use crate::signs::{bits_for, with_bits};
 use lucid_base::{Items, Memory, Steps};
 use lucid_code::Literal;
 use lucid_tables::Row;
@@ -13,28 +16,39 @@ use std::alloc::Global;
 use std::marker::Model;
 use std::sync::ledger::Ledger;
 
+/// A row, and its signature: the bits of its pattern's literals.
+#[derive(Drop)]
+pub(crate) struct Signed {
+    row: Row,
+    sign: u64,
+}
+
 /// Rows, which contracts see as their list. A literal has two marks: 0, or the number from 1 of the last row that ends with it or with one
-/// that shares its mark, and has no other literal; and of the last that has others.
+/// that shares its mark, and has no other literal; and of the last that has others. It has bits, by which most rows that a pattern doesn't
+/// include are known at once, and of each field it is known whether other literals ask for it.
 #[derive(Drop)]
 pub(crate) struct Kept {
-    rows: Items<Row>,
+    rows: Vec<Signed>,
     marks: Vec<usize>,
+    bits: Vec<u64>,
+    lone: Vec<Literal>,
 }
 
 impl Model for Kept {
     ghost use Rattle.std.specs.Prelude.{List};
     ghost use Rattle.lucid_tables.specs.declared.table.Row.{Row};
     ghost use Rattle.lucid_merge.specs.Marks.{AreTold};
+    ghost use Rattle.lucid_merge.specs.Signs.{AreSigned, rows_of};
 
     ghost Value = { List Row };
 
-    ghost view = { λ k. k.rows };
+    ghost view = { λ k. rows_of k.rows.items };
 
-    ghost invariant = { λ k. AreTold k.marks.items k.rows };
+    ghost invariant = { λ k. AreTold k.marks.items (rows_of k.rows.items) × AreSigned k.bits.items k.rows.items };
 }
 
 /// Where a literal's mark stands of patterns that have no other.
-fn slot(literal: Literal) -> usize
+pub(crate) fn slot(literal: Literal) -> usize
     ensures { result ≡ slot literal }
 {
     ((literal.value ^ (u64::from(literal.field) * 521)) % 4096) as usize + 1
@@ -136,14 +150,36 @@ fn tell(marks: &mut Vec<usize>, pattern: &[Literal], number: usize)
     }
 }
 
-/// Whether two patterns together include that of one of these rows. It takes a step for each row that it compares.
-fn is_covered<L: Ledger>(p: &[Literal], q: &[Literal], rows: &[Row], steps: &mut Steps<L>) -> bool
-    ensures value { result ≡ list_any (λ (k : TableRow). includes (union p.now q.now) k.pattern) rows.now }
+/// Whether a signature has all bits of another.
+fn has_bits(sign: u64, own: u64) -> bool
+    ensures { result ≡ nat_eq (bit_or sign own) sign }
+{
+    (sign | own) == sign
+}
+
+/// Whether two patterns together include that of a row, where their signature tells where they don't.
+fn covers(p: &[Literal], q: &[Literal], sign: u64, row: &Signed) -> bool
+    requires { is_heard p.now q.now sign row.now ≡ true }
+    ensures { result ≡ covers p.now q.now row.now }
+{
+    has_bits(sign, row.sign) && include_together(p, q, row.row.pattern.as_slice())
+}
+
+/// Whether two patterns together include that of one of these rows. It takes a step for each row that it looks at.
+fn is_covered<L: Ledger>(
+    p: &[Literal],
+    q: &[Literal],
+    sign: u64,
+    rows: &[Signed],
+    steps: &mut Steps<L>,
+) -> bool
+    requires { AreHeard p.now q.now sign rows.now }
+    ensures value { result ≡ list_any (covers p.now q.now) rows.now }
     ensures steps { steps.new ≤ steps.old + length rows.now }
 {
     for row in rows {
         steps.tick();
-        if include_together(p, q, row.pattern.as_slice()) {
+        if covers(p, q, sign, row) {
             return true;
         }
     }
@@ -154,30 +190,36 @@ fn is_covered<L: Ledger>(p: &[Literal], q: &[Literal], rows: &[Row], steps: &mut
 fn is_covered_from<L: Ledger>(
     p: &[Literal],
     q: &[Literal],
-    rows: &[Row],
+    sign: u64,
+    rows: &[Signed],
     from: usize,
     steps: &mut Steps<L>,
 ) -> bool
-    ensures value { result ≡ list_any (λ (k : TableRow). includes (union p.now q.now) k.pattern) rows.now }
+    requires { AreHeard p.now q.now sign rows.now }
+    ensures value { result ≡ list_any (covers p.now q.now) rows.now }
     ensures steps { steps.new ≤ steps.old + length rows.now }
 {
     let (before, behind) = rows.split_at(from.min(rows.len()));
-    is_covered(p, q, behind, steps) || is_covered(p, q, before, steps)
+    is_covered(p, q, sign, behind, steps) || is_covered(p, q, sign, before, steps)
 }
 
 impl Kept {
-    /// No rows, with marks where there may be more than a few.
-    pub(crate) fn new(alloc: Global, may_be: usize) -> Result<Kept, Memory>
+    /// No rows, for those of these two tables, with marks where there may be more than a few.
+    pub(crate) fn new(alloc: Global, a: &[Row], b: &[Row]) -> Result<Kept, Memory>
         ensures { IfOk result (λ k. k ≡ []) }
     {
-        let marks = if may_be > 64 {
+        let marks = if a.len() > 64 || b.len() > 64 {
             vec![in alloc; 0; 8193]?
         } else {
             Vec::new(alloc)
         };
+        let bits = bits_for(alloc, a, b)?;
+        let lone = lone_literals(alloc, a, b)?;
         Ok(Kept {
-            rows: Items::new(alloc),
+            rows: Vec::new(alloc),
             marks,
+            bits,
+            lone,
         })
     }
 
@@ -187,7 +229,14 @@ impl Kept {
         self.rows.len()
     }
 
-    /// Whether two patterns together include that of a row. It takes a step for each row that it compares.
+    /// Whether two patterns together ask for two values of one field.
+    pub(crate) fn clash(&self, p: &[Literal], q: &[Literal]) -> bool
+        ensures { result ≡ clash p.now q.now }
+    {
+        clash_by(self.lone.as_slice(), p, q)
+    }
+
+    /// Whether two patterns together include that of a row. It takes a step for each row that it looks at.
     pub(crate) fn cover<L: Ledger>(
         &self,
         p: &[Literal],
@@ -201,23 +250,45 @@ impl Kept {
         if !may_cover(marks, p, q) {
             return false;
         }
+        let bits = self.bits.as_slice();
+        let sign = with_bits(bits, with_bits(bits, 0, p), q);
         let first = likely(marks, p).max(likely(marks, q));
-        is_covered_from(p, q, self.rows.as_slice(), first.saturating_sub(1), steps)
+        is_covered_from(
+            p,
+            q,
+            sign,
+            self.rows.as_slice(),
+            first.saturating_sub(1),
+            steps,
+        )
     }
 
     pub(crate) fn push(&mut self, row: Row) -> Result<(), Memory>
         ensures { OnOk result (self.new ≡ self.old ++ row ∷ []) }
     {
         let number = self.rows.len().saturating_add(1);
+        let sign = with_bits(self.bits.as_slice(), 0, row.pattern.as_slice());
         tell(&mut self.marks, row.pattern.as_slice(), number);
-        self.rows.push(row)?;
+        self.rows.push(Signed { row, sign })?;
         Ok(())
     }
 
-    pub(crate) fn into_rows(self) -> Items<Row>
-        ensures { result ≡ self }
+    pub(crate) fn into_rows(self, alloc: Global) -> Result<Items<Row>, Memory>
+        ensures { IfOk result (λ rows. rows ≡ self) }
     {
         let Kept { rows, .. } = self;
-        rows
+        bare_rows(alloc, rows)
     }
+}
+
+/// The rows without their signatures.
+fn bare_rows(alloc: Global, signed: Vec<Signed>) -> Result<Items<Row>, Memory>
+    ensures { IfOk result (λ rows. rows ≡ rows_of signed.items) }
+{
+    let mut rows = Items::new(alloc);
+    for one in signed {
+        let Signed { row, .. } = one;
+        rows.push(row)?;
+    }
+    Ok(rows)
 }

@@ -7,7 +7,7 @@ ghost use Rattle.lucid_merge.specs.Standing.{rows_at, IsNear};
 
 use crate::kept::Kept;
 use crate::near::{Near, suits};
-use crate::patterns::{clash, pair};
+use crate::patterns::pair;
 use lucid_base::{Memory, Steps};
 use lucid_tables::Row;
 use std::alloc::Global;
@@ -28,7 +28,7 @@ fn offer<L: Ledger>(
     let p = a.pattern.as_slice();
     let q = b.pattern.as_slice();
     steps.tick();
-    if !clash(p, q) {
+    if !kept.clash(p, q) {
         if !kept.cover(p, q, steps) {
             kept.push(pair(alloc, a, b)?)?;
         }

@@ -2,7 +2,7 @@
 ghost use Rattle.std.specs.Prelude.{◌≡◌, ◌++◌, OnOk, IfOk};
 ghost use Rattle.std.specs.List.{list_any, fold};
 ghost use Rattle.lucid_code.specs.Guards as guards;
-ghost use Rattle.lucid_merge.specs.Product.{is_same, has, includes, with_literal, union, clash, pair};
+ghost use Rattle.lucid_merge.specs.Product.{is_same, has, includes, with_literal, union, pair};
 
 use lucid_base::{Items, Memory};
 use lucid_code::Literal;
@@ -23,15 +23,7 @@ pub fn contradict(p: &[Literal], q: &[Literal]) -> bool
     p.iter().any(|l| is_opposed(*l, q))
 }
 
-/// Whether two patterns together ask for two values of one field. That the one asks for another value than the other is the likeliest.
-#[tactic(auto, using(crate::proofs::Beside::clash_turned))]
-pub(crate) fn clash(p: &[Literal], q: &[Literal]) -> bool
-    ensures { result ≡ clash p.now q.now }
-{
-    contradict(p, q) || contradict(p, p) || contradict(q, q)
-}
-
-fn is_opposed(literal: Literal, pattern: &[Literal]) -> bool
+pub(crate) fn is_opposed(literal: Literal, pattern: &[Literal]) -> bool
     ensures { result ≡ list_any (guards.opposed literal) pattern.now }
 {
     pattern.iter().any(|m| opposed(literal, *m))

@@ -1,25 +1,25 @@
 -- Switches with pipes once the last tick is done.
 use Rattle.std.proofs.Common.{◌≡◌, ℕ, suc, ◌+◌, ◌-◌, ◌*◌, ◌^◌, ◌<◌, ◌≤◌, List, [], length, get_or, set, None, IfSome, sym, ◌∙◌, ap, subst, add-one, arith}
 use Rattle.std.proofs.lemmas.List.{length-map}
-use Rattle.lucid_net_flight.proofs.Bounds.{most_lost, most_pending}
-use Rattle.lucid_net_flight.proofs.Draining.{drains_first, drains_next, keeps_draining}
-use Rattle.lucid_net_flight.proofs.Whole.{clock_self}
-use Rattle.lucid_net_flight.specs.Draining.{IsDraining, draining_count, draining_turn}
-use Rattle.lucid_net_flight.specs.Fitting.{fits}
-use Rattle.lucid_net_flight.specs.Flying.{Flying}
-use Rattle.lucid_net_flight.specs.Runs.{leaving, losses_by, made_by}
-use Rattle.lucid_net_flight.specs.Stages.{fed}
-use Rattle.lucid_net_log.proofs.Numbers.{by_number}
-use Rattle.lucid_net_log.specs.Laws.{nth}
-use Rattle.lucid_net_log.specs.Log.{State, ticks}
-use Rattle.lucid_net_log.specs.Ways.{Network}
-use Rattle.lucid_net_pass.specs.Does.{IsGood}
-use Rattle.lucid_net_pass.specs.Rows.{Cells, Rows, first_cells, rows_in, step_of}
-use Rattle.lucid_net_pass.specs.Stages.{stages_of}
+use Rattle.lucid_net_laws.proofs.Bounds.{most_lost, most_pending}
+use Rattle.lucid_net_laws.proofs.Draining.{drains_first, drains_next, keeps_draining}
+use Rattle.lucid_net_laws.proofs.Whole.{clock_self}
+use Rattle.lucid_net_laws.specs.Draining.{IsDraining, draining_count, draining_turn}
+use Rattle.lucid_net_laws.specs.Fitting.{fits}
+use Rattle.lucid_net_laws.specs.Flying.{Flying}
+use Rattle.lucid_net_laws.specs.Runs.{leaving, losses_by, made_by}
+use Rattle.lucid_net_laws.specs.Stages.{fed}
+use Rattle.lucid_net_spec.proofs.Numbers.{by_number}
+use Rattle.lucid_net_spec.specs.Laws.{nth}
+use Rattle.lucid_net_spec.specs.Log.{State, ticks}
+use Rattle.lucid_net_spec.specs.Ways.{Network}
+use Rattle.lucid_net_laws.specs.Does.{IsGood}
+use Rattle.lucid_net_laws.specs.Rows.{Cells, Rows, first_cells, rows_in, step_of}
+use Rattle.lucid_net_laws.specs.PipeStages.{stages_of}
 use Rattle.lucid_pipe.specs.Packets.{Packet}
 use Rattle.lucid_pipe.specs.Pipe.{PipeParts}
-use Rattle.lucid_pipe_stream.specs.Moves.{advance}
-use Rattle.lucid_pipe_stream.specs.Stream.{picture}
+use Rattle.lucid_pipe_laws.specs.Moves.{advance}
+use Rattle.lucid_pipe_laws.specs.Stream.{picture}
 use Rattle.lucid_tables.specs.Placed.{PlacedParts}
 use Rattle.lucid_net.specs.Leaving.{Fits, left}
 use Rattle.lucid_net.specs.Pipes.{IsDrained, IsPiped, IsReady, Piped, flying_of}

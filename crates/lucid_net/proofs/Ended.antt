@@ -7,22 +7,22 @@ use Rattle.lucid_base.specs.declared.array.ArrayDef.{ArrayDef}
 use Rattle.lucid_core.specs.Parts.{CoreParts}
 use Rattle.lucid_log.specs.Cells.{cells_text}
 use Rattle.lucid_log.specs.Ending.{ending_text}
-use Rattle.lucid_net_flight.proofs.Draining.{drained}
-use Rattle.lucid_net_flight.proofs.Flying.{flying_start}
-use Rattle.lucid_net_flight.proofs.Whole.{whole_at}
-use Rattle.lucid_net_flight.specs.Fitting.{fits}
-use Rattle.lucid_net_flight.specs.Flying.{IsFlying}
-use Rattle.lucid_net_flight.specs.Runs.{late_text}
-use Rattle.lucid_net_flight.specs.Whole.{IsWhole}
-use Rattle.lucid_net_log.specs.Log.{all_cells, start, ticks}
-use Rattle.lucid_net_log.specs.Pieces.{pieces}
-use Rattle.lucid_net_log.specs.Ways.{Network}
-use Rattle.lucid_net_pass.specs.Does.{IsGood}
-use Rattle.lucid_net_pass.specs.Rows.{Cells, Rows, cells_of, rows_in}
-use Rattle.lucid_net_pass.specs.Stages.{stages_of}
+use Rattle.lucid_net_laws.proofs.Draining.{drained}
+use Rattle.lucid_net_laws.proofs.Flying.{flying_start}
+use Rattle.lucid_net_laws.proofs.Whole.{whole_at}
+use Rattle.lucid_net_laws.specs.Fitting.{fits}
+use Rattle.lucid_net_laws.specs.Flying.{IsFlying}
+use Rattle.lucid_net_laws.specs.Runs.{late_text}
+use Rattle.lucid_net_laws.specs.Whole.{IsWhole}
+use Rattle.lucid_net_spec.specs.Log.{all_cells, start, ticks}
+use Rattle.lucid_net_spec.specs.Pieces.{pieces}
+use Rattle.lucid_net_spec.specs.Ways.{Network}
+use Rattle.lucid_net_laws.specs.Does.{IsGood}
+use Rattle.lucid_net_laws.specs.Rows.{Cells, Rows, cells_of, rows_in}
+use Rattle.lucid_net_laws.specs.PipeStages.{stages_of}
 use Rattle.lucid_pipe.specs.Packets.{Packet}
 use Rattle.lucid_pipe.specs.Pipe.{PipeParts, empty_pipe as new_pipe}
-use Rattle.lucid_pipe_stream.specs.Rows.{Row, empty_pipe}
+use Rattle.lucid_pipe_laws.specs.Rows.{Row, empty_pipe}
 use Rattle.lucid_queue.specs.declared.pending.Pending.{Pending}
 use Rattle.lucid_tables.specs.Placed.{PlacedParts}
 use Rattle.lucid_net.specs.Kept.{is_kept}

@@ -6,25 +6,25 @@ use Rattle.std.specs.Option.{option_map_or}
 use Rattle.lucid_base.specs.Cells.{row_of, zero_cells}
 use Rattle.lucid_base.specs.declared.array.ArrayDef.{ArrayDef}
 use Rattle.lucid_core.specs.Step.{Entry}
-use Rattle.lucid_net_flight.proofs.Leavers.{picture_long}
-use Rattle.lucid_net_flight.proofs.Whole.{clock_start, whole_at}
-use Rattle.lucid_net_flight.specs.Fitting.{fits}
-use Rattle.lucid_net_flight.specs.Runs.{entering}
-use Rattle.lucid_net_flight.specs.Stages.{fed, packet_of}
-use Rattle.lucid_net_flight.specs.Whole.{IsWhole}
-use Rattle.lucid_net_log.specs.Log.{ticks}
-use Rattle.lucid_net_log.specs.Ways.{Network, Run}
-use Rattle.lucid_net_pass.specs.Does.{IsGood}
-use Rattle.lucid_net_pass.specs.Rows.{Cells, Rows, cells_of, first_cells, rows_in, step_of}
-use Rattle.lucid_net_pass.specs.Stages.{stages_of}
+use Rattle.lucid_net_laws.proofs.Leavers.{picture_long}
+use Rattle.lucid_net_laws.proofs.Whole.{clock_start, whole_at}
+use Rattle.lucid_net_laws.specs.Fitting.{fits}
+use Rattle.lucid_net_laws.specs.Runs.{entering}
+use Rattle.lucid_net_laws.specs.Stages.{fed, packet_of}
+use Rattle.lucid_net_laws.specs.Whole.{IsWhole}
+use Rattle.lucid_net_spec.specs.Log.{ticks}
+use Rattle.lucid_net_spec.specs.Ways.{Network, Run}
+use Rattle.lucid_net_laws.specs.Does.{IsGood}
+use Rattle.lucid_net_laws.specs.Rows.{Cells, Rows, cells_of, first_cells, rows_in, step_of}
+use Rattle.lucid_net_laws.specs.PipeStages.{stages_of}
 use Rattle.lucid_pipe.specs.Packets.{Packet}
 use Rattle.lucid_pipe.specs.Pipe.{PipeParts}
 use Rattle.lucid_pipe.specs.Rows.{array_cells, by_array}
-use Rattle.lucid_pipe_stream.proofs.Stream.{settles_to}
-use Rattle.lucid_pipe_stream.specs.Rows.{Row, Steps, after_first, row, settled}
-use Rattle.lucid_pipe_stream.specs.Moves.{through}
-use Rattle.lucid_pipe_stream.specs.Sights.{FlightLaw, KeepsTag, StageLaw, pasts}
-use Rattle.lucid_pipe_stream.specs.Stream.{cells_at, next, picture, ran}
+use Rattle.lucid_pipe_laws.proofs.Stream.{settles_to}
+use Rattle.lucid_pipe_laws.specs.Rows.{Row, Steps, after_first, row, settled}
+use Rattle.lucid_pipe_laws.specs.Moves.{through}
+use Rattle.lucid_pipe_laws.specs.Sights.{FlightLaw, KeepsTag, StageLaw, pasts}
+use Rattle.lucid_pipe_laws.specs.Stream.{cells_at, next, picture, ran}
 use Rattle.lucid_tables.specs.Placed.{PlacedParts, stage_of}
 use Rattle.lucid_tables.specs.declared.stage.StageCode.{StageCode}
 use Rattle.lucid_net.specs.Holds.{Holds, entry_by, entry_of}
@@ -101,7 +101,7 @@ row_cells [] k = refl
 row_cells (r ∷ rows) zero = refl
 row_cells (r ∷ rows) (suc k) = row_cells rows k
 
-past_end : {X : Type 0} (xs : List X) (k : ℕ) (d : X) → length xs ≤ k → get_or xs k d ≡ d
+pub past_end : {X : Type 0} (xs : List X) (k : ℕ) (d : X) → length xs ≤ k → get_or xs k d ≡ d
 past_end [] k d le = refl
 past_end (x ∷ xs) zero d le = absurd (omega (arith, le))
 past_end (x ∷ xs) (suc k) d le = past_end xs k d (omega (arith, le))

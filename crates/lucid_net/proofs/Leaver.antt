@@ -2,12 +2,12 @@
 use Rattle.std.proofs.Common.{◌≡◌, ◌+◌, List, length, Option, None, Some, IfSome, Bool, true, sym, ◌∙◌, ap, subst}
 use Rattle.std.specs.List.{list_all}
 use Rattle.lucid_core.specs.Parts.{CoreParts}
-use Rattle.lucid_net_log.proofs.Passing.{without_passes}
-use Rattle.lucid_net_log.specs.Ways.{Run}
-use Rattle.lucid_net_pass.specs.Rows.{Rows, rows_in, step_of}
+use Rattle.lucid_net_spec.proofs.Passing.{without_passes}
+use Rattle.lucid_net_spec.specs.Ways.{Run}
+use Rattle.lucid_net_laws.specs.Rows.{Rows, rows_in, step_of}
 use Rattle.lucid_pipe.specs.Pipe.{PipeParts, packet_at}
-use Rattle.lucid_pipe_stream.proofs.Moves.{backs_free}
-use Rattle.lucid_pipe_stream.specs.Moves.{advance}
+use Rattle.lucid_pipe_laws.proofs.Moves.{backs_free}
+use Rattle.lucid_pipe_laws.specs.Moves.{advance}
 use Rattle.lucid_queue.specs.Waiting.{without_first}
 use Rattle.lucid_queue.specs.declared.pending.Pending.{Pending}
 use Rattle.lucid_net.specs.Kept.{is_kept}

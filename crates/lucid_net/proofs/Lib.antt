@@ -12,6 +12,7 @@ mod Ready
 mod Running
 mod Showing
 mod Shown
+mod Sighting
 mod Standing
 mod Telling
 mod Turning

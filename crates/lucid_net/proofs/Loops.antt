@@ -2,11 +2,11 @@
 use Rattle.std.proofs.Common.{◌≡◌, ℕ, ◌+◌, ◌-◌, ◌<◌, ◌≤◌, List, Option, ◌∙◌, subst, arith}
 use Rattle.lucid_io.proofs.Leaves.{Leaves-nothing, Leaves-whole}
 use Rattle.lucid_io.specs.Puts.{Leaves, PutsAll}
-use Rattle.lucid_net_flight.proofs.Texts.{late_turns}
-use Rattle.lucid_net_flight.specs.Runs.{late_text, left_text}
-use Rattle.lucid_net_log.proofs.Telling.{pieces-all, pieces-none}
-use Rattle.lucid_net_log.specs.Pieces.{pieces}
-use Rattle.lucid_net_log.specs.Ways.{Network}
+use Rattle.lucid_net_laws.proofs.Texts.{late_turns}
+use Rattle.lucid_net_laws.specs.Runs.{late_text, left_text}
+use Rattle.lucid_net_spec.proofs.Telling.{pieces-all, pieces-none}
+use Rattle.lucid_net_spec.specs.Pieces.{pieces}
+use Rattle.lucid_net_spec.specs.Ways.{Network}
 use Rattle.lucid_tables.specs.Placed.{PlacedParts}
 use Rattle.lucid_net.specs.Pipes.{IsDrained, IsPiped, Piped}
 

@@ -1,13 +1,13 @@
 -- Packets of a pipe that move one after another.
 use Rattle.std.proofs.Common.{◌≡◌, ℕ, ◌+◌, ◌-◌, ◌<◌, ◌≤◌, Option, None, length, refl, sym, ◌∙◌, ap, subst, arith}
 use Rattle.std.specs.Option.{option_map}
-use Rattle.lucid_net_log.specs.Ways.{Run}
-use Rattle.lucid_net_pass.specs.Rows.{Rows, rows_in, step_of}
-use Rattle.lucid_net_pass.specs.Stages.{run_of_packet}
+use Rattle.lucid_net_spec.specs.Ways.{Run}
+use Rattle.lucid_net_laws.specs.Rows.{Rows, rows_in, step_of}
+use Rattle.lucid_net_laws.specs.PipeStages.{run_of_packet}
 use Rattle.lucid_pipe.specs.Packets.{Packet}
 use Rattle.lucid_pipe.specs.Pipe.{PipeParts, packet_at}
-use Rattle.lucid_pipe_stream.proofs.Moves.{backs_free, moves_all, moves_first, moves_next}
-use Rattle.lucid_pipe_stream.specs.Moves.{advance, backs, goes}
+use Rattle.lucid_pipe_laws.proofs.Moves.{backs_free, moves_all, moves_first, moves_next}
+use Rattle.lucid_pipe_laws.specs.Moves.{advance, backs, goes}
 use Rattle.lucid_tables.specs.Placed.{PlacedParts}
 use Rattle.lucid_net.proofs.Went.{packet_is, rows_long, slot_at}
 

@@ -5,8 +5,8 @@ use Rattle.std.specs.Option.{option_to_list}
 use Rattle.std.proofs.lemmas.List.Sums.{sum_by-cons}
 use Rattle.lucid_base.specs.declared.event.Out.TheVariants.{Gen, Say}
 use Rattle.lucid_base.specs.declared.event.Out.{Out}
-use Rattle.lucid_net_log.specs.Log.{losses, made, put_all}
-use Rattle.lucid_net_log.specs.Ways.{Arrival, Network, Run, arrival, departure, is_lost, lost_marks, pending_out, pending_outs}
+use Rattle.lucid_net_spec.specs.Log.{losses, made, put_all}
+use Rattle.lucid_net_spec.specs.Ways.{Arrival, Network, Run, arrival, departure, is_lost, lost_marks, pending_out, pending_outs}
 use Rattle.lucid_queue.specs.Order.{is_before}
 use Rattle.lucid_queue.specs.Waiting.{put_in}
 use Rattle.lucid_queue.specs.declared.pending.Pending.{Pending}

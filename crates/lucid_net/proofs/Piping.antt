@@ -5,27 +5,27 @@ use Rattle.std.proofs.lemmas.Bool.Decides.{nat_tests}
 use Rattle.std.proofs.lemmas.List.{length-map}
 use Rattle.std.specs.List.{AllByRecursion, find, list_all}
 use Rattle.lucid_code.specs.Inputs.{IsInput}
-use Rattle.lucid_net_flight.proofs.Behind.{stays_behind}
-use Rattle.lucid_net_flight.proofs.Bounds.{most_entered, most_lost}
-use Rattle.lucid_net_flight.proofs.Fitting.{all_fit}
-use Rattle.lucid_net_flight.proofs.Flying.{flying_next, keeps_flying, leaves_run, leaving_early}
-use Rattle.lucid_net_flight.proofs.Leavers.{Entered, leaving_run, picture_long}
-use Rattle.lucid_net_flight.proofs.Whole.{clock_self, clock_start}
-use Rattle.lucid_net_flight.specs.Behind.{TurnBehind}
-use Rattle.lucid_net_flight.specs.Fitting.{fits}
-use Rattle.lucid_net_flight.specs.Flying.{Flying, IsFlying, flying_turn, one_if, packet_for}
-use Rattle.lucid_net_flight.specs.Runs.{leaving, losses_by, made_by}
-use Rattle.lucid_net_flight.specs.Stages.{fed}
-use Rattle.lucid_net_log.proofs.Passing.{without_passes}
-use Rattle.lucid_net_log.specs.Log.{put_all, ticks, turns}
-use Rattle.lucid_net_log.specs.Ways.{Network, Run}
-use Rattle.lucid_net_pass.specs.Does.{IsGood}
-use Rattle.lucid_net_pass.specs.Rows.{Cells, Rows, first_cells, rows_in, step_of, with_rows}
-use Rattle.lucid_net_pass.specs.Stages.{stages_of}
+use Rattle.lucid_net_laws.proofs.Behind.{stays_behind}
+use Rattle.lucid_net_laws.proofs.Bounds.{most_entered, most_lost}
+use Rattle.lucid_net_laws.proofs.Fitting.{all_fit}
+use Rattle.lucid_net_laws.proofs.Flying.{flying_next, keeps_flying, leaves_run, leaving_early}
+use Rattle.lucid_net_laws.proofs.Leavers.{Entered, leaving_run, picture_long}
+use Rattle.lucid_net_laws.proofs.Whole.{clock_self, clock_start}
+use Rattle.lucid_net_laws.specs.Behind.{TurnBehind}
+use Rattle.lucid_net_laws.specs.Fitting.{fits}
+use Rattle.lucid_net_laws.specs.Flying.{Flying, IsFlying, flying_turn, one_if, packet_for}
+use Rattle.lucid_net_laws.specs.Runs.{leaving, losses_by, made_by}
+use Rattle.lucid_net_laws.specs.Stages.{fed}
+use Rattle.lucid_net_spec.proofs.Passing.{without_passes}
+use Rattle.lucid_net_spec.specs.Log.{put_all, ticks, turns}
+use Rattle.lucid_net_spec.specs.Ways.{Network, Run}
+use Rattle.lucid_net_laws.specs.Does.{IsGood}
+use Rattle.lucid_net_laws.specs.Rows.{Cells, Rows, first_cells, rows_in, step_of, with_rows}
+use Rattle.lucid_net_laws.specs.PipeStages.{stages_of}
 use Rattle.lucid_pipe.specs.Packets.{Packet}
 use Rattle.lucid_pipe.specs.Pipe.{PipeParts}
-use Rattle.lucid_pipe_stream.specs.Moves.{advance, entered_by}
-use Rattle.lucid_pipe_stream.specs.Stream.{picture}
+use Rattle.lucid_pipe_laws.specs.Moves.{advance, entered_by}
+use Rattle.lucid_pipe_laws.specs.Stream.{picture}
 use Rattle.lucid_queue.specs.Waiting.{is_ready, without_first}
 use Rattle.lucid_queue.specs.declared.pending.Pending.{Pending}
 use Rattle.lucid_tables.specs.Placed.{PlacedParts}

@@ -12,14 +12,14 @@ use Rattle.lucid_conf.specs.declared.scene.Link.{Link}
 use Rattle.lucid_conf.specs.declared.scene.Scene.{Scene}
 use Rattle.lucid_core.specs.Laws.{OutsFit}
 use Rattle.lucid_core.specs.Parts.{CoreParts}
-use Rattle.lucid_net_flight.proofs.Fitting.{all_fit}
-use Rattle.lucid_net_flight.specs.Fitting.{FileFits, SendsFit, fits}
-use Rattle.lucid_net_flight.specs.Stages.{DoAs}
-use Rattle.lucid_net_log.specs.Log.{whole}
-use Rattle.lucid_net_log.specs.Ways.{Network}
-use Rattle.lucid_net_pass.specs.Does.{IsGood, PassDoesAs, TakesAll}
-use Rattle.lucid_net_pass.specs.Stages.{stages_of}
-use Rattle.lucid_normal_form.specs.Stands.{StandsFor}
+use Rattle.lucid_net_laws.proofs.Fitting.{all_fit}
+use Rattle.lucid_net_laws.specs.Fitting.{FileFits, SendsFit, fits}
+use Rattle.lucid_net_laws.specs.Stages.{DoAs}
+use Rattle.lucid_net_spec.specs.Log.{whole}
+use Rattle.lucid_net_spec.specs.Ways.{Network}
+use Rattle.lucid_net_laws.specs.Does.{IsGood, PassDoesAs, TakesAll}
+use Rattle.lucid_net_laws.specs.PipeStages.{stages_of}
+use Rattle.lucid_normal_spec.specs.Stands.{StandsFor}
 use Rattle.lucid_tables.specs.Placed.{PlacedParts}
 use Rattle.lucid_net.specs.Pipes.{IsReady}
 use Rattle.lucid_net.proofs.Went.{first_long}

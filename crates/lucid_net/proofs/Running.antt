@@ -7,12 +7,12 @@ use Rattle.lucid_core.specs.Parts.{CoreParts}
 use Rattle.lucid_io.proofs.Leaves.{Leaves-whole, Leaves-after, Leaves-nothing}
 use Rattle.lucid_io.specs.Puts.{Leaves, PutsAll}
 use Rattle.lucid_log.specs.Cells.{cells_text}
-use Rattle.lucid_net_flight.proofs.Texts.{late_ticks}
-use Rattle.lucid_net_flight.specs.Runs.{late_text}
-use Rattle.lucid_net_log.proofs.Telling.{pieces-all, pieces-next, pieces-none, pieces-push}
-use Rattle.lucid_net_log.specs.Log.{all_cells, end_text, log, ticks, whole}
-use Rattle.lucid_net_log.specs.Pieces.{pieces}
-use Rattle.lucid_net_log.specs.Ways.{Network}
+use Rattle.lucid_net_laws.proofs.Texts.{late_ticks}
+use Rattle.lucid_net_laws.specs.Runs.{late_text}
+use Rattle.lucid_net_spec.proofs.Telling.{pieces-all, pieces-next, pieces-none, pieces-push}
+use Rattle.lucid_net_spec.specs.Log.{all_cells, end_text, log, ticks, whole}
+use Rattle.lucid_net_spec.specs.Pieces.{pieces}
+use Rattle.lucid_net_spec.specs.Ways.{Network}
 use Rattle.lucid_pipe.specs.declared.sight.Sight.{Sight}
 use Rattle.lucid_tables.specs.Placed.{PlacedParts}
 use Rattle.lucid_net.specs.Seen.{AreSame, Seen, lag, lag_by, last_text, network}

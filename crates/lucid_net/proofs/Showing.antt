@@ -4,31 +4,31 @@ use Rattle.std.proofs.lemmas.List.{length-map}
 use Rattle.std.proofs.lemmas.List.Sums.{sum_by-cons}
 use Rattle.std.specs.List.{count_by}
 use Rattle.std.specs.Option.{option_map}
-use Rattle.lucid_net_flight.specs.Flying.{one_if}
-use Rattle.lucid_net_flight.specs.Runs.{entering}
-use Rattle.lucid_net_flight.specs.Stages.{fed, packet_of}
-use Rattle.lucid_net_log.specs.Ways.{Network, Run}
-use Rattle.lucid_net_pass.specs.Rows.{first_cells, rows_in, step_of}
-use Rattle.lucid_net_pass.specs.Stages.{stages_of}
+use Rattle.lucid_net_laws.specs.Flying.{one_if}
+use Rattle.lucid_net_laws.specs.Runs.{entering}
+use Rattle.lucid_net_laws.specs.Stages.{fed, packet_of}
+use Rattle.lucid_net_spec.specs.Ways.{Network, Run}
+use Rattle.lucid_net_laws.specs.Rows.{first_cells, rows_in, step_of}
+use Rattle.lucid_net_laws.specs.PipeStages.{stages_of}
 use Rattle.lucid_pipe.specs.Pipe.{PipeParts, empty_pipe, in_flight}
 use Rattle.lucid_pipe.specs.Sights.{Shows, sight_of}
 use Rattle.lucid_pipe.specs.declared.sight.Sight.{Sight}
-use Rattle.lucid_pipe_stream.specs.Moves.{through}
-use Rattle.lucid_pipe_stream.specs.Rows.{Row, Steps, after_first}
-use Rattle.lucid_pipe_stream.specs.Stream.{next, picture, ran}
+use Rattle.lucid_pipe_laws.specs.Moves.{through}
+use Rattle.lucid_pipe_laws.specs.Rows.{Row, Steps, after_first}
+use Rattle.lucid_pipe_laws.specs.Stream.{next, picture, ran}
 use Rattle.lucid_tables.specs.Placed.{PlacedParts}
 use Rattle.lucid_net.specs.Numbered.{FewPipes, Packets, WithinPipes}
 use Rattle.lucid_net.specs.Pipes.{piped_of}
-use Rattle.lucid_net.specs.Rows.{pipe_at}
 use Rattle.lucid_net.specs.Seen.{lag_by}
 use Rattle.lucid_net.specs.Sent.{net_of}
-use Rattle.lucid_net.specs.Sights.{ShowsAll, in_last, shown, shown_from, sights, sights_from}
+use Rattle.lucid_net.specs.Sights.{ShowsAll, in_last, shown, shown_from, sight_at, sights, sights_from}
 use Rattle.lucid_net.specs.Stands.{IsAt, placed_of}
 use Rattle.lucid_net.specs.declared.machines.Machines.TheVariants as machines
 use Rattle.lucid_net.specs.declared.machines.Machines.{Machines}
 use Rattle.lucid_net.specs.declared.world.World.{World}
 use Rattle.lucid_net.proofs.Piping.{pipe_between}
 use Rattle.lucid_net.proofs.Running.{shows_more, shows_none}
+use Rattle.lucid_net.proofs.Sighting.{sight_between}
 use Rattle.lucid_net.proofs.Went.{count_slots}
 
 -- those before this number are shown
@@ -56,16 +56,17 @@ showing_all old now pipes switch le so =
     let none : drop switch pipes ≡ [] = drop_of_length-le pipes le in
     subst (ShowsAll old now) (sym (so.parts ∙ ap (λ (l : List PipeParts). so.done ++ shown_from switch l) none ∙ append-nil so.done)) so.shows
 
--- pipes that are those of the definition
-pipes_are : (net : Network) (placed : PlacedParts) (at i : ℕ) (pipes : List PipeParts) → ((k : ℕ) (d : PipeParts) → k < length pipes → get_or pipes k d ≡ pipe_at net placed at (i + k)) →
+-- pipes that are seen as the definition says
+pipes_are : (net : Network) (placed : PlacedParts) (at i : ℕ) (pipes : List PipeParts) → ((k : ℕ) (d : PipeParts) → k < length pipes → sight_of (i + k) (get_or pipes k d) ≡ sight_at net placed at (i + k)) →
     shown_from i pipes ≡ sights_from net placed at i (length pipes)
 pipes_are net placed at i [] are = refl
 pipes_are net placed at i (p ∷ pipes) are =
     let none : i + zero ≡ i = omega arith in
-    let here : p ≡ pipe_at net placed at i = are zero p (omega arith) ∙ ap (pipe_at net placed at) none in
-    ap (λ (q : PipeParts). sight_of i q ∷ shown_from (i + 1) pipes) here
-    ∙ ap (λ (l : List Sight). sight_of i (pipe_at net placed at i) ∷ l) (pipes_are net placed at (i + 1) pipes (λ (k : ℕ) (d : PipeParts) (lt : k < length pipes).
-    (let next : i + suc k ≡ i + 1 + k = omega arith in are (suc k) d (omega (arith, lt)) ∙ ap (pipe_at net placed at) next)))
+    let here : sight_of i p ≡ sight_at net placed at i = subst (λ (j : ℕ). sight_of j p ≡ sight_at net placed at j) none (are zero p (omega arith)) in
+    ap (λ (s : Sight). s ∷ shown_from (i + 1) pipes) here
+    ∙ ap (λ (l : List Sight). sight_at net placed at i ∷ l) (pipes_are net placed at (i + 1) pipes (λ (k : ℕ) (d : PipeParts) (lt : k < length pipes).
+    (let next : i + suc k ≡ i + 1 + k = omega arith in
+    subst (λ (j : ℕ). sight_of j (get_or pipes k d) ≡ sight_at net placed at j) next (are (suc k) d (omega (arith, lt))))))
 
 itself : (xs : List PipeParts) (k : ℕ) (d : PipeParts) → k < length xs → get_or xs k d ≡ get_or xs k (get_or xs k d)
 itself [] k d lt = absurd (omega (arith, lt))
@@ -83,9 +84,9 @@ pub are_within : (world : World) (now : Machines) (at switch : ℕ) → IsAt (ne
 are_within world (machines.Whole switches) at switch is lt = tt
 are_within world (machines.Piped pipes) at switch is lt = omega (arith, lt, is.piped.flying.long, length-map pipes.pipes.items (λ (q : PipeParts). (rows_in q)))
 
-pub shown_is : (world : World) (now : Machines) (at : ℕ) → IsAt (net_of world) at now → shown now ≡ sights (net_of world) (placed_of now) at
-shown_is world (machines.Whole switches) at is = refl
-shown_is world (machines.Piped pipes) at is =
+pub shown_is : (world : World) (now : Machines) (at : ℕ) → at ≤ world.scene.now.stop → IsAt (net_of world) at now → shown now ≡ sights (net_of world) (placed_of now) at
+shown_is world (machines.Whole switches) at within is = refl
+shown_is world (machines.Piped pipes) at within is =
     pipes_are net placed at 0 items same ∙ ap (sights_from net placed at 0) long
   where
     net : Network
@@ -100,13 +101,13 @@ shown_is world (machines.Piped pipes) at is =
     long : length items ≡ net.scene.switches
     long = sym (length-map items (λ (q : PipeParts). (rows_in q))) ∙ is.piped.flying.long
 
-    same : (k : ℕ) (d : PipeParts) → k < length items → get_or items k d ≡ pipe_at net placed at (0 + k)
+    same : (k : ℕ) (d : PipeParts) → k < length items → sight_of (0 + k) (get_or items k d) ≡ sight_at net placed at (0 + k)
     same k d lt =
         let below : k < net.scene.switches = subst (λ (n : ℕ). k < n) long lt in
         let none : k ≡ 0 + k = omega arith in
         let here = itself items k d lt in
-        pipe_between net placed at k (piped_of pipes) (get_or items k d) below is.piped here
-        ∙ ap (pipe_at net placed at) none
+        subst (λ (j : ℕ). sight_of j (get_or items k d) ≡ sight_at net placed at j) none
+        (sight_between net placed at k (piped_of pipes) (get_or items k d) is.ready below within is.piped here)
 
 -- ---- how many are in flight
 

@@ -1,10 +1,10 @@
 -- A network stays what it is asked to be.
 use Rattle.std.proofs.Common.{◌≡◌, ℕ, ◌+◌, sym, ◌∙◌, ap}
-use Rattle.lucid_net_flight.specs.Runs.{late_text}
-use Rattle.lucid_net_log.proofs.Telling.{tick_untold}
-use Rattle.lucid_net_log.specs.Log.{State, ticks, turns}
-use Rattle.lucid_net_log.specs.Pieces.{untold}
-use Rattle.lucid_net_log.specs.Ways.{Network}
+use Rattle.lucid_net_laws.specs.Runs.{late_text}
+use Rattle.lucid_net_spec.proofs.Telling.{tick_untold}
+use Rattle.lucid_net_spec.specs.Log.{State, ticks, turns}
+use Rattle.lucid_net_spec.specs.Pieces.{untold}
+use Rattle.lucid_net_spec.specs.Ways.{Network}
 use Rattle.lucid_net.specs.Kept.{IsKept}
 use Rattle.lucid_net.specs.Stands.{IsWholeAt}
 

@@ -5,12 +5,12 @@ use Rattle.lucid_core.specs.Fits.{event_fits}
 use Rattle.lucid_core.specs.Parts.{CoreParts}
 use Rattle.lucid_io.proofs.Leaves.{Leaves-whole, Leaves-after, Leaves-nothing}
 use Rattle.lucid_io.specs.Puts.{Leaves, PutsAll}
-use Rattle.lucid_net_log.proofs.Passing.{first_of, without_passes}
-use Rattle.lucid_net_log.proofs.Telling.{pieces-all, pieces-next, pieces-none, turn_untold, turns_pieces}
-use Rattle.lucid_net_log.specs.Log.{State, enters, turn, turns}
-use Rattle.lucid_net_log.specs.Older.{is_older}
-use Rattle.lucid_net_log.specs.Pieces.{pieces, turn_text, untold}
-use Rattle.lucid_net_log.specs.Ways.{Network}
+use Rattle.lucid_net_spec.proofs.Passing.{first_of, without_passes}
+use Rattle.lucid_net_spec.proofs.Telling.{pieces-all, pieces-next, pieces-none, turn_untold, turns_pieces}
+use Rattle.lucid_net_spec.specs.Log.{State, enters, turn, turns}
+use Rattle.lucid_net_spec.specs.Older.{is_older}
+use Rattle.lucid_net_spec.specs.Pieces.{pieces, turn_text, untold}
+use Rattle.lucid_net_spec.specs.Ways.{Network}
 use Rattle.lucid_queue.specs.Waiting.{is_ready, without_first}
 use Rattle.lucid_queue.specs.declared.pending.Pending.{Pending}
 use Rattle.lucid_net.specs.Entering.{entered_text, with_entered}

@@ -6,8 +6,8 @@ use Rattle.std.specs.List.{cons_option, count_by, filter_map}
 use Rattle.std.specs.Option.{option_and_then, option_map}
 use Rattle.lucid_base.specs.Cells.{row_of, zero_cells}
 use Rattle.lucid_base.specs.declared.event.Event.{Event}
-use Rattle.lucid_net_pass.specs.Rows.{Cells, Rows, cells_of, first_cells, rows_in, step_of, with_rows}
-use Rattle.lucid_net_pass.specs.Stages.{run_of_packet, run_of_passed}
+use Rattle.lucid_net_laws.specs.Rows.{Cells, Rows, cells_of, first_cells, rows_in, step_of, with_rows}
+use Rattle.lucid_net_laws.specs.PipeStages.{run_of_packet, run_of_passed}
 use Rattle.lucid_pipe.proofs.ByArray.{view_is}
 use Rattle.lucid_pipe.proofs.Moves.{zeros_long}
 use Rattle.lucid_pipe.specs.Laws.{MovesAsRows}
@@ -17,9 +17,9 @@ use Rattle.lucid_pipe.specs.Rows.{by_array, own, owns, pipe_rows, rows_of}
 use Rattle.lucid_pipe.specs.declared.passed.Passed.{Passed}
 use Rattle.lucid_pipe.specs.declared.passed.Stuck.TheVariants.{Empty, Ahead}
 use Rattle.lucid_pipe.specs.declared.passed.Stuck.{Stuck}
-use Rattle.lucid_pipe_stream.proofs.Moves.{goes_none}
-use Rattle.lucid_pipe_stream.specs.Moves.{entered_by, goes}
-use Rattle.lucid_pipe_stream.specs.Rows.{Row, empty_pipe as no_packets, row}
+use Rattle.lucid_pipe_laws.proofs.Moves.{goes_none}
+use Rattle.lucid_pipe_laws.specs.Moves.{entered_by, goes}
+use Rattle.lucid_pipe_laws.specs.Rows.{Row, empty_pipe as no_packets, row}
 use Rattle.lucid_tables.specs.Placed.{PlacedParts, stage_of}
 use Rattle.lucid_tables.specs.declared.stage.StageCode.{StageCode}
 use Rattle.lucid_net.specs.Leaving.{gone_run}

@@ -2,14 +2,14 @@
 use Rattle.std.specs.Prelude.{◌≡◌, ℕ, suc, ◌-◌, [], Some, map, option_map, slice_index_or}
 use Rattle.lucid_base.specs.Cells.{row_of}
 use Rattle.lucid_core.specs.Step.{Entry}
-use Rattle.lucid_net_flight.specs.Runs.{entering}
-use Rattle.lucid_net_log.specs.Log.{ticks}
-use Rattle.lucid_net_log.specs.Ways.{Network, Run}
-use Rattle.lucid_net_pass.specs.Rows.{cells_of, rows_in, step_of}
+use Rattle.lucid_net_laws.specs.Runs.{entering}
+use Rattle.lucid_net_spec.specs.Log.{ticks}
+use Rattle.lucid_net_spec.specs.Ways.{Network, Run}
+use Rattle.lucid_net_laws.specs.Rows.{cells_of, rows_in, step_of}
 use Rattle.lucid_pipe.specs.Packets.{Packet}
 use Rattle.lucid_pipe.specs.Pipe.{PipeParts}
-use Rattle.lucid_pipe_stream.specs.Rows.{settled}
-use Rattle.lucid_pipe_stream.specs.Sights.{pasts}
+use Rattle.lucid_pipe_laws.specs.Rows.{settled}
+use Rattle.lucid_pipe_laws.specs.Sights.{pasts}
 use Rattle.lucid_tables.specs.Placed.{PlacedParts, stage_of}
 
 -- The event of a packet, of a run, and the tick and the switch at which it entered.

@@ -4,13 +4,13 @@ use Rattle.std.specs.List.{list_all}
 use Rattle.std.specs.Option.{option_map}
 use Rattle.lucid_core.specs.Fits.{event_fits, out_fits}
 use Rattle.lucid_core.specs.Parts.{CoreParts}
-use Rattle.lucid_net_flight.specs.Runs.{made_by}
-use Rattle.lucid_net_log.specs.Log.{put_all}
-use Rattle.lucid_net_log.specs.Ways.{Network, Run}
-use Rattle.lucid_net_pass.specs.Rows.{Rows, step_of}
-use Rattle.lucid_net_pass.specs.Stages.{run_of_packet, run_of_passed}
+use Rattle.lucid_net_laws.specs.Runs.{made_by}
+use Rattle.lucid_net_spec.specs.Log.{put_all}
+use Rattle.lucid_net_spec.specs.Ways.{Network, Run}
+use Rattle.lucid_net_laws.specs.Rows.{Rows, step_of}
+use Rattle.lucid_net_laws.specs.PipeStages.{run_of_packet, run_of_passed}
 use Rattle.lucid_pipe.specs.declared.passed.Passed.{Passed}
-use Rattle.lucid_pipe_stream.specs.Moves.{advance}
+use Rattle.lucid_pipe_laws.specs.Moves.{advance}
 use Rattle.lucid_queue.specs.declared.pending.Pending.{Pending}
 use Rattle.lucid_tables.specs.Placed.{PlacedParts}
 use Rattle.lucid_net.specs.Kept.{is_kept}

@@ -3,15 +3,15 @@ use Rattle.std.specs.Prelude.{◌≡◌, ℕ, ◌-◌, ◌*◌, ◌^◌, ◌<◌
 use Rattle.std.specs.List.{AllByRecursion, list_all}
 use Rattle.lucid_base.specs.declared.event.Event.{Event}
 use Rattle.lucid_code.specs.Inputs.{IsInput}
-use Rattle.lucid_net_flight.specs.Draining.{IsDraining}
-use Rattle.lucid_net_flight.specs.Few.{SendsFew}
-use Rattle.lucid_net_flight.specs.Fitting.{FileFits, SendsFit, fits}
-use Rattle.lucid_net_flight.specs.Flying.{Flying, IsFlying, IsSound}
-use Rattle.lucid_net_log.specs.Log.{ticks}
-use Rattle.lucid_net_log.specs.Ways.{Network}
-use Rattle.lucid_net_pass.specs.Does.{IsGood}
-use Rattle.lucid_net_pass.specs.Rows.{Cells, rows_in}
-use Rattle.lucid_net_pass.specs.Stages.{stages_of}
+use Rattle.lucid_net_laws.specs.Draining.{IsDraining}
+use Rattle.lucid_net_laws.specs.Few.{SendsFew}
+use Rattle.lucid_net_laws.specs.Fitting.{FileFits, SendsFit, fits}
+use Rattle.lucid_net_laws.specs.Flying.{Flying, IsFlying, IsSound}
+use Rattle.lucid_net_spec.specs.Log.{ticks}
+use Rattle.lucid_net_spec.specs.Ways.{Network}
+use Rattle.lucid_net_laws.specs.Does.{IsGood}
+use Rattle.lucid_net_laws.specs.Rows.{Cells, rows_in}
+use Rattle.lucid_net_laws.specs.PipeStages.{stages_of}
 use Rattle.lucid_pipe.specs.Packets.{Packet}
 use Rattle.lucid_pipe.specs.Pipe.{PipeParts}
 use Rattle.lucid_queue.specs.declared.pending.Pending.{Pending}

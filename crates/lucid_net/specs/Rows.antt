@@ -1,11 +1,11 @@
 -- A pipe is its rows: at each stage the cells of the stage, and the packet that is there.
 use Rattle.std.specs.Prelude.{◌≡◌, ℕ}
-use Rattle.lucid_net_flight.specs.Stages.{fed}
-use Rattle.lucid_net_log.specs.Ways.{Network}
-use Rattle.lucid_net_pass.specs.Rows.{Cells, first_cells, rows_in, step_of, with_rows}
-use Rattle.lucid_net_pass.specs.Stages.{stages_of}
+use Rattle.lucid_net_laws.specs.Stages.{fed}
+use Rattle.lucid_net_spec.specs.Ways.{Network}
+use Rattle.lucid_net_laws.specs.Rows.{Cells, first_cells, rows_in, step_of, with_rows}
+use Rattle.lucid_net_laws.specs.PipeStages.{stages_of}
 use Rattle.lucid_pipe.specs.Pipe.{PipeParts}
-use Rattle.lucid_pipe_stream.specs.Stream.{picture}
+use Rattle.lucid_pipe_laws.specs.Stream.{picture}
 use Rattle.lucid_tables.specs.Placed.{PlacedParts}
 
 -- The cells of the arrays of a pipe.

@@ -3,10 +3,10 @@ use Rattle.std.specs.Prelude.{◌≡◌, ℕ, List, ◌++◌, Option, None, Some
 use Rattle.lucid_conf.specs.declared.limits.Limits.{Limits}
 use Rattle.lucid_conf.specs.declared.scene.Scene.{Scene}
 use Rattle.lucid_core.specs.Parts.{CoreParts}
-use Rattle.lucid_net_flight.specs.Runs.{late_text}
-use Rattle.lucid_net_log.specs.Log.{end_text, ticks, whole}
-use Rattle.lucid_net_log.specs.Pieces.{pieces}
-use Rattle.lucid_net_log.specs.Ways.{Network}
+use Rattle.lucid_net_laws.specs.Runs.{late_text}
+use Rattle.lucid_net_spec.specs.Log.{end_text, ticks, whole}
+use Rattle.lucid_net_spec.specs.Pieces.{pieces}
+use Rattle.lucid_net_spec.specs.Ways.{Network}
 use Rattle.lucid_tables.specs.Placed.{PlacedParts}
 use Rattle.lucid_net.specs.Stands.{placed_of}
 use Rattle.lucid_net.specs.declared.machines.Machines.{Machines}

@@ -2,8 +2,8 @@
 use Rattle.std.specs.Prelude.{Bool, false, not}
 use Rattle.lucid_base.specs.declared.event.Out.TheVariants.{Gen, Say}
 use Rattle.lucid_base.specs.declared.event.Out.{Out}
-use Rattle.lucid_net_log.specs.Log.{whole}
-use Rattle.lucid_net_log.specs.Ways.{Network, Run, is_lost}
+use Rattle.lucid_net_spec.specs.Log.{whole}
+use Rattle.lucid_net_spec.specs.Ways.{Network, Run, is_lost}
 use Rattle.lucid_net.specs.declared.world.Ran.{Ran}
 use Rattle.lucid_net.specs.declared.world.World.{World}
 

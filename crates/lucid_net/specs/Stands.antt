@@ -1,9 +1,9 @@
 -- What a network in code keeps: until a tick fails, its switches are those of the definition.
 use Rattle.std.specs.Prelude.{◌≡◌, ℕ, ◌≤◌, [], Option, None, Some, Bool, false}
 use Rattle.lucid_conf.specs.Kept.{IsScene}
-use Rattle.lucid_net_log.specs.Log.{State, ticks}
-use Rattle.lucid_net_log.specs.Pieces.{untold}
-use Rattle.lucid_net_log.specs.Ways.{Network}
+use Rattle.lucid_net_spec.specs.Log.{State, ticks}
+use Rattle.lucid_net_spec.specs.Pieces.{untold}
+use Rattle.lucid_net_spec.specs.Ways.{Network}
 use Rattle.lucid_tables.specs.Placed.{PlacedParts}
 use Rattle.lucid_net.specs.Kept.{IsKept}
 use Rattle.lucid_net.specs.Pipes.{IsPiped, IsReady, Piped, piped_of}

@@ -1,7 +1,7 @@
 -- Where a network with pipes may find no memory: only where what left sent out an event that waits.
 use Rattle.std.specs.Prelude.{◌≢◌, ℕ, ◌<◌, []}
-use Rattle.lucid_net_flight.specs.Runs.{leaving, made_by}
-use Rattle.lucid_net_log.specs.Ways.{Network}
+use Rattle.lucid_net_laws.specs.Runs.{leaving, made_by}
+use Rattle.lucid_net_spec.specs.Ways.{Network}
 
 -- An event that entered some switch so many ticks before made something that waits.
 abbrev pub SomeMade : Network → ℕ → Type 0

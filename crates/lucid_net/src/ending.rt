@@ -1,7 +1,7 @@
 // What is written at the end: the cells that aren't 0, and the counts.
 ghost use Rattle.std.specs.Prelude.{◌≤◌, OnOk, OnErr, length, map};
 ghost use Rattle.lucid_io.specs.Puts.{PutsAll, PutsPart};
-ghost use Rattle.lucid_net_log.specs.Log.{all_cells, end_text};
+ghost use Rattle.lucid_net_spec.specs.Log.{all_cells, end_text};
 ghost use Rattle.lucid_net.specs.Pipes.{IsPiped, IsReady, piped_of};
 ghost use Rattle.lucid_net.specs.Rows.{held};
 ghost use Rattle.lucid_net.specs.Seen.{last_text};

@@ -1,7 +1,7 @@
 // The switches of a network, in either mode.
 ghost use Rattle.std.specs.Prelude.{◌≡◌, ◌≢◌, ◌+◌, ◌<◌, ◌≤◌, None, Err, OnOk, length};
 ghost use Rattle.lucid_conf.specs.Kept.{IsScene};
-ghost use Rattle.lucid_net_flight.specs.Runs.{late_text};
+ghost use Rattle.lucid_net_laws.specs.Runs.{late_text};
 ghost use Rattle.lucid_net.specs.Numbered.{FewPipes, Packets, WithinPipes};
 ghost use Rattle.lucid_net.specs.Seen.{lag_by, last_text};
 ghost use Rattle.lucid_net.specs.Sent.{net_of};
@@ -94,11 +94,18 @@ fn show_pipes<V: Watch>(pipes: &[Pipe<'_>], watch: &mut V)
 
 /// How many packets are in the pipe of a switch; none where handlers run whole.
 pub(crate) fn packets(now: &Machines<'_>, switch: u32) -> usize
-    requires { WithinPipes now.now switch }
-    ensures { Packets now.now switch result }
+    ensures is { WithinPipes now.now switch → Packets now.now switch result }
+    ensures whole { placed_of now.now ≡ None → result ≡ 0 }
 {
     match now {
         Machines::Whole(_) => 0,
-        Machines::Piped(pipes) => pipes.pipes[switch as usize].packets(),
+        Machines::Piped(pipes) => {
+            let at = switch as usize;
+            if at < pipes.pipes.len() {
+                pipes.pipes[at].packets()
+            } else {
+                0
+            }
+        }
     }
 }

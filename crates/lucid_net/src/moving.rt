@@ -2,11 +2,11 @@
 ghost use Rattle.std.specs.Prelude.{◌≡◌, ◌+◌, ◌-◌, ◌<◌, None, Some, length};
 ghost use Rattle.std.specs.Option.{option_map};
 ghost use Rattle.lucid_code.specs.Inputs.{IsInput};
-ghost use Rattle.lucid_net_pass.specs.Rows.{rows_in, step_of};
-ghost use Rattle.lucid_net_pass.specs.Stages.{run_of_packet};
+ghost use Rattle.lucid_net_laws.specs.Rows.{rows_in, step_of};
+ghost use Rattle.lucid_net_laws.specs.PipeStages.{run_of_packet};
 ghost use Rattle.lucid_pipe.specs.Packets.{entering};
 ghost use Rattle.lucid_pipe.specs.Pipe.{packet_at};
-ghost use Rattle.lucid_pipe_stream.specs.Moves.{advance, entered_by, goes};
+ghost use Rattle.lucid_pipe_laws.specs.Moves.{advance, entered_by, goes};
 ghost use Rattle.lucid_net.specs.Leaving.{gone_run};
 ghost use Rattle.lucid_net.specs.Rows.{IsOf};
 

@@ -3,15 +3,16 @@ ghost use Rattle.std.specs.Prelude.{length, ◌≡◌, ◌≢◌, ◌+◌, ◌-�
 ghost use Rattle.std.specs.Result.{is_err};
 ghost use Rattle.lucid_conf.specs.Kept.{IsScene};
 ghost use Rattle.lucid_conf.specs.Reading.{IsBetween};
-ghost use Rattle.lucid_net_flight.specs.Runs.{entering, late_text};
-ghost use Rattle.lucid_net_log.specs.Log.{log, ticks};
-ghost use Rattle.lucid_net_log.specs.Pieces.{pieces};
-ghost use Rattle.lucid_normal_form.specs.Stands.{StandsFor};
+ghost use Rattle.lucid_net_laws.specs.Runs.{entering, late_text};
+ghost use Rattle.lucid_net_spec.specs.Log.{log, ticks};
+ghost use Rattle.lucid_net_spec.specs.Pieces.{pieces};
+ghost use Rattle.lucid_normal_spec.specs.Stands.{StandsFor};
+ghost use Rattle.lucid_pipe.specs.Sights.{sight_of};
 ghost use Rattle.lucid_net.specs.Holds.{Holds};
 ghost use Rattle.lucid_net.specs.Numbered.{PipeIs, WithinPipes};
 ghost use Rattle.lucid_net.specs.Rows.{PipeStands};
 ghost use Rattle.lucid_net.specs.Seen.{AreSame, IsStart, lag, last_text, network};
-ghost use Rattle.lucid_net.specs.Sights.{ShowsAll, ShowsRun, in_last, sights};
+ghost use Rattle.lucid_net.specs.Sights.{ShowsAll, ShowsRun, in_last, sight_at, sights};
 ghost use Rattle.lucid_net.specs.Stands.{placed_of};
 ghost use Rattle.lucid_net.specs.Wanting.{MayStop, SomeMade};
 ghost use Rattle.lucid_net.specs.Writes.{Writes};
@@ -27,9 +28,10 @@ use crate::switches::Switches;
 use crate::world::World;
 use lucid_base::Memory;
 use lucid_conf::{Limits, Scene};
-use lucid_core::{Core, Rooms, outs_fit};
+use lucid_core::{Core, outs_fit};
+use lucid_core_run::Scratch;
 use lucid_io::Sink;
-use lucid_net_pass::pass_does_as;
+use lucid_net_laws::pass_does_as;
 use lucid_pipe::{Pipe, Watch};
 use lucid_tables::Placed;
 use std::alloc::Global;
@@ -88,7 +90,7 @@ impl<'a> Net<'a> {
                 queue,
                 entered: 0,
                 lost: 0,
-                rooms: Rooms::new(alloc),
+                scratch: Scratch::new(alloc),
             }),
             at: 0,
             failed: false,
@@ -165,25 +167,27 @@ impl<'a> Net<'a> {
         self.world.scene.stop
     }
 
-    /// The pipe of a switch. None exactly where handlers run whole. It is the pipe in which all that entered this switch in the network whose
-    /// events run whole moved once a tick (`PipeStands`). So in flight is what entered in the last ticks, each packet at its place, and cells are
-    /// those of the network whose events run whole, at the tick to which a stage has come (`Holds`).
+    /// The pipe of a switch. None exactly where handlers run whole. Until a tick fails it is the pipe in which all that entered this switch in the
+    /// network whose events run whole moved once a tick (`PipeStands`). So in flight is what entered in the last ticks, each packet at its place,
+    /// and cells are those of the network whose events run whole, at the tick to which a stage has come (`Holds`). It is seen as `sight_at` says,
+    /// which has no stage and no code in it. Of a network that failed only `whole` is said.
     pub fn pipe(&self, switch: u32) -> Option<&Pipe<'a>>
-        requires within { switch < self.now.scene.switches }
-        requires sound { self.now.failed ≡ false }
-        ensures mode { is_some result ≡ is_some self.now.placed }
-        ensures stands { IfSome result (λ p. IfSome self.now.placed (λ placed. PipeStands (network self.now) placed switch self.now.at p.now)) }
-        ensures holds { IfSome result (λ p. IfSome self.now.placed (λ placed. Holds (network self.now) placed self.now.at switch p.now)) }
+        requires { switch < self.now.scene.switches }
+        ensures mode { self.now.failed ≡ false → is_some result ≡ is_some self.now.placed }
+        ensures whole { self.now.placed ≡ None → is_some result ≡ false }
+        ensures stands { self.now.failed ≡ false → IfSome result (λ p. IfSome self.now.placed (λ placed. PipeStands (network self.now) placed switch self.now.at p.now)) }
+        ensures holds { self.now.failed ≡ false → IfSome result (λ p. IfSome self.now.placed (λ placed. Holds (network self.now) placed self.now.at switch p.now)) }
+        ensures sight { self.now.failed ≡ false → IfSome result (λ p. IfSome self.now.placed (λ placed. sight_of switch p.now ≡ sight_at (network self.now) placed self.now.at switch)) }
     {
         pipe_of(&self.machines, switch)
     }
 
-    /// How many packets are in flight at a switch: those of the events that entered it in as many of the last ticks as there are stages, and
-    /// none where handlers run whole.
+    /// How many packets are in flight at a switch: until a tick fails, those of the events that entered it in as many of the last ticks as there
+    /// are stages. None where handlers run whole.
     pub fn packets(&self, switch: u32) -> usize
-        requires within { switch < self.now.scene.switches }
-        requires sound { self.now.failed ≡ false }
-        ensures { result ≡ in_last (entering (network self.now) switch) self.now.at (lag self.now) }
+        requires { switch < self.now.scene.switches }
+        ensures count { self.now.failed ≡ false → result ≡ in_last (entering (network self.now) switch) self.now.at (lag self.now) }
+        ensures whole { self.now.placed ≡ None → result ≡ 0 }
     {
         packets(&self.machines, switch)
     }
@@ -268,13 +272,20 @@ impl<'a> Net<'a> {
 
 /// The pipe of a switch, if there are pipes.
 fn pipe_of<'a, 'm>(machines: &'m Machines<'a>, switch: u32) -> Option<&'m Pipe<'a>>
-    requires { WithinPipes machines.now switch }
-    ensures mode { is_some result ≡ is_some (placed_of machines.now) }
+    ensures mode { WithinPipes machines.now switch → is_some result ≡ is_some (placed_of machines.now) }
+    ensures whole { placed_of machines.now ≡ None → is_some result ≡ false }
     ensures pipe { IfSome result (λ p. PipeIs machines.now switch p.now) }
 {
     match machines {
         Machines::Whole(_) => None,
-        Machines::Piped(pipes) => Some(&pipes.pipes[switch as usize]),
+        Machines::Piped(pipes) => {
+            let at = switch as usize;
+            if at < pipes.pipes.len() {
+                Some(&pipes.pipes[at])
+            } else {
+                None
+            }
+        }
     }
 }
 

@@ -1,12 +1,12 @@
 // Switches with pipes.
 ghost use Rattle.std.specs.Prelude.{◌≡◌, ◌≢◌, ◌+◌, ◌<◌, ◌≤◌, ◌^◌, [], None, Err, IfOk, IfSome, OnErr, OnOk, length};
 ghost use Rattle.lucid_io.specs.Puts.{PutsAll, PutsPart};
-ghost use Rattle.lucid_net_flight.specs.Runs.{late_text, leaving, left_text, losses_by, made_by, text_by};
-ghost use Rattle.lucid_net_log.specs.Log.{block, losses, made};
-ghost use Rattle.lucid_net_log.specs.Pieces.{pieces};
-ghost use Rattle.lucid_net_pass.specs.Rows.{rows_in, step_of};
-ghost use Rattle.lucid_net_pass.specs.Stages.{run_of_passed};
-ghost use Rattle.lucid_pipe_stream.specs.Moves.{advance};
+ghost use Rattle.lucid_net_laws.specs.Runs.{late_text, leaving, left_text, losses_by, made_by, text_by};
+ghost use Rattle.lucid_net_spec.specs.Log.{block, losses, made};
+ghost use Rattle.lucid_net_spec.specs.Pieces.{pieces};
+ghost use Rattle.lucid_net_laws.specs.Rows.{rows_in, step_of};
+ghost use Rattle.lucid_net_laws.specs.PipeStages.{run_of_passed};
+ghost use Rattle.lucid_pipe_laws.specs.Moves.{advance};
 ghost use Rattle.lucid_net.specs.Leaving.{Fits, gone_run, left};
 ghost use Rattle.lucid_net.specs.Pipes.{IsDrained, IsPiped, IsReady, piped_of};
 ghost use Rattle.lucid_net.specs.Rows.{IsOf};

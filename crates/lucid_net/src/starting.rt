@@ -4,7 +4,7 @@ ghost use Rattle.std.specs.List.{list_all};
 ghost use Rattle.lucid_base.specs.Cells.{zero_cells};
 ghost use Rattle.lucid_conf.specs.Kept.{IsFileEvent};
 ghost use Rattle.lucid_core.specs.Fits.{event_fits};
-ghost use Rattle.lucid_net_log.specs.Log.{file_event, file_events, put_all};
+ghost use Rattle.lucid_net_spec.specs.Log.{file_event, file_events, put_all};
 ghost use Rattle.lucid_pipe.specs.Pipe.{empty_pipe};
 ghost use Rattle.lucid_queue.specs.Order.{is_before};
 ghost use Rattle.lucid_queue.specs.Waiting.{put_in};

@@ -1,8 +1,8 @@
 // The turns of switches: the first event that is ready enters, and runs whole.
 ghost use Rattle.std.specs.Prelude.{◌≡◌, ◌+◌, ◌*◌, ◌<◌, ◌≤◌, [], All, IsTrue, OnOk, length};
 ghost use Rattle.lucid_core.specs.Fits.{event_fits, out_fits};
-ghost use Rattle.lucid_net_log.specs.Log.{done_at, turn as turn_of, turns};
-ghost use Rattle.lucid_net_log.specs.Pieces.{untold};
+ghost use Rattle.lucid_net_spec.specs.Log.{done_at, turn as turn_of, turns};
+ghost use Rattle.lucid_net_spec.specs.Pieces.{untold};
 ghost use Rattle.lucid_net.specs.Entering.{entered_text, with_cells, with_entered};
 ghost use Rattle.lucid_net.specs.Kept.{IsKept};
 ghost use Rattle.lucid_net.specs.Sent.{net_of};
@@ -14,7 +14,7 @@ use crate::sending::send;
 use crate::switches::Switches;
 use crate::world::{Ran, World};
 use lucid_base::{Event, Memory, Outs};
-use lucid_core::run_into;
+use lucid_core_run::run_into;
 use lucid_io::Sink;
 use lucid_log::put_block;
 
@@ -40,7 +40,7 @@ fn run(
         tick,
         switch,
         event,
-        &mut now.rooms,
+        &mut now.scratch,
         outs,
     )
 }

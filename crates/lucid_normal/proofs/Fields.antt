@@ -3,8 +3,8 @@ use Rattle.std.proofs.Common.{◌≡◌, ◌<◌, ◌≤◌, ◌+◌, ◌-◌, �
 use Rattle.std.proofs.lemmas.Bool.{ltb-false, ltb-true}
 use Rattle.std.proofs.lemmas.List.{drop_all, drop_more, take_rest}
 use Rattle.lucid_code.specs.declared.op.Operand.TheVariants.{Field}
-use Rattle.lucid_normal_form.specs.declared.env.Typed.{Typed}
-use Rattle.lucid_normal_form.specs.Program.{held_from, widest}
+use Rattle.lucid_normal_spec.specs.declared.env.Typed.{Typed}
+use Rattle.lucid_normal_spec.specs.Program.{held_from, widest}
 
 widest_none : (xs : List ℕ) → widest xs [] ≡ xs
 widest_none [] = refl

@@ -15,9 +15,9 @@ use Rattle.lucid_core.specs.declared.body.Stmt.TheVariants as s
 use Rattle.lucid_normal.specs.Given.{given_codes}
 use Rattle.lucid_normal_steps.specs.Added.{added}
 use Rattle.lucid_normal_steps.proofs.Adding.{added_more}
-use Rattle.lucid_normal_form.specs.declared.env.Env.{Env}
-use Rattle.lucid_normal_form.specs.declared.env.Typed.{Typed}
-use Rattle.lucid_normal_form.specs.Translate.{Expressed, Translation, delay_made, each_made, expr_code, expr_step, given_made, holding, is, operands, ordered_made, out_made, seq, stmt_code, stmt_step, target_made, touch_step}
+use Rattle.lucid_normal_spec.specs.declared.env.Env.{Env}
+use Rattle.lucid_normal_spec.specs.declared.env.Typed.{Typed}
+use Rattle.lucid_normal_spec.specs.Translate.{Expressed, Translation, delay_made, each_made, expr_code, expr_step, given_made, holding, is, operands, ordered_made, out_made, seq, stmt_code, stmt_step, target_made, touch_step}
 
 -- ---- prints and events
 

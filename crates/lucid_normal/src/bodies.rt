@@ -1,7 +1,7 @@
 // Bodies as operations: a function a form.
 ghost use Rattle.std.specs.Prelude.{◌≡◌, IfOk, OnOk, map, option_map};
-ghost use Rattle.lucid_normal_form.specs.Translate.{delay_made, each_made, given_made, ordered_made, target_made};
-ghost use Rattle.lucid_normal_form.specs.Translate.{expr_code, guarded, is, operands as operands_of, seq, stmt_code, touch_code};
+ghost use Rattle.lucid_normal_spec.specs.Translate.{delay_made, each_made, given_made, ordered_made, target_made};
+ghost use Rattle.lucid_normal_spec.specs.Translate.{expr_code, guarded, is, operands as operands_of, seq, stmt_code, touch_code};
 ghost use Rattle.lucid_normal_steps.specs.Added.{added};
 ghost use Rattle.lucid_normal_steps.specs.Notes.{before};
 ghost use Rattle.lucid_normal.specs.Given.{given_codes};
@@ -9,7 +9,7 @@ ghost use Rattle.lucid_normal.specs.Given.{given_codes};
 use lucid_base::{Items, Memory};
 use lucid_code::Operand;
 use lucid_core::{Expr, Stmt, Touch};
-use lucid_normal_form::{Env, Typed};
+use lucid_normal_spec::{Env, Typed};
 use lucid_normal_steps::{
     Context, Work, answer, answer_nothing, assign, begin, binary, bit, call_array, cast, compare,
     enter, hash, held_at, input, join, leave, needed, needs_move, say, send, turn, unary, within,

@@ -2,14 +2,14 @@
 ghost use Rattle.std.specs.Prelude.{◌≡◌, ◌+◌, ◌++◌, IfOk, map, if◌then◌else◌};
 ghost use Rattle.lucid_code.specs.declared.op.Operand.TheVariants.{Field};
 ghost use Rattle.lucid_core.specs.Events.{event_params};
-ghost use Rattle.lucid_normal_form.specs.Program.{codes_of, held_from, start};
-ghost use Rattle.lucid_normal_form.specs.Translate.{body_code, guarded, is};
+ghost use Rattle.lucid_normal_spec.specs.Program.{codes_of, held_from, start};
+ghost use Rattle.lucid_normal_spec.specs.Translate.{body_code, guarded, is};
 
 use crate::bodies::block;
 use lucid_base::{Items, Memory, Width};
 use lucid_code::{Literal, Op, Operand};
 use lucid_core::{EventDef, Flat, HandlerDef};
-use lucid_normal_form::{Env, Typed};
+use lucid_normal_spec::{Env, Typed};
 use lucid_normal_steps::{Context, Work};
 use std::alloc::Global;
 

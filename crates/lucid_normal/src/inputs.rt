@@ -1,6 +1,6 @@
 // The fields that a packet brings with it.
 ghost use Rattle.std.specs.Prelude.{◌≡◌, ◌∷◌, IfOk, drop, length, max, min};
-ghost use Rattle.lucid_normal_form.specs.Program.{arg_widths as args_of, widest as widest_of};
+ghost use Rattle.lucid_normal_spec.specs.Program.{arg_widths as args_of, widest as widest_of};
 
 use lucid_base::{Items, Memory, Width};
 use lucid_core::EventDef;

@@ -3,9 +3,9 @@ ghost use Rattle.std.specs.Prelude.{◌≡◌, IfOk, IsTrue, length};
 ghost use Rattle.lucid_code.specs.Nodes.{nodes_follow_writes};
 ghost use Rattle.lucid_code.specs.Valid.{IsValid};
 ghost use Rattle.lucid_core.specs.Length.{program_length};
-ghost use Rattle.lucid_effects_order.specs.Order.{IsAccepted};
-ghost use Rattle.lucid_normal_form.specs.Program.{translate};
-ghost use Rattle.lucid_normal_form.specs.Stands.{StandsFor};
+ghost use Rattle.lucid_effects_spec.specs.Order.{IsAccepted};
+ghost use Rattle.lucid_normal_spec.specs.Program.{translate};
+ghost use Rattle.lucid_normal_spec.specs.Stands.{StandsFor};
 
 use crate::handlers::build;
 use crate::inputs::{arg_widths, input_widths};

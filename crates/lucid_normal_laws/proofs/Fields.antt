@@ -14,8 +14,8 @@ use Rattle.lucid_code.specs.Guards.{Fields, holds, all_hold}
 use Rattle.lucid_code.specs.Run.{Machine, put, put_out, value, result, written, run_act, run_op, run}
 use Rattle.lucid_code.specs.Uses.{written_by}
 use Rattle.lucid_core.specs.Values.{nothing}
-use Rattle.lucid_normal_form.specs.declared.env.Typed.{Typed}
-use Rattle.lucid_normal_form.specs.Translate.{guarded, held_by}
+use Rattle.lucid_normal_spec.specs.declared.env.Typed.{Typed}
+use Rattle.lucid_normal_spec.specs.Translate.{guarded, held_by}
 pub use Rattle.lucid_code.proofs.Acting.{put_same}
 use Rattle.lucid_code.proofs.Acting.{holds_by, put_other}
 

@@ -4,7 +4,7 @@ use Rattle.std.proofs.lemmas.List.{append-nil, append_assoc, map-append}
 use Rattle.lucid_code.specs.declared.op.Literal.{Literal}
 use Rattle.lucid_code.specs.declared.op.Op.{Op}
 use Rattle.lucid_normal_steps.specs.Added.{added, under}
-use Rattle.lucid_normal_form.specs.Translate.{guarded}
+use Rattle.lucid_normal_spec.specs.Translate.{guarded}
 
 pub added_more : (guard : List Literal) (ops a b : List Op) → added guard (added guard ops a) b ≡ added guard ops (a ++ b)
 added_more guard ops a b = append_assoc ops _ _ ∙ ap (λ l. ops ++ l) (sym (map-append (under guard) a b))

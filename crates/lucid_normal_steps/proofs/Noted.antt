@@ -4,7 +4,7 @@ use Rattle.std.proofs.lemmas.List.{set-get_or, set-set}
 use Rattle.lucid_normal_steps.specs.declared.notes.Note.{Note}
 use Rattle.lucid_normal_steps.specs.declared.notes.Note.TheVariants.{One}
 use Rattle.lucid_normal_steps.specs.Notes.{before, put_one}
-use Rattle.lucid_normal_form.specs.declared.env.Typed.{Typed}
+use Rattle.lucid_normal_spec.specs.declared.env.Typed.{Typed}
 
 pub before_last : (ns : List Note) (n : Note) (held : List (Option Typed)) → before (ns ++ n ∷ []) held ≡ before ns (put_one n held)
 before_last [] n held = refl

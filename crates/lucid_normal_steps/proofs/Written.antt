@@ -19,9 +19,9 @@ use Rattle.lucid_normal_steps.specs.declared.notes.Note.{Note}
 use Rattle.lucid_normal_steps.specs.declared.notes.Note.TheVariants.{One, All}
 use Rattle.lucid_normal_steps.specs.Ends.{met}
 use Rattle.lucid_normal_steps.specs.Notes.{before, noted, put_one}
-use Rattle.lucid_normal_form.specs.declared.env.Env.{Env}
-use Rattle.lucid_normal_form.specs.declared.env.Typed.{Typed}
-use Rattle.lucid_normal_form.specs.Translate.{Joined, join_at, join_one, joins, keep_one, nothing_joined, same, same_operand}
+use Rattle.lucid_normal_spec.specs.declared.env.Env.{Env}
+use Rattle.lucid_normal_spec.specs.declared.env.Typed.{Typed}
+use Rattle.lucid_normal_spec.specs.Translate.{Joined, join_at, join_one, joins, keep_one, nothing_joined, same, same_operand}
 
 abbrev Locals : Type 0
 Locals = List (Option Typed)

@@ -5,9 +5,9 @@ use Rattle.lucid_normal_steps.specs.declared.changes.Change.{Change}
 use Rattle.lucid_normal_steps.specs.Ends.{met}
 use Rattle.lucid_normal_steps.specs.Notes.{before, noted}
 use Rattle.lucid_normal_steps.specs.declared.notes.Note.{Note}
-use Rattle.lucid_normal_form.specs.declared.env.Env.{Env}
-use Rattle.lucid_normal_form.specs.declared.env.Typed.{Typed}
-use Rattle.lucid_normal_form.specs.Translate.{Joined}
+use Rattle.lucid_normal_spec.specs.declared.env.Env.{Env}
+use Rattle.lucid_normal_spec.specs.declared.env.Typed.{Typed}
+use Rattle.lucid_normal_spec.specs.Translate.{Joined}
 
 -- One local, from what holds all of them at the ends of the branches.
 abbrev pub change_of : List (Option Typed) → List (Option Typed) → ℕ → Change

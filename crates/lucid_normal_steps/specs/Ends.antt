@@ -3,9 +3,9 @@ use Rattle.std.specs.Prelude.{ℕ, max, List, Option, None, ◌++◌, slice_inde
 use Rattle.lucid_code.specs.declared.op.Op.{Op}
 use Rattle.lucid_normal_steps.specs.Notes.{end_of}
 use Rattle.lucid_normal_steps.specs.declared.branches.Ended.{Ended}
-use Rattle.lucid_normal_form.specs.declared.env.Env.{Env}
-use Rattle.lucid_normal_form.specs.declared.env.Typed.{Typed}
-use Rattle.lucid_normal_form.specs.Translate.{Joined, join_answer, join_at, joins, nothing_joined}
+use Rattle.lucid_normal_spec.specs.declared.env.Env.{Env}
+use Rattle.lucid_normal_spec.specs.declared.env.Typed.{Typed}
+use Rattle.lucid_normal_spec.specs.Translate.{Joined, join_answer, join_at, joins, nothing_joined}
 
 -- One local alone.
 abbrev pub met : ℕ → ℕ → List ℕ → Option Typed → Option Typed → Option Typed → Joined

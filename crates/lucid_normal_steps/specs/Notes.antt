@@ -2,7 +2,7 @@
 use Rattle.std.specs.Prelude.{ℕ, List, [], ◌∷◌, Option, None, Some, slice_set}
 use Rattle.lucid_normal_steps.specs.declared.notes.Note.{Note}
 use Rattle.lucid_normal_steps.specs.declared.notes.Note.TheVariants.{One, All}
-use Rattle.lucid_normal_form.specs.declared.env.Typed.{Typed}
+use Rattle.lucid_normal_spec.specs.declared.env.Typed.{Typed}
 
 -- What the last note tells is put back first. All locals are put back where nothing holds any: behind a return nothing does.
 abbrev pub put_one : Note → List (Option Typed) → List (Option Typed)

@@ -6,7 +6,7 @@ ghost use Rattle.lucid_normal_steps.specs.Notes.{before};
 use crate::notes::{Note, take_back};
 use crate::work::Work;
 use lucid_base::{Items, Memory};
-use lucid_normal_form::{Env, Typed};
+use lucid_normal_spec::{Env, Typed};
 use std::alloc::Global;
 
 /// Where the branches begin, and what was noted before.

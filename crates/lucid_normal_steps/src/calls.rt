@@ -1,12 +1,12 @@
 // Bodies that are put in: how one is entered, and left with what held the caller's locals.
 ghost use Rattle.std.specs.Prelude.{◌≡◌, IfOk, OnOk};
-ghost use Rattle.lucid_normal_form.specs.Translate.{holding};
+ghost use Rattle.lucid_normal_spec.specs.Translate.{holding};
 ghost use Rattle.lucid_normal_steps.specs.Notes.{before};
 
 use crate::notes::{Note, hold, put_back};
 use crate::work::Work;
 use lucid_base::{Items, Memory};
-use lucid_normal_form::{Env, Typed};
+use lucid_normal_spec::{Env, Typed};
 use std::alloc::Global;
 
 /// What the caller noted, and what holds its answer.

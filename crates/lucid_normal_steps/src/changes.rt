@@ -7,7 +7,7 @@ ghost use Rattle.lucid_normal_steps.specs.Notes.{noted};
 use crate::locals::held_at;
 use crate::notes::{Note, put_back, swap_back};
 use lucid_base::{Items, Memory};
-use lucid_normal_form::Typed;
+use lucid_normal_spec::Typed;
 use std::alloc::Global;
 
 /// A local, and what holds it at the end of the first branch and of the second.

@@ -1,6 +1,6 @@
 // Where operations are built.
 ghost use Rattle.std.specs.Prelude.{◌≡◌, [], ◌∷◌, ◌++◌, IfOk, OnOk, length, true};
-ghost use Rattle.lucid_normal_form.specs.Translate.{op as op_of};
+ghost use Rattle.lucid_normal_spec.specs.Translate.{op as op_of};
 ghost use Rattle.lucid_normal_steps.specs.Added.{added};
 
 use lucid_base::{Items, Memory, Width};

@@ -1,7 +1,7 @@
 // The end of an if: what holds a local or the answer behind it, whichever branch was taken.
 ghost use Rattle.std.specs.Prelude.{◌≡◌, ◌<◌, [], ◌∷◌, ◌++◌, IfOk, OnOk, OnSome, length, slice_index_or};
 ghost use Rattle.lucid_code.specs.declared.op.Operand.TheVariants.{Field};
-ghost use Rattle.lucid_normal_form.specs.Translate.{join_answer as answer_of, joins, moves, same_operand, same as same_of};
+ghost use Rattle.lucid_normal_spec.specs.Translate.{join_answer as answer_of, joins, moves, same_operand, same as same_of};
 ghost use Rattle.lucid_normal_steps.specs.Added.{added};
 ghost use Rattle.lucid_normal_steps.specs.Changes.{change_held, change_met, changes_joined, with_locals};
 ghost use Rattle.lucid_normal_steps.specs.Ends.{ends_at, env_of, met, ops_of};
@@ -15,7 +15,7 @@ use crate::notes::{Note, clear, hold, take_back};
 use crate::work::Work;
 use lucid_base::{Items, Memory, Width};
 use lucid_code::{Act, Op, Operand};
-use lucid_normal_form::{Env, Typed};
+use lucid_normal_spec::{Env, Typed};
 
 /// The level of the moves at the end of an if, and the field that holds its condition.
 #[derive(Clone, Copy)]

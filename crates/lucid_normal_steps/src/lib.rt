@@ -1,7 +1,7 @@
 // What the forms of a body become once their parts are made, one at a time, and how an if is joined; lucid_normal walks bodies by them.
 // What held a local before it is written is noted, so that a call that is put in and an if cost what they write, and not the locals of
 // their handler.
-// Stands on lucid_base, lucid_core, lucid_code and lucid_normal_form.
+// Stands on lucid_base, lucid_core, lucid_code and lucid_normal_spec.
 #![tactic(auto)]
 
 mod branches;

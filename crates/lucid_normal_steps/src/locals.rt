@@ -1,12 +1,12 @@
 // What holds locals, and the values that expressions give.
 ghost use Rattle.std.specs.Prelude.{◌≡◌, slice_index_or};
 ghost use Rattle.lucid_code.specs.declared.op.Operand.TheVariants.{Field};
-ghost use Rattle.lucid_normal_form.specs.Translate.{expr_code, held_by};
+ghost use Rattle.lucid_normal_spec.specs.Translate.{expr_code, held_by};
 
 use lucid_base::Width;
 use lucid_code::Operand;
 use lucid_core::Expr;
-use lucid_normal_form::Typed;
+use lucid_normal_spec::Typed;
 
 /// What holds the local.
 pub fn held_at(held: &[Option<Typed>], i: u32) -> Option<Typed>

@@ -4,7 +4,7 @@ ghost use Rattle.lucid_normal_steps.specs.Notes.{before, end_of, put_one as one_
 
 use crate::locals::held_at;
 use lucid_base::{Items, Memory};
-use lucid_normal_form::Typed;
+use lucid_normal_spec::Typed;
 use std::alloc::Global;
 
 /// What held one local, or all of them.

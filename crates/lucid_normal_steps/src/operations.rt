@@ -2,14 +2,14 @@
 ghost use Rattle.std.specs.Prelude.{◌≡◌, [], ◌∷◌, IfOk, OnOk, length};
 ghost use Rattle.lucid_code.specs.declared.op.Act.TheVariants as act;
 ghost use Rattle.lucid_core.specs.Computations.{array_of};
-ghost use Rattle.lucid_normal_form.specs.Translate.{bit_field, emit, moved as moved_by, new_field, op as op_of, touch_made, with_field};
+ghost use Rattle.lucid_normal_spec.specs.Translate.{bit_field, emit, moved as moved_by, new_field, op as op_of, touch_made, with_field};
 ghost use Rattle.lucid_normal_steps.specs.Added.{added};
 
 use crate::context::{Context, next, put};
 use lucid_base::{ArrayName, BinOp, CmpOp, Items, Memory, UnOp, Width};
 use lucid_code::{Act, Op, Operand};
 use lucid_core::Touch;
-use lucid_normal_form::{Env, Typed};
+use lucid_normal_spec::{Env, Typed};
 
 /// An operation that writes field `k`, the next one, of this width.
 fn write(

@@ -1,7 +1,7 @@
 // What statements become once their operands are made.
 ghost use Rattle.std.specs.Prelude.{◌≡◌, ◌+◌, IfOk, OnOk};
 ghost use Rattle.lucid_code.specs.declared.op.Act.TheVariants as act;
-ghost use Rattle.lucid_normal_form.specs.Translate.{assign as assigned, out_made, return_made, return_none};
+ghost use Rattle.lucid_normal_spec.specs.Translate.{assign as assigned, out_made, return_made, return_none};
 ghost use Rattle.lucid_normal_steps.specs.Added.{added};
 ghost use Rattle.lucid_normal_steps.specs.Notes.{before};
 
@@ -10,7 +10,7 @@ use crate::notes::{clear, hold};
 use crate::work::Work;
 use lucid_base::{Items, Memory};
 use lucid_code::{Act, Op, Operand};
-use lucid_normal_form::{Env, Typed};
+use lucid_normal_spec::{Env, Typed};
 use std::alloc::Global;
 
 /// A move to a new field, which holds the local from now on.

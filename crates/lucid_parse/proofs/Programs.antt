@@ -13,12 +13,12 @@ use Rattle.lucid_parse.specs.declared.error.ParseError.TheVariants as errors
 use Rattle.lucid_parse_tree.specs.declared.tree.Decl.{Decl}
 use Rattle.lucid_parse_tree.specs.declared.tree.DeclKind.{DeclKind}
 use Rattle.lucid_parse_tree.specs.declared.tree.Tree.{Tree}
-use Rattle.lucid_parse_grammar.specs.Lexemes.{lexemes_of}
-use Rattle.lucid_parse_grammar.specs.Spelling.{Text, declaration, declaration_built, declarations, all_written}
-use Rattle.lucid_parse_grammar.specs.ReadDeclaration as read_d
+use Rattle.lucid_parse_spec.specs.Lexemes.{lexemes_of}
+use Rattle.lucid_parse_spec.specs.Spelling.{Text, declaration, declaration_built, declarations, all_written}
+use Rattle.lucid_parse_spec.specs.ReadDeclaration as read_d
 use Rattle.lucid_parse.specs.Program.{line_at, line_of, last_of, HasLines, IsTreeOf, IsFault, Progress, Rising, IsWhy}
-use Rattle.lucid_parse_grammar.specs.Law.{ReadAsSpelled}
-use Rattle.lucid_parse_grammar.proofs.Steps.{both, of_both}
+use Rattle.lucid_parse_spec.specs.Law.{ReadAsSpelled}
+use Rattle.lucid_parse_spec.proofs.Steps.{both, of_both}
 
 one_behind : (all : List Decl) (x : Decl) (r : Text) → declarations (all ++ x ∷ []) r ≡ declarations all (declaration x.kind r)
 one_behind [] x r = refl

@@ -6,8 +6,8 @@ use Rattle.lucid_parse.specs.declared.error.ParseError.{ParseError}
 use Rattle.lucid_parse.specs.declared.error.ParseError.TheVariants as errors
 use Rattle.lucid_parse_tree.specs.declared.tree.Decl.{Decl}
 use Rattle.lucid_parse_tree.specs.declared.tree.Tree.{Tree}
-use Rattle.lucid_parse_grammar.specs.Lexemes.{lexemes_of}
-use Rattle.lucid_parse_grammar.specs.Spelling.{Text, declarations, spell, all_written, IsWritten}
+use Rattle.lucid_parse_spec.specs.Lexemes.{lexemes_of}
+use Rattle.lucid_parse_spec.specs.Spelling.{Text, declarations, spell, all_written, IsWritten}
 
 -- the kinds of tokens, which nesting is counted over
 abbrev pub kinds_of : List Token → List Kind

@@ -1,8 +1,8 @@
 // Declarations and their parameters.
-ghost use Rattle.lucid_parse_grammar.specs.Reader as reader;
+ghost use Rattle.lucid_parse_spec.specs.Reader as reader;
 ghost use Rattle.lucid_parse_expression.specs.Reads.{Reads};
 ghost use Rattle.lucid_parse_expression.specs.Tokens.{said};
-ghost use Rattle.lucid_parse_grammar.specs.ReadDeclaration as spec;
+ghost use Rattle.lucid_parse_spec.specs.ReadDeclaration as spec;
 
 use crate::statement::body;
 use lucid_base::{Id, Items};
@@ -14,7 +14,7 @@ use lucid_parse_expression::{
 use lucid_parse_tree::{DeclKind, P, Size, Ty};
 use std::alloc::Global;
 
-#[tactic(auto, unfolding(lucid_parse_grammar::specs::ReadDeclaration::declaration))]
+#[tactic(auto, unfolding(lucid_parse_spec::specs::ReadDeclaration::declaration))]
 pub(crate) fn declaration(alloc: Global, tokens: Tokens) -> Result<(DeclKind, Tokens), Stop>
     ensures { Reads result (spec.declaration (said tokens.entry)) }
 {
@@ -30,7 +30,7 @@ pub(crate) fn declaration(alloc: Global, tokens: Tokens) -> Result<(DeclKind, To
     }
 }
 
-#[tactic(auto, unfolding(lucid_parse_grammar::specs::ReadDeclaration::parameter))]
+#[tactic(auto, unfolding(lucid_parse_spec::specs::ReadDeclaration::parameter))]
 fn parameter(alloc: Global, tokens: Tokens) -> Result<(P, Tokens), Stop>
     ensures { Reads result (spec.parameter (said tokens.entry)) }
 {
@@ -55,7 +55,7 @@ fn some_parameters<'a>(alloc: Global, tokens: Tokens<'a>) -> Result<(Items<P>, T
 }
 
 /// Parameters in parentheses.
-#[tactic(auto, unfolding(lucid_parse_grammar::specs::ReadDeclaration::parameters))]
+#[tactic(auto, unfolding(lucid_parse_spec::specs::ReadDeclaration::parameters))]
 fn parameters(alloc: Global, tokens: Tokens) -> Result<(Items<P>, Tokens), Stop>
     ensures { Reads result (spec.parameters (said tokens.entry)) }
 {
@@ -70,7 +70,7 @@ fn parameters(alloc: Global, tokens: Tokens) -> Result<(Items<P>, Tokens), Stop>
     }
 }
 
-#[tactic(auto, unfolding(lucid_parse_grammar::specs::ReadDeclaration::constant))]
+#[tactic(auto, unfolding(lucid_parse_spec::specs::ReadDeclaration::constant))]
 fn constant(alloc: Global, tokens: Tokens) -> Result<(DeclKind, Tokens), Stop>
     ensures { Reads result (spec.constant (said tokens.entry)) }
 {
@@ -81,7 +81,7 @@ fn constant(alloc: Global, tokens: Tokens) -> Result<(DeclKind, Tokens), Stop>
     Ok((DeclKind::Const(ty, name, value), rest))
 }
 
-#[tactic(auto, unfolding(lucid_parse_grammar::specs::ReadDeclaration::size))]
+#[tactic(auto, unfolding(lucid_parse_spec::specs::ReadDeclaration::size))]
 fn array_size(alloc: Global, tokens: Tokens) -> Result<(Size, Tokens), Stop>
     ensures { Reads result (spec.size (said tokens.entry)) }
 {
@@ -93,7 +93,7 @@ fn array_size(alloc: Global, tokens: Tokens) -> Result<(Size, Tokens), Stop>
 }
 
 /// `Array.create(SIZE);`
-#[tactic(auto, unfolding(lucid_parse_grammar::specs::ReadDeclaration::created))]
+#[tactic(auto, unfolding(lucid_parse_spec::specs::ReadDeclaration::created))]
 fn created(alloc: Global, tokens: Tokens) -> Result<(Size, Tokens), Stop>
     ensures { Reads result (spec.created (said tokens.entry)) }
 {
@@ -107,7 +107,7 @@ fn created(alloc: Global, tokens: Tokens) -> Result<(Size, Tokens), Stop>
     Ok((size, rest))
 }
 
-#[tactic(auto, unfolding(lucid_parse_grammar::specs::ReadDeclaration::global_array))]
+#[tactic(auto, unfolding(lucid_parse_spec::specs::ReadDeclaration::global_array))]
 fn global_array(alloc: Global, tokens: Tokens) -> Result<(DeclKind, Tokens), Stop>
     ensures { Reads result (spec.global_array (said tokens.entry)) }
 {
@@ -128,7 +128,7 @@ fn global_array(alloc: Global, tokens: Tokens) -> Result<(DeclKind, Tokens), Sto
 }
 
 /// The two parameters of a memop, in parentheses.
-#[tactic(auto, unfolding(lucid_parse_grammar::specs::ReadDeclaration::two_parameters))]
+#[tactic(auto, unfolding(lucid_parse_spec::specs::ReadDeclaration::two_parameters))]
 fn two_parameters(alloc: Global, tokens: Tokens) -> Result<(((Ty, Id), (Ty, Id)), Tokens), Stop>
     ensures { Reads result (spec.two_parameters (said tokens.entry)) }
 {
@@ -140,7 +140,7 @@ fn two_parameters(alloc: Global, tokens: Tokens) -> Result<(((Ty, Id), (Ty, Id))
     Ok(((first, second), rest))
 }
 
-#[tactic(auto, unfolding(lucid_parse_grammar::specs::ReadDeclaration::memop))]
+#[tactic(auto, unfolding(lucid_parse_spec::specs::ReadDeclaration::memop))]
 fn memop(alloc: Global, tokens: Tokens) -> Result<(DeclKind, Tokens), Stop>
     ensures { Reads result (spec.memop (said tokens.entry)) }
 {
@@ -158,7 +158,7 @@ fn memop(alloc: Global, tokens: Tokens) -> Result<(DeclKind, Tokens), Stop>
     ))
 }
 
-#[tactic(auto, unfolding(lucid_parse_grammar::specs::ReadDeclaration::event_declared))]
+#[tactic(auto, unfolding(lucid_parse_spec::specs::ReadDeclaration::event_declared))]
 fn event_declared(alloc: Global, tokens: Tokens) -> Result<(DeclKind, Tokens), Stop>
     ensures { Reads result (spec.event_declared (said tokens.entry)) }
 {
@@ -168,7 +168,7 @@ fn event_declared(alloc: Global, tokens: Tokens) -> Result<(DeclKind, Tokens), S
     Ok((DeclKind::Event { name, params }, rest))
 }
 
-#[tactic(auto, unfolding(lucid_parse_grammar::specs::ReadDeclaration::handler))]
+#[tactic(auto, unfolding(lucid_parse_spec::specs::ReadDeclaration::handler))]
 fn handler(alloc: Global, tokens: Tokens) -> Result<(DeclKind, Tokens), Stop>
     ensures { Reads result (spec.handler (said tokens.entry)) }
 {
@@ -179,7 +179,7 @@ fn handler(alloc: Global, tokens: Tokens) -> Result<(DeclKind, Tokens), Stop>
 }
 
 /// The type of a function's answer, or `void`.
-#[tactic(auto, unfolding(lucid_parse_grammar::specs::ReadDeclaration::answer))]
+#[tactic(auto, unfolding(lucid_parse_spec::specs::ReadDeclaration::answer))]
 fn answer(tokens: Tokens) -> Result<(Option<Ty>, Tokens), Stop>
     ensures { Reads result (spec.answer (said tokens.entry)) }
 {
@@ -192,7 +192,7 @@ fn answer(tokens: Tokens) -> Result<(Option<Ty>, Tokens), Stop>
     }
 }
 
-#[tactic(auto, unfolding(lucid_parse_grammar::specs::ReadDeclaration::function))]
+#[tactic(auto, unfolding(lucid_parse_spec::specs::ReadDeclaration::function))]
 fn function(alloc: Global, tokens: Tokens) -> Result<(DeclKind, Tokens), Stop>
     ensures { Reads result (spec.function (said tokens.entry)) }
 {
@@ -218,7 +218,7 @@ fn numbers<'a>(alloc: Global, tokens: Tokens<'a>) -> Result<(Items<u64>, Tokens<
     separated(alloc, |part| number(part), tokens)
 }
 
-#[tactic(auto, unfolding(lucid_parse_grammar::specs::ReadDeclaration::group))]
+#[tactic(auto, unfolding(lucid_parse_spec::specs::ReadDeclaration::group))]
 fn group(alloc: Global, tokens: Tokens) -> Result<(DeclKind, Tokens), Stop>
     ensures { Reads result (spec.group (said tokens.entry)) }
 {

@@ -3,7 +3,7 @@ ghost use Rattle.std.specs.Prelude.{Some};
 ghost use Rattle.lucid_parse_expression.specs.Reads.{Reads, Gives};
 ghost use Rattle.lucid_parse_tree.specs.declared.tree.V.TheVariants as v;
 ghost use Rattle.lucid_parse_expression.specs.Tokens.{said};
-ghost use Rattle.lucid_parse_grammar.specs.ReadStatement as spec;
+ghost use Rattle.lucid_parse_spec.specs.ReadStatement as spec;
 
 use lucid_base::{Boxed, Id, Items};
 use lucid_lex::{Sign, Word};
@@ -11,7 +11,7 @@ use lucid_parse_expression::{Ascii, Lexeme, Stop, Tokens, call_arguments, expect
 use lucid_parse_tree::{E, V};
 use std::alloc::Global;
 
-#[tactic(auto, unfolding(lucid_parse_grammar::specs::ReadStatement::event))]
+#[tactic(auto, unfolding(lucid_parse_spec::specs::ReadStatement::event))]
 pub(crate) fn event(alloc: Global, tokens: Tokens) -> Result<(Boxed<V>, Tokens), Stop>
     ensures { Reads result (spec.event (said tokens.entry)) }
 {
@@ -20,7 +20,7 @@ pub(crate) fn event(alloc: Global, tokens: Tokens) -> Result<(Boxed<V>, Tokens),
 
 /// With at most `depth` events round one another.
 #[cycle(event)]
-#[tactic(auto, unfolding(lucid_parse_grammar::specs::ReadStatement::event_at))]
+#[tactic(auto, unfolding(lucid_parse_spec::specs::ReadStatement::event_at))]
 fn event_at(alloc: Global, depth: usize, tokens: Tokens) -> Result<(Boxed<V>, Tokens), Stop>
     ensures { Reads result (spec.event_at depth (said tokens.entry)) }
 {
@@ -31,7 +31,7 @@ fn event_at(alloc: Global, depth: usize, tokens: Tokens) -> Result<(Boxed<V>, To
 }
 
 #[cycle(event)]
-#[tactic(auto, unfolding(lucid_parse_grammar::specs::ReadStatement::event_within))]
+#[tactic(auto, unfolding(lucid_parse_spec::specs::ReadStatement::event_within))]
 fn event_within(alloc: Global, depth: usize, tokens: Tokens) -> Result<(Boxed<V>, Tokens), Stop>
     ensures { Reads result (spec.event_within (spec.event_at depth) (said tokens.entry)) }
 {
@@ -59,7 +59,7 @@ fn event_within(alloc: Global, depth: usize, tokens: Tokens) -> Result<(Boxed<V>
 
 /// Behind `Event.` and this name.
 #[cycle(event)]
-#[tactic(auto, unfolding(lucid_parse_grammar::specs::ReadStatement::event_by))]
+#[tactic(auto, unfolding(lucid_parse_spec::specs::ReadStatement::event_by))]
 fn event_by<'a>(
     alloc: Global,
     depth: usize,
@@ -81,7 +81,7 @@ fn event_by<'a>(
 
 /// An event and an expression, in parentheses.
 #[cycle(event)]
-#[tactic(auto, unfolding(lucid_parse_grammar::specs::ReadStatement::event_pair))]
+#[tactic(auto, unfolding(lucid_parse_spec::specs::ReadStatement::event_pair))]
 fn event_pair(alloc: Global, depth: usize, tokens: Tokens) -> Result<((Boxed<V>, E), Tokens), Stop>
     ensures { Reads result (spec.event_pair (spec.event_at depth) (said tokens.entry)) }
 {

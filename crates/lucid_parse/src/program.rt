@@ -2,7 +2,7 @@
 ghost use Rattle.std.specs.Prelude.{◌≡◌, ◌≢◌, ℕ, ◌+◌, ◌-◌, ◌<◌, ◌≤◌, [], length, drop, count_by, ◌==◌, All, Some, None, IfOk, IfErr, OnOk, IsErrOf, MatchResult};
 ghost use Rattle.lucid_lex.specs.Reading.{Reads, IsTokenOf};
 ghost use Rattle.lucid_parse_tree.specs.declared.tree.Tree.{Tree};
-ghost use Rattle.lucid_parse_grammar.specs.Lexemes.{lexemes_of};
+ghost use Rattle.lucid_parse_spec.specs.Lexemes.{lexemes_of};
 ghost use Rattle.lucid_parse.specs.Nesting as nesting;
 ghost use Rattle.lucid_parse.specs.Program as spec;
 ghost use Rattle.lucid_parse.specs.Program.{kinds_of, IsTreeOf, IsFault, Progress, IsWhy, Rising};
@@ -13,7 +13,7 @@ use crate::nesting::too_deep;
 use lucid_base::Items;
 use lucid_lex::{Token, tokens_stand};
 use lucid_parse_expression::{Stop, Tokens};
-use lucid_parse_grammar::declarations_are_read_as_spelled;
+use lucid_parse_spec::declarations_are_read_as_spelled;
 use lucid_parse_tree::{Decl, Tree};
 use std::alloc::Global;
 

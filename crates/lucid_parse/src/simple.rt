@@ -1,7 +1,7 @@
 // Statements without statements in them.
 ghost use Rattle.lucid_parse_expression.specs.Reads.{Reads};
 ghost use Rattle.lucid_parse_expression.specs.Tokens.{said};
-ghost use Rattle.lucid_parse_grammar.specs.ReadStatement as spec;
+ghost use Rattle.lucid_parse_spec.specs.ReadStatement as spec;
 
 use crate::event::event;
 use lucid_base::{Id, Items};
@@ -13,7 +13,7 @@ use lucid_parse_expression::{
 use lucid_parse_tree::{E, S};
 use std::alloc::Global;
 
-#[tactic(auto, unfolding(lucid_parse_grammar::specs::ReadStatement::simple))]
+#[tactic(auto, unfolding(lucid_parse_spec::specs::ReadStatement::simple))]
 pub(crate) fn simple(alloc: Global, tokens: Tokens) -> Result<(S, Tokens), Stop>
     ensures { Reads result (spec.simple (said tokens.entry)) }
 {
@@ -28,7 +28,7 @@ pub(crate) fn simple(alloc: Global, tokens: Tokens) -> Result<(S, Tokens), Stop>
 }
 
 /// An expression, up to the `;` behind it.
-#[tactic(auto, unfolding(lucid_parse_grammar::specs::ReadStatement::ended_value))]
+#[tactic(auto, unfolding(lucid_parse_spec::specs::ReadStatement::ended_value))]
 fn ended_value(alloc: Global, tokens: Tokens) -> Result<(E, Tokens), Stop>
     ensures { Reads result (spec.ended_value (said tokens.entry)) }
 {
@@ -38,7 +38,7 @@ fn ended_value(alloc: Global, tokens: Tokens) -> Result<(E, Tokens), Stop>
 }
 
 /// What a call is given, behind its open parenthesis, up to the `;`.
-#[tactic(auto, unfolding(lucid_parse_grammar::specs::ReadStatement::ended_arguments))]
+#[tactic(auto, unfolding(lucid_parse_spec::specs::ReadStatement::ended_arguments))]
 fn ended_arguments(alloc: Global, tokens: Tokens) -> Result<(Items<E>, Tokens), Stop>
     ensures { Reads result (spec.ended_arguments (said tokens.entry)) }
 {
@@ -48,7 +48,7 @@ fn ended_arguments(alloc: Global, tokens: Tokens) -> Result<(Items<E>, Tokens), 
 }
 
 /// Behind the name that a statement begins with.
-#[tactic(auto, unfolding(lucid_parse_grammar::specs::ReadStatement::after_its_name))]
+#[tactic(auto, unfolding(lucid_parse_spec::specs::ReadStatement::after_its_name))]
 fn after_its_name<'a>(
     alloc: Global,
     name: Ascii<'a>,
@@ -69,7 +69,7 @@ fn after_its_name<'a>(
     }
 }
 
-#[tactic(auto, unfolding(lucid_parse_grammar::specs::ReadStatement::declared))]
+#[tactic(auto, unfolding(lucid_parse_spec::specs::ReadStatement::declared))]
 fn declared_local(alloc: Global, tokens: Tokens) -> Result<(S, Tokens), Stop>
     ensures { Reads result (spec.declared (said tokens.entry)) }
 {
@@ -80,7 +80,7 @@ fn declared_local(alloc: Global, tokens: Tokens) -> Result<(S, Tokens), Stop>
 }
 
 /// A call on an array, behind `Array`.
-#[tactic(auto, unfolding(lucid_parse_grammar::specs::ReadStatement::array_statement))]
+#[tactic(auto, unfolding(lucid_parse_spec::specs::ReadStatement::array_statement))]
 fn array_statement(alloc: Global, tokens: Tokens) -> Result<(S, Tokens), Stop>
     ensures { Reads result (spec.array_statement (said tokens.entry)) }
 {
@@ -90,7 +90,7 @@ fn array_statement(alloc: Global, tokens: Tokens) -> Result<(S, Tokens), Stop>
 }
 
 /// Behind `return`.
-#[tactic(auto, unfolding(lucid_parse_grammar::specs::ReadStatement::returned))]
+#[tactic(auto, unfolding(lucid_parse_spec::specs::ReadStatement::returned))]
 fn returned(alloc: Global, tokens: Tokens) -> Result<(S, Tokens), Stop>
     ensures { Reads result (spec.returned (said tokens.entry)) }
 {
@@ -104,7 +104,7 @@ fn returned(alloc: Global, tokens: Tokens) -> Result<(S, Tokens), Stop>
 }
 
 /// Behind `generate`.
-#[tactic(auto, unfolding(lucid_parse_grammar::specs::ReadStatement::generated))]
+#[tactic(auto, unfolding(lucid_parse_spec::specs::ReadStatement::generated))]
 fn generated(alloc: Global, tokens: Tokens) -> Result<(S, Tokens), Stop>
     ensures { Reads result (spec.generated (said tokens.entry)) }
 {
@@ -123,7 +123,7 @@ fn quoted(alloc: Global, tokens: Tokens) -> Result<(Id, Tokens), Stop>
 }
 
 /// Behind `printf`.
-#[tactic(auto, unfolding(lucid_parse_grammar::specs::ReadStatement::printed))]
+#[tactic(auto, unfolding(lucid_parse_spec::specs::ReadStatement::printed))]
 fn printed(alloc: Global, tokens: Tokens) -> Result<(S, Tokens), Stop>
     ensures { Reads result (spec.printed (said tokens.entry)) }
 {

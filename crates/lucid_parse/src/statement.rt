@@ -3,7 +3,7 @@
 ghost use Rattle.std.specs.Prelude.{◌≡◌, Some, option_map};
 ghost use Rattle.lucid_parse_expression.specs.Reads.{Reads, Gives};
 ghost use Rattle.lucid_parse_expression.specs.Tokens.{said};
-ghost use Rattle.lucid_parse_grammar.specs.ReadStatement as spec;
+ghost use Rattle.lucid_parse_spec.specs.ReadStatement as spec;
 
 use crate::simple::simple;
 use lucid_base::{Boxed, Items};
@@ -15,7 +15,7 @@ use lucid_parse_tree::{C, E, No, S};
 use std::alloc::Global;
 
 /// A block: statements in braces.
-#[tactic(auto, unfolding(lucid_parse_grammar::specs::ReadStatement::body))]
+#[tactic(auto, unfolding(lucid_parse_spec::specs::ReadStatement::body))]
 pub(crate) fn body(alloc: Global, tokens: Tokens) -> Result<(Items<S>, Tokens), Stop>
     ensures { Reads result (spec.body (said tokens.entry)) }
 {
@@ -23,7 +23,7 @@ pub(crate) fn body(alloc: Global, tokens: Tokens) -> Result<(Items<S>, Tokens), 
 }
 
 #[cycle(statement)]
-#[tactic(auto, unfolding(lucid_parse_grammar::specs::ReadStatement::block))]
+#[tactic(auto, unfolding(lucid_parse_spec::specs::ReadStatement::block))]
 fn block(alloc: Global, depth: usize, tokens: Tokens) -> Result<(Items<S>, Tokens), Stop>
     ensures { Reads result (spec.block (spec.inner_at depth).statement (said tokens.entry)) }
 {
@@ -35,7 +35,7 @@ fn block(alloc: Global, depth: usize, tokens: Tokens) -> Result<(Items<S>, Token
 
 /// The statements up to a `}`.
 #[cycle(statement)]
-#[tactic(auto, unfolding(lucid_parse_grammar::specs::ReadStatement::statements, lucid_parse_grammar::specs::Reader::repeat))]
+#[tactic(auto, unfolding(lucid_parse_spec::specs::ReadStatement::statements, lucid_parse_spec::specs::Reader::repeat))]
 fn statements(alloc: Global, depth: usize, tokens: Tokens) -> Result<(Items<S>, Tokens), Stop>
     ensures { Reads result (spec.statements (spec.inner_at depth).statement (said tokens.entry)) }
 {
@@ -56,7 +56,7 @@ fn statements(alloc: Global, depth: usize, tokens: Tokens) -> Result<(Items<S>, 
 
 /// With at most `depth` statements round one another.
 #[cycle(statement)]
-#[tactic(auto, unfolding(lucid_parse_grammar::specs::ReadStatement::inner_at))]
+#[tactic(auto, unfolding(lucid_parse_spec::specs::ReadStatement::inner_at))]
 fn statement(alloc: Global, depth: usize, tokens: Tokens) -> Result<(S, Tokens), Stop>
     ensures { Reads result ((spec.inner_at depth).statement (said tokens.entry)) }
 {
@@ -67,7 +67,7 @@ fn statement(alloc: Global, depth: usize, tokens: Tokens) -> Result<(S, Tokens),
 }
 
 #[cycle(statement)]
-#[tactic(auto, unfolding(lucid_parse_grammar::specs::ReadStatement::statement_within))]
+#[tactic(auto, unfolding(lucid_parse_spec::specs::ReadStatement::statement_within))]
 fn statement_within(alloc: Global, depth: usize, tokens: Tokens) -> Result<(S, Tokens), Stop>
     ensures { Reads result (spec.statement_within (spec.inner_at depth) (said tokens.entry)) }
 {
@@ -82,7 +82,7 @@ fn statement_within(alloc: Global, depth: usize, tokens: Tokens) -> Result<(S, T
 }
 
 /// What is tested, in parentheses.
-#[tactic(auto, unfolding(lucid_parse_grammar::specs::ReadStatement::condition))]
+#[tactic(auto, unfolding(lucid_parse_spec::specs::ReadStatement::condition))]
 fn condition(alloc: Global, tokens: Tokens) -> Result<(E, Tokens), Stop>
     ensures { Reads result (spec.condition (said tokens.entry)) }
 {
@@ -94,7 +94,7 @@ fn condition(alloc: Global, tokens: Tokens) -> Result<(E, Tokens), Stop>
 
 /// Behind `if`.
 #[cycle(statement)]
-#[tactic(auto, unfolding(lucid_parse_grammar::specs::ReadStatement::inner_at, lucid_parse_grammar::specs::ReadStatement::choice_within))]
+#[tactic(auto, unfolding(lucid_parse_spec::specs::ReadStatement::inner_at, lucid_parse_spec::specs::ReadStatement::choice_within))]
 fn choice(alloc: Global, depth: usize, tokens: Tokens) -> Result<(C, Tokens), Stop>
     ensures { Reads result ((spec.inner_at depth).choice (said tokens.entry)) }
 {
@@ -108,7 +108,7 @@ fn choice(alloc: Global, depth: usize, tokens: Tokens) -> Result<(C, Tokens), St
 }
 
 #[cycle(statement)]
-#[tactic(auto, unfolding(lucid_parse_grammar::specs::ReadStatement::alternative))]
+#[tactic(auto, unfolding(lucid_parse_spec::specs::ReadStatement::alternative))]
 fn alternative(alloc: Global, depth: usize, tokens: Tokens) -> Result<(No, Tokens), Stop>
     ensures { Reads result (spec.alternative (spec.inner_at depth) (said tokens.entry)) }
 {
@@ -135,7 +135,7 @@ fn else_if(alloc: Global, choice: C) -> Result<No, Stop>
 }
 
 /// What begins a case, up to its block.
-#[tactic(auto, unfolding(lucid_parse_grammar::specs::ReadStatement::case_head))]
+#[tactic(auto, unfolding(lucid_parse_spec::specs::ReadStatement::case_head))]
 fn case_head(tokens: Tokens) -> Option<(u64, Tokens)>
     ensures { option_map (λ h. (h.0, said h.1)) result ≡ spec.case_head (said tokens.entry) }
 {
@@ -152,7 +152,7 @@ fn case_head(tokens: Tokens) -> Option<(u64, Tokens)>
 }
 
 #[cycle(statement)]
-#[tactic(auto, unfolding(lucid_parse_grammar::specs::ReadStatement::cases, lucid_parse_grammar::specs::Reader::repeat))]
+#[tactic(auto, unfolding(lucid_parse_spec::specs::ReadStatement::cases, lucid_parse_spec::specs::Reader::repeat))]
 fn cases(
     alloc: Global,
     depth: usize,
@@ -176,7 +176,7 @@ fn cases(
 }
 
 /// What begins the last arm, up to its block.
-#[tactic(auto, unfolding(lucid_parse_grammar::specs::ReadStatement::last_head))]
+#[tactic(auto, unfolding(lucid_parse_spec::specs::ReadStatement::last_head))]
 fn last_head(tokens: Tokens) -> Option<Tokens>
     ensures { option_map (λ rest. said rest) result ≡ spec.last_head (said tokens.entry) }
 {
@@ -190,7 +190,7 @@ fn last_head(tokens: Tokens) -> Option<Tokens>
 }
 
 #[cycle(statement)]
-#[tactic(auto, unfolding(lucid_parse_grammar::specs::ReadStatement::last_arm))]
+#[tactic(auto, unfolding(lucid_parse_spec::specs::ReadStatement::last_arm))]
 fn last_arm(alloc: Global, depth: usize, tokens: Tokens) -> Result<(Option<Items<S>>, Tokens), Stop>
     ensures { Reads result (spec.last_arm (spec.inner_at depth).statement (said tokens.entry)) }
 {
@@ -204,7 +204,7 @@ fn last_arm(alloc: Global, depth: usize, tokens: Tokens) -> Result<(Option<Items
 }
 
 /// What is matched, up to the cases.
-#[tactic(auto, unfolding(lucid_parse_grammar::specs::ReadStatement::match_head))]
+#[tactic(auto, unfolding(lucid_parse_spec::specs::ReadStatement::match_head))]
 fn match_head(alloc: Global, tokens: Tokens) -> Result<(E, Tokens), Stop>
     ensures { Reads result (spec.match_head (said tokens.entry)) }
 {
@@ -223,7 +223,7 @@ fn match_of(test: E, cases: Items<(u64, Items<S>)>, last: Option<Items<S>>) -> R
 
 /// Behind `match`.
 #[cycle(statement)]
-#[tactic(auto, unfolding(lucid_parse_grammar::specs::ReadStatement::matched))]
+#[tactic(auto, unfolding(lucid_parse_spec::specs::ReadStatement::matched))]
 fn matched(alloc: Global, depth: usize, tokens: Tokens) -> Result<(S, Tokens), Stop>
     ensures { Reads result (spec.matched (spec.inner_at depth).statement (said tokens.entry)) }
 {

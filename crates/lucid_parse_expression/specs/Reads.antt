@@ -4,7 +4,7 @@ use Rattle.lucid_parse_expression.specs.declared.error.Stop.{Stop}
 use Rattle.lucid_parse_expression.specs.declared.error.Stop.TheVariants as stops
 use Rattle.lucid_parse_expression.specs.declared.tokens.Tokens.{Tokens}
 use Rattle.lucid_parse_expression.specs.Tokens.{said}
-use Rattle.lucid_parse_grammar.specs.Reader.{Text, Outcome, Parser}
+use Rattle.lucid_parse_spec.specs.Reader.{Text, Outcome, Parser}
 
 abbrev pub Fails : {X : Type 0} → Stop → Option X → Type 0
 Fails stops.NoTree o = o ≡ None

@@ -3,8 +3,8 @@ use Rattle.std.specs.Prelude.{List, [], ◌∷◌, Option, Some, None}
 use Rattle.lucid_parse_expression.specs.declared.tokens.Tokens.{Tokens}
 use Rattle.lucid_parse_expression.specs.declared.lexeme.Lexeme as code
 use Rattle.lucid_parse_expression.specs.declared.lexeme.Lexeme.TheVariants as codes
-use Rattle.lucid_parse_grammar.specs.Lexemes as lexemes
-use Rattle.lucid_parse_grammar.specs.Lexemes.{Lexeme, lexemes_of}
+use Rattle.lucid_parse_spec.specs.Lexemes as lexemes
+use Rattle.lucid_parse_spec.specs.Lexemes.{Lexeme, lexemes_of}
 
 -- a token of the program's reading, as the grammar sees it
 abbrev pub says : code.Lexeme → Lexeme

@@ -1,8 +1,8 @@
 // Calls on arrays: the method, and then what the call is given, which is read as a list of expressions and taken apart here.
 ghost use Rattle.lucid_parse_expression.specs.Reads.{Reads, Gives};
 ghost use Rattle.lucid_parse_expression.specs.Tokens.{said};
-ghost use Rattle.lucid_parse_grammar.specs.declared.method.Method.TheVariants as methods;
-ghost use Rattle.lucid_parse_grammar.specs.ReadExpression as spec;
+ghost use Rattle.lucid_parse_spec.specs.declared.method.Method.TheVariants as methods;
+ghost use Rattle.lucid_parse_spec.specs.ReadExpression as spec;
 
 use crate::error::Stop;
 use crate::lexeme::Lexeme;
@@ -10,12 +10,12 @@ use crate::parts::expect;
 use crate::tokens::Tokens;
 use lucid_base::{Boxed, Id, Items};
 use lucid_lex::Sign;
-use lucid_parse_grammar::Method;
+use lucid_parse_spec::Method;
 use lucid_parse_tree::{A, E};
 use std::alloc::Global;
 
 /// Behind `Array`, up to the open parenthesis.
-#[tactic(auto, unfolding(lucid_parse_grammar::specs::ReadExpression::array_method))]
+#[tactic(auto, unfolding(lucid_parse_spec::specs::ReadExpression::array_method))]
 pub(crate) fn array_method(tokens: Tokens) -> Result<(Method, Tokens), Stop>
     ensures { Reads result (spec.array_method (said tokens.entry)) }
 {
@@ -41,7 +41,7 @@ pub(crate) fn array_of(alloc: Global, method: Method, given: Items<E>) -> Result
     Ok(Boxed::new(alloc, call)?)
 }
 
-#[tactic(auto, unfolding(lucid_parse_grammar::specs::ReadExpression::array_of))]
+#[tactic(auto, unfolding(lucid_parse_spec::specs::ReadExpression::array_of))]
 fn call_of(method: Method, given: Items<E>) -> Result<A, Stop>
     ensures { Gives result (spec.array_of method given) }
 {
@@ -50,7 +50,7 @@ fn call_of(method: Method, given: Items<E>) -> Result<A, Stop>
 }
 
 /// By what follows the array's name.
-#[tactic(auto, unfolding(lucid_parse_grammar::specs::ReadExpression::array_at))]
+#[tactic(auto, unfolding(lucid_parse_spec::specs::ReadExpression::array_at))]
 fn array_at(name: Id, method: Method, given: Items<E>) -> Result<A, Stop>
     ensures { Gives result (spec.array_at name method given) }
 {
@@ -71,7 +71,7 @@ fn array_with(name: Id, index: E, method: Method, given: Items<E>) -> Result<A, 
     }
 }
 
-#[tactic(auto, unfolding(lucid_parse_grammar::specs::ReadExpression::array_with))]
+#[tactic(auto, unfolding(lucid_parse_spec::specs::ReadExpression::array_with))]
 fn get_call(name: Id, index: E, given: Items<E>) -> Result<A, Stop>
     ensures { Gives result (spec.array_with name index methods.Get given) }
 {
@@ -82,7 +82,7 @@ fn get_call(name: Id, index: E, given: Items<E>) -> Result<A, Stop>
     }
 }
 
-#[tactic(auto, unfolding(lucid_parse_grammar::specs::ReadExpression::array_with))]
+#[tactic(auto, unfolding(lucid_parse_spec::specs::ReadExpression::array_with))]
 fn set_call(name: Id, index: E, given: Items<E>) -> Result<A, Stop>
     ensures { Gives result (spec.array_with name index methods.Set given) }
 {
@@ -90,7 +90,7 @@ fn set_call(name: Id, index: E, given: Items<E>) -> Result<A, Stop>
     Ok(A::Set(name, index, value))
 }
 
-#[tactic(auto, unfolding(lucid_parse_grammar::specs::ReadExpression::array_with))]
+#[tactic(auto, unfolding(lucid_parse_spec::specs::ReadExpression::array_with))]
 fn getm_call(name: Id, index: E, given: Items<E>) -> Result<A, Stop>
     ensures { Gives result (spec.array_with name index methods.Getm given) }
 {
@@ -98,7 +98,7 @@ fn getm_call(name: Id, index: E, given: Items<E>) -> Result<A, Stop>
     Ok(A::Getm(name, index, memop, argument))
 }
 
-#[tactic(auto, unfolding(lucid_parse_grammar::specs::ReadExpression::array_with))]
+#[tactic(auto, unfolding(lucid_parse_spec::specs::ReadExpression::array_with))]
 fn setm_call(name: Id, index: E, given: Items<E>) -> Result<A, Stop>
     ensures { Gives result (spec.array_with name index methods.Setm given) }
 {
@@ -106,7 +106,7 @@ fn setm_call(name: Id, index: E, given: Items<E>) -> Result<A, Stop>
     Ok(A::Setm(name, index, memop, argument))
 }
 
-#[tactic(auto, unfolding(lucid_parse_grammar::specs::ReadExpression::array_with))]
+#[tactic(auto, unfolding(lucid_parse_spec::specs::ReadExpression::array_with))]
 fn update_call(name: Id, index: E, given: Items<E>) -> Result<A, Stop>
     ensures { Gives result (spec.array_with name index methods.Update given) }
 {
@@ -115,7 +115,7 @@ fn update_call(name: Id, index: E, given: Items<E>) -> Result<A, Stop>
 }
 
 /// The last expression, which is the only one.
-#[tactic(auto, unfolding(lucid_parse_grammar::specs::ReadExpression::last))]
+#[tactic(auto, unfolding(lucid_parse_spec::specs::ReadExpression::last))]
 fn last(given: Items<E>) -> Result<E, Stop>
     ensures { Gives result (spec.last given) }
 {
@@ -128,7 +128,7 @@ fn last(given: Items<E>) -> Result<E, Stop>
 }
 
 /// A memop and its argument, and nothing else.
-#[tactic(auto, unfolding(lucid_parse_grammar::specs::ReadExpression::last_memop))]
+#[tactic(auto, unfolding(lucid_parse_spec::specs::ReadExpression::last_memop))]
 fn last_memop(given: Items<E>) -> Result<(Id, E), Stop>
     ensures { Gives result (spec.last_memop given) }
 {
@@ -138,7 +138,7 @@ fn last_memop(given: Items<E>) -> Result<(Id, E), Stop>
 }
 
 /// Two memops, each with its argument, and nothing else.
-#[tactic(auto, unfolding(lucid_parse_grammar::specs::ReadExpression::last_memops))]
+#[tactic(auto, unfolding(lucid_parse_spec::specs::ReadExpression::last_memops))]
 fn last_memops(given: Items<E>) -> Result<((Id, E), (Id, E)), Stop>
     ensures { Gives result (spec.last_memops given) }
 {
@@ -148,7 +148,7 @@ fn last_memops(given: Items<E>) -> Result<((Id, E), (Id, E)), Stop>
 }
 
 /// A memop and its argument.
-#[tactic(auto, unfolding(lucid_parse_grammar::specs::ReadExpression::memop_part))]
+#[tactic(auto, unfolding(lucid_parse_spec::specs::ReadExpression::memop_part))]
 fn memop_part(given: Items<E>) -> Result<((Id, E), Items<E>), Stop>
     ensures { Gives result (spec.memop_part given) }
 {
@@ -158,7 +158,7 @@ fn memop_part(given: Items<E>) -> Result<((Id, E), Items<E>), Stop>
 }
 
 /// The first expression and the others, where the first is a name.
-#[tactic(auto, unfolding(lucid_parse_grammar::specs::ReadExpression::first_name))]
+#[tactic(auto, unfolding(lucid_parse_spec::specs::ReadExpression::first_name))]
 fn first_name(given: Items<E>) -> Result<(Id, Items<E>), Stop>
     ensures { Gives result (spec.first_name given) }
 {

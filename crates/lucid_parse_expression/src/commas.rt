@@ -1,6 +1,6 @@
 // Lists of parts with commas between them: what they hold is read by the caller's closure.
-ghost use Rattle.lucid_parse_grammar.specs.Reader as spec;
-ghost use Rattle.lucid_parse_grammar.specs.Reader.{Parser};
+ghost use Rattle.lucid_parse_spec.specs.Reader as spec;
+ghost use Rattle.lucid_parse_spec.specs.Reader.{Parser};
 ghost use Rattle.lucid_parse_expression.specs.Reads.{Reads, ReadsAll};
 ghost use Rattle.lucid_parse_expression.specs.Tokens.{said};
 
@@ -12,7 +12,7 @@ use lucid_lex::Sign;
 use std::alloc::Global;
 
 /// One part or more, each read by `part`.
-#[tactic(auto, unfolding(lucid_parse_grammar::specs::Reader::separated, lucid_parse_grammar::specs::Reader::repeat))]
+#[tactic(auto, unfolding(lucid_parse_spec::specs::Reader::separated, lucid_parse_spec::specs::Reader::repeat))]
 pub fn separated<'a, T: Drop, F: Fn(Tokens<'a>) -> Result<(T, Tokens<'a>), Stop>>(
     alloc: Global,
     part: F,

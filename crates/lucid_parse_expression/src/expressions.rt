@@ -1,10 +1,10 @@
 // Expressions, by how tightly their signs bind. `depth` bounds how many expressions stand round one another; where it is the
 // number of the tokens, it never runs out, and the limits on nesting, which are tried before, bound the recursion by far less.
-ghost use Rattle.lucid_parse_grammar.specs.Reader.{separated};
+ghost use Rattle.lucid_parse_spec.specs.Reader.{separated};
 ghost use Rattle.lucid_parse_expression.specs.Reads.{Reads, Leaves};
 ghost use Rattle.lucid_parse_expression.specs.Tokens.{said};
-ghost use Rattle.lucid_parse_grammar.specs.Operators.{disjunction};
-ghost use Rattle.lucid_parse_grammar.specs.ReadExpression as spec;
+ghost use Rattle.lucid_parse_spec.specs.Operators.{disjunction};
+ghost use Rattle.lucid_parse_spec.specs.ReadExpression as spec;
 
 use crate::array::{array_method, array_of};
 use crate::ascii::Ascii;
@@ -16,12 +16,12 @@ use crate::parts::{after, expect, expect_name, width, width_if};
 use crate::tokens::Tokens;
 use lucid_base::{Boxed, Id, Items};
 use lucid_lex::{Sign, Word};
-use lucid_parse_grammar::{DISJUNCTION, Next, TIGHTEST, pre_of, right_level, unary_level};
+use lucid_parse_spec::{DISJUNCTION, Next, TIGHTEST, pre_of, right_level, unary_level};
 use lucid_parse_tree::{A, E};
 use std::alloc::Global;
 
 /// An expression.
-#[tactic(auto, unfolding(lucid_parse_grammar::specs::ReadExpression::expression))]
+#[tactic(auto, unfolding(lucid_parse_spec::specs::ReadExpression::expression))]
 pub fn expression(alloc: Global, tokens: Tokens) -> Result<(E, Tokens), Stop>
     ensures { Reads result (spec.expression (said tokens.entry)) }
 {
@@ -29,7 +29,7 @@ pub fn expression(alloc: Global, tokens: Tokens) -> Result<(E, Tokens), Stop>
 }
 
 /// What a call is given, behind its open parenthesis.
-#[tactic(auto, unfolding(lucid_parse_grammar::specs::ReadExpression::call_arguments))]
+#[tactic(auto, unfolding(lucid_parse_spec::specs::ReadExpression::call_arguments))]
 pub fn call_arguments(alloc: Global, tokens: Tokens) -> Result<(Items<E>, Tokens), Stop>
     ensures { Reads result (spec.call_arguments (said tokens.entry)) }
 {
@@ -37,7 +37,7 @@ pub fn call_arguments(alloc: Global, tokens: Tokens) -> Result<(Items<E>, Tokens
 }
 
 /// Expressions, each behind a comma.
-#[tactic(auto, unfolding(lucid_parse_grammar::specs::ReadExpression::operands))]
+#[tactic(auto, unfolding(lucid_parse_spec::specs::ReadExpression::operands))]
 pub fn operands(alloc: Global, tokens: Tokens) -> Result<(Items<E>, Tokens), Stop>
     ensures { Reads result (spec.operands (said tokens.entry)) }
 {
@@ -48,7 +48,7 @@ pub fn operands(alloc: Global, tokens: Tokens) -> Result<(Items<E>, Tokens), Sto
 }
 
 /// A call on an array, behind `Array`.
-#[tactic(auto, unfolding(lucid_parse_grammar::specs::ReadExpression::whole_array_call, lucid_parse_grammar::specs::ReadExpression::array_call))]
+#[tactic(auto, unfolding(lucid_parse_spec::specs::ReadExpression::whole_array_call, lucid_parse_spec::specs::ReadExpression::array_call))]
 pub fn array_call(alloc: Global, tokens: Tokens) -> Result<(Boxed<A>, Tokens), Stop>
     ensures { Reads result (spec.whole_array_call (said tokens.entry)) }
 {
@@ -59,7 +59,7 @@ pub fn array_call(alloc: Global, tokens: Tokens) -> Result<(Boxed<A>, Tokens), S
 
 /// An expression of at least this level.
 #[cycle(expression)]
-#[tactic(auto, unfolding(lucid_parse_grammar::specs::ReadExpression::expression_at, lucid_parse_grammar::specs::ReadExpression::climb))]
+#[tactic(auto, unfolding(lucid_parse_spec::specs::ReadExpression::expression_at, lucid_parse_spec::specs::ReadExpression::climb))]
 fn expression_at(
     alloc: Global,
     depth: usize,
@@ -108,7 +108,7 @@ fn grown(
 }
 
 #[cycle(expression)]
-#[tactic(auto, unfolding(lucid_parse_grammar::specs::ReadExpression::operand, lucid_parse_grammar::specs::ReadExpression::array_call))]
+#[tactic(auto, unfolding(lucid_parse_spec::specs::ReadExpression::operand, lucid_parse_spec::specs::ReadExpression::array_call))]
 fn operand(alloc: Global, depth: usize, tokens: Tokens) -> Result<(E, Tokens), Stop>
     ensures { Reads result (spec.operand (spec.expression_at depth) (said tokens.entry)) }
 {
@@ -146,7 +146,7 @@ fn operand(alloc: Global, depth: usize, tokens: Tokens) -> Result<(E, Tokens), S
 
 /// What begins with a name.
 #[cycle(expression)]
-#[tactic(auto, unfolding(lucid_parse_grammar::specs::ReadExpression::named))]
+#[tactic(auto, unfolding(lucid_parse_spec::specs::ReadExpression::named))]
 fn named<'a>(
     alloc: Global,
     depth: usize,
@@ -166,7 +166,7 @@ fn named<'a>(
 
 /// What a call is given, behind its open parenthesis.
 #[cycle(expression)]
-#[tactic(auto, unfolding(lucid_parse_grammar::specs::ReadExpression::arguments))]
+#[tactic(auto, unfolding(lucid_parse_spec::specs::ReadExpression::arguments))]
 fn arguments(alloc: Global, depth: usize, tokens: Tokens) -> Result<(Items<E>, Tokens), Stop>
     ensures { Reads result (spec.arguments (spec.expression_at depth) (said tokens.entry)) }
 {
@@ -182,7 +182,7 @@ fn arguments(alloc: Global, depth: usize, tokens: Tokens) -> Result<(Items<E>, T
 
 /// Expressions with commas between them.
 #[cycle(expression)]
-#[tactic(auto, unfolding(lucid_parse_grammar::specs::Reader::separated, lucid_parse_grammar::specs::Reader::repeat))]
+#[tactic(auto, unfolding(lucid_parse_spec::specs::Reader::separated, lucid_parse_spec::specs::Reader::repeat))]
 fn expressions(alloc: Global, depth: usize, tokens: Tokens) -> Result<(Items<E>, Tokens), Stop>
     ensures { Reads result (separated (spec.expression_at depth disjunction) (said tokens.entry)) }
 {
@@ -203,7 +203,7 @@ fn expressions(alloc: Global, depth: usize, tokens: Tokens) -> Result<(Items<E>,
 }
 
 /// Passes over `.time()`.
-#[tactic(auto, unfolding(lucid_parse_grammar::specs::ReadExpression::after_time))]
+#[tactic(auto, unfolding(lucid_parse_spec::specs::ReadExpression::after_time))]
 fn expect_time(tokens: Tokens) -> Result<Tokens, Stop>
     ensures { Leaves result (spec.after_time (said tokens.entry)) }
 {
@@ -214,7 +214,7 @@ fn expect_time(tokens: Tokens) -> Result<Tokens, Stop>
 }
 
 /// The width of a hash, up to the open parenthesis.
-#[tactic(auto, unfolding(lucid_parse_grammar::specs::ReadExpression::hash_head))]
+#[tactic(auto, unfolding(lucid_parse_spec::specs::ReadExpression::hash_head))]
 fn hash_head(tokens: Tokens) -> Result<(u64, Tokens), Stop>
     ensures { Reads result (spec.hash_head (said tokens.entry)) }
 {
@@ -225,7 +225,7 @@ fn hash_head(tokens: Tokens) -> Result<(u64, Tokens), Stop>
 
 /// Behind an open parenthesis: the type of a cast and its operand, or an expression.
 #[cycle(expression)]
-#[tactic(auto, unfolding(lucid_parse_grammar::specs::ReadExpression::in_parens))]
+#[tactic(auto, unfolding(lucid_parse_spec::specs::ReadExpression::in_parens))]
 fn in_parens(alloc: Global, depth: usize, tokens: Tokens) -> Result<(E, Tokens), Stop>
     ensures { Reads result (spec.in_parens (spec.expression_at depth) (said tokens.entry)) }
 {

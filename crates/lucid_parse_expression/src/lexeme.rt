@@ -1,7 +1,7 @@
 // What a token says, and tokens taken as such: what the grammar sees of those still to read is a list of lexemes (`said`).
 ghost use Rattle.std.specs.Prelude.{◌≡◌, length, All};
 ghost use Rattle.lucid_lex.specs.Reading.{IsTokenOf, bytes_of};
-ghost use Rattle.lucid_parse_grammar.specs.Lexemes.{lexeme_of, lexemes_of, within_quotes};
+ghost use Rattle.lucid_parse_spec.specs.Lexemes.{lexeme_of, lexemes_of, within_quotes};
 ghost use Rattle.lucid_parse_expression.specs.Within.{IsWithin};
 ghost use Rattle.lucid_parse_expression.specs.Tokens.{says, said, front};
 

@@ -3,15 +3,15 @@
 ghost use Rattle.std.specs.Prelude.{Some, option_map};
 ghost use Rattle.lucid_parse_expression.specs.Reads.{Gives};
 ghost use Rattle.lucid_parse_tree.specs.declared.tree.E.TheVariants as e;
-ghost use Rattle.lucid_parse_grammar.specs.Reader as reader;
-ghost use Rattle.lucid_parse_grammar.specs.ReadExpression as spec;
+ghost use Rattle.lucid_parse_spec.specs.Reader as reader;
+ghost use Rattle.lucid_parse_spec.specs.ReadExpression as spec;
 
 use crate::array::array_of;
 use crate::ascii::Ascii;
 use crate::error::Stop;
 use crate::parts::some;
 use lucid_base::{Boxed, Id, Items};
-use lucid_parse_grammar::Method;
+use lucid_parse_spec::Method;
 use lucid_parse_tree::{E, Infix, Pre};
 use std::alloc::Global;
 

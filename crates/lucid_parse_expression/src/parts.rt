@@ -1,7 +1,7 @@
 // Small parts of the grammar: single tokens, widths and types. Each function takes its part off the front of the tokens
 // and gives the rest with it, or says that there is no such part: `NoTree`, or None where the part may be left out.
 ghost use Rattle.std.specs.Prelude.{◌≡◌, option_map};
-ghost use Rattle.lucid_parse_grammar.specs.Reader as spec;
+ghost use Rattle.lucid_parse_spec.specs.Reader as spec;
 ghost use Rattle.lucid_parse_expression.specs.Reads.{Reads, Gives, Leaves};
 ghost use Rattle.lucid_parse_expression.specs.Tokens.{said};
 
@@ -106,7 +106,7 @@ pub fn some<T: Drop>(items: Items<T>) -> Result<Items<T>, Stop>
     }
 }
 
-#[tactic(auto, unfolding(lucid_parse_grammar::specs::Reader::width_end))]
+#[tactic(auto, unfolding(lucid_parse_spec::specs::Reader::width_end))]
 fn width_end(tokens: Tokens) -> Result<(u64, Tokens), Stop>
     ensures { Reads result (spec.width_end (said tokens.entry)) }
 {
@@ -116,7 +116,7 @@ fn width_end(tokens: Tokens) -> Result<(u64, Tokens), Stop>
 }
 
 /// `<<NUMBER>>`
-#[tactic(auto, unfolding(lucid_parse_grammar::specs::Reader::width))]
+#[tactic(auto, unfolding(lucid_parse_spec::specs::Reader::width))]
 pub(crate) fn width(tokens: Tokens) -> Result<(u64, Tokens), Stop>
     ensures { Reads result (spec.width (said tokens.entry)) }
 {
@@ -125,7 +125,7 @@ pub(crate) fn width(tokens: Tokens) -> Result<(u64, Tokens), Stop>
 }
 
 /// `<<NUMBER>>`, where it is there.
-#[tactic(auto, unfolding(lucid_parse_grammar::specs::Reader::width_if))]
+#[tactic(auto, unfolding(lucid_parse_spec::specs::Reader::width_if))]
 pub(crate) fn width_if(tokens: Tokens) -> Result<(Option<u64>, Tokens), Stop>
     ensures { Reads result (spec.width_if (said tokens.entry)) }
 {
@@ -139,7 +139,7 @@ pub(crate) fn width_if(tokens: Tokens) -> Result<(Option<u64>, Tokens), Stop>
 }
 
 /// `int`, with a width or without, or `bool`.
-#[tactic(auto, unfolding(lucid_parse_grammar::specs::Reader::ty))]
+#[tactic(auto, unfolding(lucid_parse_spec::specs::Reader::ty))]
 pub fn ty(tokens: Tokens) -> Result<(Ty, Tokens), Stop>
     ensures { Reads result (spec.ty (said tokens.entry)) }
 {
@@ -154,7 +154,7 @@ pub fn ty(tokens: Tokens) -> Result<(Ty, Tokens), Stop>
 }
 
 /// A type and a name.
-#[tactic(auto, unfolding(lucid_parse_grammar::specs::Reader::typed_name))]
+#[tactic(auto, unfolding(lucid_parse_spec::specs::Reader::typed_name))]
 pub fn typed_name(alloc: Global, tokens: Tokens) -> Result<((Ty, Id), Tokens), Stop>
     ensures { Reads result (spec.typed_name (said tokens.entry)) }
 {
@@ -164,7 +164,7 @@ pub fn typed_name(alloc: Global, tokens: Tokens) -> Result<((Ty, Id), Tokens), S
 }
 
 /// What follows `Array` in a type: whether `.t` is absent, and the width.
-#[tactic(auto, unfolding(lucid_parse_grammar::specs::Reader::array_type))]
+#[tactic(auto, unfolding(lucid_parse_spec::specs::Reader::array_type))]
 pub fn array_type(tokens: Tokens) -> Result<((bool, u64), Tokens), Stop>
     ensures { Reads result (spec.array_type (said tokens.entry)) }
 {

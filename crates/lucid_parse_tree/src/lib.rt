@@ -1,5 +1,5 @@
 // The syntax tree of a program, which parsing makes and typing reads, and the induction over it that laws about trees go by
-// (proofs/). It promises nothing but its types: how a tree is spelled, lucid_parse_grammar says. Stands on lucid_base for names and lists.
+// (proofs/). It promises nothing but its types: how a tree is spelled, lucid_parse_spec says. Stands on lucid_base for names and lists.
 #![tactic(auto)]
 
 mod tree;

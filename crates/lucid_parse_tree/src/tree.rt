@@ -1,5 +1,5 @@
 // The types of the tree. Parentheses are nodes, so a program's tokens have one tree. A form of the grammar is added here, in
-// the inductions of proofs/, and in lucid_parse_grammar and lucid_parse.
+// the inductions of proofs/, and in lucid_parse_spec and lucid_parse.
 use lucid_base::{Boxed, Id, Items};
 
 /// A whole program.

@@ -11,7 +11,7 @@ use Rattle.lucid_code.specs.Parts.{CodeParts}
 use Rattle.lucid_code.specs.Valid.{IsValid}
 use Rattle.lucid_code.proofs.Facts.{sound_each}
 use Rattle.lucid_code.proofs.Members.{all_from}
-use Rattle.lucid_pass_form.specs.Dead.{reads, is_read, is_needed, kept_if, live}
+use Rattle.lucid_pass_spec.specs.Dead.{reads, is_read, is_needed, kept_if, live}
 use Rattle.lucid_code.proofs.Fresh.{only_written}
 use Rattle.lucid_pass.specs.Marks.{marked, is_marked, writes_below}
 

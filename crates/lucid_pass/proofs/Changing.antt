@@ -5,9 +5,9 @@ use Rattle.std.proofs.lemmas.List.{length-append}
 use Rattle.lucid_code.specs.declared.op.Act.{Act}
 use Rattle.lucid_code.specs.declared.op.Op.{Op}
 use Rattle.lucid_code.specs.Uses.{written_by, with_operands}
-use Rattle.lucid_pass_form.specs.Looks.{changed, looked}
+use Rattle.lucid_pass_spec.specs.Looks.{changed, looked}
 use Rattle.lucid_code.proofs.Acting.{written_with}
-use Rattle.lucid_pass_form.proofs.Looking.{fold_sound}
+use Rattle.lucid_pass_spec.proofs.Looking.{fold_sound}
 use Rattle.lucid_pass.specs.declared.looks.Looks.{Looks}
 use Rattle.lucid_pass.specs.declared.looks.Looks.TheVariants.{Copied, Constant}
 use Rattle.lucid_pass.specs.declared.writers.Writer.{Writer}

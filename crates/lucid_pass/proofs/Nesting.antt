@@ -7,9 +7,9 @@ use Rattle.std.proofs.lemmas.List.{get_or-set_same, get_or-set_other, length-set
 use Rattle.std.proofs.lemmas.List.Folds.{list_any-append, list_all-append}
 use Rattle.lucid_code.specs.declared.op.Literal.{Literal}
 use Rattle.lucid_code.specs.declared.op.Op.{Op}
-use Rattle.lucid_pass_form.specs.Direct.{tests, covers}
-use Rattle.lucid_pass_form.specs.Looks.{same_literal, includes, only_writer}
-use Rattle.lucid_pass_form.proofs.Replacing.{one_literal}
+use Rattle.lucid_pass_spec.specs.Direct.{tests, covers}
+use Rattle.lucid_pass_spec.specs.Looks.{same_literal, includes, only_writer}
+use Rattle.lucid_pass_spec.proofs.Replacing.{one_literal}
 use Rattle.lucid_pass.specs.Nesting.{same_at, Alike, is_under, Nested, NestedBefore, mark_each, Uncovered}
 
 -- ---- the front of a list

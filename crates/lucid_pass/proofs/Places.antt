@@ -7,7 +7,7 @@ use Rattle.std.proofs.lemmas.List.{get_or-set_same, get_or-set_other, length-set
 use Rattle.lucid_code.specs.declared.op.Literal.{Literal}
 use Rattle.lucid_code.specs.declared.op.Op.{Op}
 use Rattle.lucid_code.specs.Uses.{written_by, is_same, writes}
-use Rattle.lucid_pass_form.specs.Looks.{same_literal, only, only_writer}
+use Rattle.lucid_pass_spec.specs.Looks.{same_literal, only, only_writer}
 use Rattle.lucid_pass.specs.declared.writers.Writer.{Writer}
 use Rattle.lucid_pass.specs.declared.writers.Writer.TheVariants.{Nobody, One, Many}
 use Rattle.lucid_pass.specs.Marks.{writes_below}

@@ -6,8 +6,8 @@ use Rattle.lucid_base.specs.Saturating.{saturating_sum}
 use Rattle.lucid_code.specs.declared.op.Op.{Op}
 use Rattle.lucid_code.specs.Parts.{CodeParts}
 use Rattle.lucid_code.specs.Valid.{IsValid}
-use Rattle.lucid_pass_form.specs.Replace.{MayReplace, Rewrite}
-use Rattle.lucid_pass_form.proofs.Replaces.{replaces_twice}
+use Rattle.lucid_pass_spec.specs.Replace.{MayReplace, Rewrite}
+use Rattle.lucid_pass_spec.proofs.Replaces.{replaces_twice}
 use Rattle.lucid_pass.specs.Through.{through, gone, raised}
 
 raised_more : (counts ns : List ℕ) (n count : ℕ) → length ns < length counts → count ≡ saturating_sum (slice_index (raised counts ns) (length ns)) n

@@ -7,7 +7,7 @@ use Rattle.lucid_code.specs.declared.op.Act.TheVariants as act
 use Rattle.lucid_code.specs.declared.op.Operand.TheVariants.{Fixed}
 use Rattle.lucid_code.specs.Run.{result}
 use Rattle.lucid_code.specs.Uses.{operands_of}
-use Rattle.lucid_pass_form.specs.Looks.{is_fixed, computes, nowhere, settled}
+use Rattle.lucid_pass_spec.specs.Looks.{is_fixed, computes, nowhere, settled}
 use Rattle.lucid_pass.specs.Settle.{computed_field}
 
 pub settled_by : (a : Act) → settled a ≡ option_map_or (λ k. act.Move (Fixed (result a nowhere)) k) (computed_field a) a

@@ -8,10 +8,10 @@ use Rattle.std.proofs.lemmas.List.{length-append, get_or_past}
 use Rattle.lucid_code.specs.declared.op.Literal.{Literal}
 use Rattle.lucid_code.specs.declared.op.Op.{Op}
 use Rattle.lucid_code.specs.Uses.{written_by, read_by}
-use Rattle.lucid_pass_form.specs.declared.direct.Test.{Test}
-use Rattle.lucid_pass_form.specs.Dead.{reads, is_read}
-use Rattle.lucid_pass_form.specs.Direct.{tested, covers, direct_from, direct_literal, direct_op, direct_ops, says, without_repeats, still_needed}
-use Rattle.lucid_pass_form.specs.Looks.{same_literal, only_writer}
+use Rattle.lucid_pass_spec.specs.declared.direct.Test.{Test}
+use Rattle.lucid_pass_spec.specs.Dead.{reads, is_read}
+use Rattle.lucid_pass_spec.specs.Direct.{tested, covers, direct_from, direct_literal, direct_op, direct_ops, says, without_repeats, still_needed}
+use Rattle.lucid_pass_spec.specs.Looks.{same_literal, only_writer}
 use Rattle.lucid_pass.specs.declared.writers.Writer.{Writer}
 use Rattle.lucid_pass.specs.declared.writers.Writer.TheVariants.{Nobody, One, Many}
 use Rattle.lucid_pass.specs.Marks.{marked, writes_below}

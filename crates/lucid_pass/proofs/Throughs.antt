@@ -1,6 +1,6 @@
 -- What passes make one after another may stand in place of the code, and keeps nodes behind what they read where each pass does.
 use Rattle.std.proofs.Common.{[], ◌∷◌}
-use Rattle.lucid_pass_form.proofs.Replaces.{same_replaces, replaces_twice}
+use Rattle.lucid_pass_spec.proofs.Replaces.{same_replaces, replaces_twice}
 use Rattle.lucid_pass.specs.Through.{ListsKeepNodes, ListsReplace, through}
 
 pub through_replaces : ListsReplace

@@ -5,9 +5,9 @@ use Rattle.std.proofs.lemmas.Bool.{cases_lt}
 use Rattle.std.proofs.lemmas.List.{length-append, length-take-le}
 use Rattle.lucid_code.specs.declared.op.Literal.{Literal}
 use Rattle.lucid_code.specs.declared.op.Op.{Op}
-use Rattle.lucid_pass_form.specs.declared.direct.Test.{Test}
-use Rattle.lucid_pass_form.specs.Direct.{direct_literal, direct_op, without_repeats}
-use Rattle.lucid_pass_form.specs.Looks.{same_literal}
+use Rattle.lucid_pass_spec.specs.declared.direct.Test.{Test}
+use Rattle.lucid_pass_spec.specs.Direct.{direct_literal, direct_op, without_repeats}
+use Rattle.lucid_pass_spec.specs.Looks.{same_literal}
 use Rattle.lucid_pass.specs.Nesting.{Alike}
 use Rattle.lucid_pass.specs.Trail.{Trail, TrailBefore, renewed, with_new}
 use Rattle.lucid_pass.proofs.Nesting.{all_taken, at_some, take_less, take_one_more, alike_less}

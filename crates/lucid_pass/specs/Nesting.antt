@@ -5,8 +5,8 @@ use Rattle.std.specs.List.{fold}
 use Rattle.std.specs.Option.{option_map_or}
 use Rattle.lucid_code.specs.declared.op.Literal.{Literal}
 use Rattle.lucid_code.specs.declared.op.Op.{Op}
-use Rattle.lucid_pass_form.specs.Direct.{covers}
-use Rattle.lucid_pass_form.specs.Looks.{includes, only_writer, same_literal}
+use Rattle.lucid_pass_spec.specs.Direct.{covers}
+use Rattle.lucid_pass_spec.specs.Looks.{includes, only_writer, same_literal}
 
 -- In two guards the same literal stands at place i.
 abbrev pub same_at : List Literal → List Literal → ℕ → Bool

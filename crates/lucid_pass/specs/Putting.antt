@@ -3,7 +3,7 @@ use Rattle.std.specs.Prelude.{ℕ, List, ◌++◌, drop, length}
 use Rattle.lucid_code.specs.declared.op.Act.{Act}
 use Rattle.lucid_code.specs.declared.op.Op.{Op}
 use Rattle.lucid_code.specs.Uses.{with_operands}
-use Rattle.lucid_pass_form.specs.Looks.{Putting, copied, constant, looked, settled}
+use Rattle.lucid_pass_spec.specs.Looks.{Putting, copied, constant, looked, settled}
 use Rattle.lucid_pass.specs.declared.looks.Looks.{Looks}
 use Rattle.lucid_pass.specs.declared.looks.Looks.TheVariants.{Copied, Constant}
 

@@ -3,9 +3,9 @@ use Rattle.std.specs.Prelude.{◌≡◌, ℕ, ◌<◌, List, Bool, true, false, 
 use Rattle.std.specs.Option.{option_and_then, option_map_or}
 use Rattle.lucid_code.specs.declared.op.Op.{Op}
 use Rattle.lucid_code.specs.Uses.{written_by}
-use Rattle.lucid_pass_form.specs.declared.direct.Test.{Test}
-use Rattle.lucid_pass_form.specs.Dead.{is_read}
-use Rattle.lucid_pass_form.specs.Direct.{tested, direct_from}
+use Rattle.lucid_pass_spec.specs.declared.direct.Test.{Test}
+use Rattle.lucid_pass_spec.specs.Dead.{is_read}
+use Rattle.lucid_pass_spec.specs.Direct.{tested, direct_from}
 use Rattle.lucid_pass.specs.declared.writers.Writer.{Writer}
 use Rattle.lucid_pass.specs.declared.writers.Writer.TheVariants.{Nobody, One, Many}
 

@@ -3,8 +3,8 @@ use Rattle.std.specs.Prelude.{ℕ, ◌-◌, List, [], ◌∷◌, length}
 use Rattle.std.specs.List.{AllByRecursion, fold}
 use Rattle.lucid_base.specs.Saturating.{saturating_sum}
 use Rattle.lucid_code.specs.Parts.{CodeParts}
-use Rattle.lucid_pass_form.specs.Laws.{KeepsNodes, Replaces}
-use Rattle.lucid_pass_form.specs.Replace.{Rewrite}
+use Rattle.lucid_pass_spec.specs.Laws.{KeepsNodes, Replaces}
+use Rattle.lucid_pass_spec.specs.Replace.{Rewrite}
 
 -- Each in order, on what the one before gave.
 abbrev pub through : List Rewrite → CodeParts → CodeParts

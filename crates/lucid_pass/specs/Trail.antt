@@ -3,9 +3,9 @@ use Rattle.std.specs.Prelude.{◌≡◌, ℕ, ◌+◌, ◌-◌, ◌≤◌, List,
 use Rattle.std.specs.List.{list_any}
 use Rattle.lucid_code.specs.declared.op.Literal.{Literal}
 use Rattle.lucid_code.specs.declared.op.Op.{Op}
-use Rattle.lucid_pass_form.specs.declared.direct.Test.{Test}
-use Rattle.lucid_pass_form.specs.Direct.{direct_literal, without_repeats}
-use Rattle.lucid_pass_form.specs.Looks.{same_literal}
+use Rattle.lucid_pass_spec.specs.declared.direct.Test.{Test}
+use Rattle.lucid_pass_spec.specs.Direct.{direct_literal, without_repeats}
+use Rattle.lucid_pass_spec.specs.Looks.{same_literal}
 
 -- A guard with direct tests.
 abbrev pub renewed : (ℕ → Option Test) → List Literal → List Literal

@@ -1,7 +1,7 @@
 // Code whose operations are changed one after another.
 ghost use Rattle.std.specs.Prelude.{◌≡◌, [], length, IfOk, IsTrue};
 ghost use Rattle.std.specs.List.{list_all};
-ghost use Rattle.lucid_pass_form.specs.Looks.{changed};
+ghost use Rattle.lucid_pass_spec.specs.Looks.{changed};
 ghost use Rattle.lucid_pass.specs.Marks.{writes_below};
 ghost use Rattle.lucid_pass.specs.Putting.{change_of, finish_of, standing};
 ghost use Rattle.lucid_pass.specs.Writers.{Tells};

@@ -1,6 +1,6 @@
 // For which test the field of a comparison stands.
 ghost use Rattle.std.specs.Prelude.{◌≡◌, ◌&&◌, ◌^◌, nat_eq, nat_lt, not, Option, None, Some, slice_index, if◌then◌else◌, IfOk};
-ghost use Rattle.lucid_pass_form.specs.Direct.{tested};
+ghost use Rattle.lucid_pass_spec.specs.Direct.{tested};
 ghost use Rattle.lucid_pass.specs.Testing.{Stands, test_at};
 ghost use Rattle.lucid_pass.specs.Writers.{Tells};
 
@@ -9,7 +9,7 @@ use crate::marks::is_set;
 use crate::writers::Writer;
 use lucid_base::{CmpOp, Memory, Width};
 use lucid_code::{Act, Op, Operand};
-use lucid_pass_form::Test;
+use lucid_pass_spec::Test;
 use std::alloc::Global;
 
 /// For each field the test for which it stands.

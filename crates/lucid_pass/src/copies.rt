@@ -1,4 +1,4 @@
-// The pass that puts a field in place of another that it was moved to (`copies` of lucid_pass_form).
+// The pass that puts a field in place of another that it was moved to (`copies` of lucid_pass_spec).
 ghost use Rattle.std.specs.Prelude.{◌≡◌};
 
 use crate::changed::changed;
@@ -26,8 +26,8 @@ impl Copies {
 
 impl Pass for Copies {
     ghost use Rattle.std.specs.Prelude.{codes};
-    ghost use Rattle.lucid_pass_form.specs.Looks.{copies};
-    ghost use Rattle.lucid_pass_form.proofs.Looking.{copies_replaces};
+    ghost use Rattle.lucid_pass_spec.specs.Looks.{copies};
+    ghost use Rattle.lucid_pass_spec.proofs.Looking.{copies_replaces};
 
     ghost called = { λ _. codes "copies" };
 

@@ -2,7 +2,7 @@
 // new in a guard is looked at.
 ghost use Rattle.std.specs.Prelude.{◌≡◌, ◌+◌, ◌<◌, length, true, slice_get, if◌then◌else◌, slice_set, IfOk};
 ghost use Rattle.std.specs.Option.{option_map_or};
-ghost use Rattle.lucid_pass_form.specs.Looks.{includes};
+ghost use Rattle.lucid_pass_spec.specs.Looks.{includes};
 ghost use Rattle.lucid_pass.specs.Nesting.{Nested, NestedBefore, Uncovered, is_under, mark_each};
 ghost use Rattle.lucid_pass.specs.Writers.{Tells};
 

@@ -1,8 +1,8 @@
-// The pass by which goes what writes a field that no operation reads (`alive` of lucid_pass_form).
+// The pass by which goes what writes a field that no operation reads (`alive` of lucid_pass_spec).
 ghost use Rattle.std.specs.Prelude.{◌≡◌, ◌++◌, ◌∷◌, [], true, false, if◌then◌else◌, IfOk, OnOk, IsTrue};
 ghost use Rattle.std.specs.List.{list_all};
 ghost use Rattle.lucid_code.specs.Uses.{read_by, only_writes};
-ghost use Rattle.lucid_pass_form.specs.Dead.{live};
+ghost use Rattle.lucid_pass_spec.specs.Dead.{live};
 ghost use Rattle.lucid_pass.specs.Marks.{marked, is_marked, writes_below};
 
 use crate::marks::{is_set, mark_all};
@@ -29,8 +29,8 @@ impl Dead {
 
 impl Pass for Dead {
     ghost use Rattle.std.specs.Prelude.{codes};
-    ghost use Rattle.lucid_pass_form.specs.Dead.{alive};
-    ghost use Rattle.lucid_pass_form.proofs.Gone.{dead_replaces};
+    ghost use Rattle.lucid_pass_spec.specs.Dead.{alive};
+    ghost use Rattle.lucid_pass_spec.proofs.Gone.{dead_replaces};
 
     ghost called = { λ _. codes "dead" };
 

@@ -1,8 +1,8 @@
-// The pass that tests a field in place of a comparison of it (`direct` of lucid_pass_form).
+// The pass that tests a field in place of a comparison of it (`direct` of lucid_pass_spec).
 ghost use Rattle.std.specs.Prelude.{◌≡◌, length, IfOk, OnOk, IsTrue, true};
 ghost use Rattle.std.specs.List.{filter, list_all};
 ghost use Rattle.lucid_code.specs.Uses.{read_by};
-ghost use Rattle.lucid_pass_form.specs.Direct.{direct_ops};
+ghost use Rattle.lucid_pass_spec.specs.Direct.{direct_ops};
 ghost use Rattle.lucid_pass.specs.Marks.{marked, writes_below};
 ghost use Rattle.lucid_pass.specs.Testing.{ReadMarks, is_still_needed};
 
@@ -14,7 +14,7 @@ use crate::writers::writers_of;
 use crate::{Name, Pass};
 use lucid_base::{Memory, Width};
 use lucid_code::{Code, Op};
-use lucid_pass_form::Test;
+use lucid_pass_spec::Test;
 use std::alloc::Global;
 
 /// The pass `direct`. A literal of a field that only compares another field with a number becomes a literal of that other field, and such
@@ -35,8 +35,8 @@ impl Direct {
 
 impl Pass for Direct {
     ghost use Rattle.std.specs.Prelude.{codes};
-    ghost use Rattle.lucid_pass_form.specs.Direct.{direct};
-    ghost use Rattle.lucid_pass_form.proofs.DirectRuns.{direct_replaces};
+    ghost use Rattle.lucid_pass_spec.specs.Direct.{direct};
+    ghost use Rattle.lucid_pass_spec.proofs.DirectRuns.{direct_replaces};
 
     ghost called = { λ _. codes "direct" };
 

@@ -1,4 +1,4 @@
-// The pass that puts numbers in place of fields, and computes what is made of numbers alone (`folded` of lucid_pass_form).
+// The pass that puts numbers in place of fields, and computes what is made of numbers alone (`folded` of lucid_pass_spec).
 ghost use Rattle.std.specs.Prelude.{◌≡◌};
 
 use crate::changed::changed;
@@ -27,8 +27,8 @@ impl Fold {
 
 impl Pass for Fold {
     ghost use Rattle.std.specs.Prelude.{codes};
-    ghost use Rattle.lucid_pass_form.specs.Looks.{folded};
-    ghost use Rattle.lucid_pass_form.proofs.Looking.{fold_replaces};
+    ghost use Rattle.lucid_pass_spec.specs.Looks.{folded};
+    ghost use Rattle.lucid_pass_spec.proofs.Looking.{fold_replaces};
 
     ghost called = { λ _. codes "fold" };
 

@@ -2,7 +2,7 @@
 ghost use Rattle.std.specs.Prelude.{◌≡◌, ◌≤◌, false, slice_get};
 ghost use Rattle.std.specs.Option.{option_map_or};
 ghost use Rattle.std.specs.List.{list_any};
-ghost use Rattle.lucid_pass_form.specs.Looks.{same_literal, includes};
+ghost use Rattle.lucid_pass_spec.specs.Looks.{same_literal, includes};
 ghost use Rattle.lucid_pass.specs.Nesting.{Alike, same_at};
 
 use lucid_code::Literal;

@@ -3,7 +3,7 @@ ghost use Rattle.std.specs.Prelude.{◌≡◌, Option, None, map, slice_get, sli
 ghost use Rattle.std.specs.Option.{option_map, option_and_then};
 ghost use Rattle.lucid_base.specs.Ops.{low_of};
 ghost use Rattle.lucid_code.specs.Uses.{with_operands};
-ghost use Rattle.lucid_pass_form.specs.Looks.{seen, moved, moved_from, looked};
+ghost use Rattle.lucid_pass_spec.specs.Looks.{seen, moved, moved_from, looked};
 ghost use Rattle.lucid_pass.specs.Putting.{put_of, standing};
 ghost use Rattle.lucid_pass.specs.Writers.{Tells};
 

@@ -1,7 +1,7 @@
 // What a pass is: its name, its count, and what it makes of code, with the law that every pass keeps.
 ghost use Rattle.std.specs.Prelude.{◌≡◌, ◌-◌, ℕ, List, length, IfOk, OnOk, OnErr};
 ghost use Rattle.lucid_base.specs.Saturating.{saturating_sum};
-ghost use Rattle.lucid_pass_form.specs.Replace.{Rewrite};
+ghost use Rattle.lucid_pass_spec.specs.Replace.{Rewrite};
 
 use crate::Name;
 use lucid_base::Memory;

@@ -2,7 +2,7 @@
 ghost use Rattle.std.specs.Prelude.{◌≡◌, ◌≤◌, ◌-◌, ℕ, length, map, take, IfOk, OnOk, OnErr};
 ghost use Rattle.lucid_code.specs.Parts.{made_of};
 ghost use Rattle.lucid_base.specs.Saturating.{saturating_sum};
-ghost use Rattle.lucid_pass_form.specs.Replace.{MayReplace};
+ghost use Rattle.lucid_pass_spec.specs.Replace.{MayReplace};
 ghost use Rattle.lucid_pass.specs.Through.{through, gone, raised};
 
 use crate::Pass;

@@ -1,7 +1,7 @@
 // What computes from numbers alone.
 ghost use Rattle.std.specs.Prelude.{◌≡◌, Option, None, Some, if◌then◌else◌};
 ghost use Rattle.std.specs.List.{list_all};
-ghost use Rattle.lucid_pass_form.specs.Looks.{is_fixed, settled};
+ghost use Rattle.lucid_pass_spec.specs.Looks.{is_fixed, settled};
 ghost use Rattle.lucid_pass.specs.Settle.{computed_field};
 
 use lucid_base::Cells;

@@ -1,13 +1,13 @@
 // Guards with direct tests. The guard that was made last is kept, and the next one, which mostly begins alike, is made from where they differ.
 ghost use Rattle.std.specs.Prelude.{◌≡◌, ◌+◌, ◌<◌, length, map, take, slice_get, slice_index_or, Some, IfOk, OnOk};
-ghost use Rattle.lucid_pass_form.specs.Direct.{direct_literal, direct_op, says};
+ghost use Rattle.lucid_pass_spec.specs.Direct.{direct_literal, direct_op, says};
 ghost use Rattle.lucid_pass.specs.Testing.{direct_by};
 ghost use Rattle.lucid_pass.specs.Trail.{Trail, TrailBefore, renewed, with_new};
 
 use crate::guards::{shared, stands};
 use lucid_base::{Items, Memory};
 use lucid_code::{Literal, Op};
-use lucid_pass_form::Test;
+use lucid_pass_spec::Test;
 use std::alloc::Global;
 
 /// The operations with direct tests in their guards.

@@ -19,8 +19,8 @@ use Rattle.lucid_tables.specs.Stages.{stage, pass_from}
 use Rattle.lucid_pipe.specs.Packets.{Packet, meets, left_by, told, entering}
 use Rattle.lucid_pipe.specs.Pipe.{PipeParts, packet_at, gone, comes_out, entered, runs_stage}
 use Rattle.lucid_pipe.specs.Rows.{chosen, own, owns, steps_of, rows_of, pipe_rows}
-use Rattle.lucid_pipe_stream.specs.Moves.{goes, entered_by}
-use Rattle.lucid_pipe_stream.specs.Rows.{Row, row, whole}
+use Rattle.lucid_pipe_laws.specs.Moves.{goes, entered_by}
+use Rattle.lucid_pipe_laws.specs.Rows.{Row, row, whole}
 use Rattle.lucid_pipe.proofs.Beside.{Cells, IsApart, by_test, same_cells, stage_length, pass_length, pass_leaves, first_apart, rest_apart}
 use Rattle.lucid_pipe.proofs.Settles.{some_inj, there_full}
 

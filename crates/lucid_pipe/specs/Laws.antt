@@ -11,8 +11,8 @@ use Rattle.lucid_pipe.specs.Moves.{Move, after_moves}
 use Rattle.lucid_pipe.specs.Packets.{Packet, meets, left_by, told, entering, sent_by}
 use Rattle.lucid_pipe.specs.Pipe.{PipeParts, packet_at, gone, comes_out, entered}
 use Rattle.lucid_pipe.specs.Rows.{own, owns, by_array, steps_of, pipe_rows}
-use Rattle.lucid_pipe_stream.specs.Moves.{goes, entered_by}
-use Rattle.lucid_pipe_stream.specs.Rows.{whole}
+use Rattle.lucid_pipe_laws.specs.Moves.{goes, entered_by}
+use Rattle.lucid_pipe_laws.specs.Rows.{whole}
 use Rattle.lucid_pipe.specs.Settled.{settled, with_left, with_pass}
 
 -- Each move keeps what a pipe settles to, but for what leaves, which is the first of it; and an event that enters makes one pass more.

@@ -1,4 +1,4 @@
--- A pipe as rows (lucid_pipe_stream): each stage with the cells of its own arrays, and the packet before it.
+-- A pipe as rows (lucid_pipe_laws): each stage with the cells of its own arrays, and the packet before it.
 use Rattle.std.specs.Prelude.{ℕ, suc, List, [], ◌∷◌, Option, Bool, if◌then◌else◌, length, map, slice_index_or}
 use Rattle.std.specs.List.{range_with_len}
 use Rattle.std.specs.Option.{option_map_or}
@@ -10,7 +10,7 @@ use Rattle.lucid_tables.specs.Numbers.{is_in}
 use Rattle.lucid_tables.specs.Placed.{stage_of}
 use Rattle.lucid_pipe.specs.Packets.{Packet, left_by}
 use Rattle.lucid_pipe.specs.Pipe.{PipeParts, runs_stage}
-use Rattle.lucid_pipe_stream.specs.Rows.{Row, Steps, row}
+use Rattle.lucid_pipe_laws.specs.Rows.{Row, Steps, row}
 
 -- The cells of the arrays that pass a test; the others have none. Arrays are numbered from g.
 abbrev pub chosen : (ℕ → Bool) → ℕ → List (List ℕ) → List (List ℕ)

@@ -3,8 +3,8 @@
 // passes in the order of entry, whatever the order of moves, and what a watch is shown.
 // What is to be read: specs/Packets and Pipe (what a pipe is, how a packet enters and moves), Settled (what it comes to when all that is
 // in flight runs to its end), Moves (lists of moves), Sights (places, the watch), Laws (what a caller may cite), Rows (a pipe as rows of
-// lucid_pipe_stream). How packets lie in memory is machinery: Blocks, Slots, Outs, Views, InPlace, and all of proofs/.
-// Stands on lucid_base, lucid_code, lucid_tables and lucid_pipe_stream.
+// lucid_pipe_laws). How packets lie in memory is machinery: Blocks, Slots, Outs, Views, InPlace, and all of proofs/.
+// Stands on lucid_base, lucid_code, lucid_tables and lucid_pipe_laws.
 #![tactic(auto)]
 
 mod act;

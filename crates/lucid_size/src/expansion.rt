@@ -19,6 +19,7 @@ use crate::underscores::underscores_in;
 use crate::used::find_used;
 use lucid_base::Items;
 use lucid_lex::Token;
+use lucid_seed::Seeded;
 use std::alloc::Global;
 
 /// The most bytes of an expanded text.
@@ -74,6 +75,7 @@ fn written_out(alloc: Global, text: &[u8], tokens: &[Token]) -> Result<Vec<u8>, 
     let underscores = underscores_in(text, tokens);
     let found = found_in(
         alloc,
+        text,
         parts.outside.as_slice(),
         parts.bodies.as_slice(),
         underscores,
@@ -94,9 +96,11 @@ fn written_out(alloc: Global, text: &[u8], tokens: &[Token]) -> Result<Vec<u8>, 
     Ok(out)
 }
 
-/// The used instances; or TooBig, where they and what stands outside the templates have more bytes than an expanded text may have.
+/// Finds the used instances, in a table that is seeded by the text. `TooBig` if they and the text outside the templates have more bytes than
+/// an expanded text may have.
 fn found_in(
     alloc: Global,
+    text: &[u8],
     outside: &[Step],
     bodies: &[Items<Step>],
     underscores: usize,
@@ -113,6 +117,6 @@ fn found_in(
 {
     match room_behind(underscores, 0, outside, MOST) {
         None => Err(SizeError::TooBig),
-        Some(room) => find_used(alloc, outside, bodies, underscores, room),
+        Some(room) => find_used(alloc, Seeded::by(text), outside, bodies, underscores, room),
     }
 }

@@ -10,17 +10,18 @@ use crate::error::SizeError;
 use crate::template::Template;
 use lucid_base::{Id, Memory};
 use lucid_lex::{Token, text_of};
+use lucid_seed::Seeded;
 use std::alloc::Global;
 use std::collections::HashMap;
 use std::marker::Model;
 
-/// The names of templates, which contracts see as the list of their bytes in the order of the text. A name is found at once, however
-/// many there are.
+/// The names of templates, which contracts see as the list of their bytes in the order of the text. Their table is seeded by
+/// that text.
 #[derive(Drop)]
 pub(crate) struct Names {
     names: Vec<Id>,
     // For each name its place in `names`.
-    places: HashMap<Id, usize>,
+    places: HashMap<Id, usize, Seeded>,
 }
 
 impl Model for Names {
@@ -37,12 +38,12 @@ impl Model for Names {
 
 impl Names {
     /// No names.
-    pub(crate) fn new(alloc: Global) -> Names
+    pub(crate) fn new(alloc: Global, seeded: Seeded) -> Names
         ensures { result ≡ [] }
     {
         Names {
             names: Vec::new(alloc),
-            places: HashMap::new(alloc),
+            places: HashMap::with_hasher(alloc, seeded),
         }
     }
 
@@ -85,7 +86,7 @@ pub(crate) fn names_of(
     ensures distinct { IfOk result (λ _. first_repeat [] (parts.names_of text.now tokens.now templates.now) ≡ None) }
     ensures err { IfErr result (λ e. Repeats (first_repeat [] (parts.names_of text.now tokens.now templates.now)) e) }
 {
-    let mut names = Names::new(alloc);
+    let mut names = Names::new(alloc, Seeded::by(text));
     for template in templates {
         let name = Id::new(alloc, text_of(text, tokens[template.name]))?;
         if names.place_of(&name).is_some() {

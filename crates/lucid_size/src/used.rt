@@ -11,6 +11,7 @@ use crate::error::SizeError;
 use crate::room::room_behind;
 use crate::step::{Form, Instance, Step};
 use lucid_base::{Items, Memory};
+use lucid_seed::Seeded;
 use std::alloc::Global;
 use std::collections::HashSet;
 
@@ -18,18 +19,18 @@ use std::collections::HashSet;
 #[derive(Drop)]
 struct Used {
     found: Vec<Instance>,
-    seen: HashSet<Instance>,
+    seen: HashSet<Instance, Seeded>,
 }
 
 impl Used {
     /// No instances.
-    fn new(alloc: Global) -> Used
+    fn new(alloc: Global, seeded: Seeded) -> Used
         ensures none { result.found.items ≡ [] }
         ensures sees { Sees result.found.items result.seen }
     {
         Used {
             found: Vec::new(alloc),
-            seen: HashSet::new(alloc),
+            seen: HashSet::with_hasher(alloc, seeded),
         }
     }
 
@@ -82,6 +83,7 @@ impl Used {
 /// TooBig, where more is written of them than the room.
 pub(crate) fn find_used(
     alloc: Global,
+    seeded: Seeded,
     outside: &[Step],
     bodies: &[Items<Step>],
     underscores: usize,
@@ -96,7 +98,7 @@ pub(crate) fn find_used(
     ensures no_twice { (name : List ℕ) → IsErrOf result (Twice name) → ⊥ }
     ensures too_big { IsErrOf result TooBig → (found : List Instance) → AreUsed outside.now bodies.now found → room < sum_by (instance_len underscores bodies.now) found }
 {
-    let mut used = Used::new(alloc);
+    let mut used = Used::new(alloc, seeded);
     let mut room = room;
     used.add_uses(0, outside)?;
     let mut at = 0;

@@ -4,7 +4,7 @@ ghost use Rattle.lucid_conf.specs.Kept.{IsScene};
 ghost use Rattle.lucid_core.specs.Step.{after};
 ghost use Rattle.lucid_io.specs.Puts.{PutsAll, PutsPart};
 ghost use Rattle.lucid_log.specs.Cells.{cells_text};
-ghost use Rattle.lucid_normal_form.specs.Stands.{StandsFor};
+ghost use Rattle.lucid_normal_spec.specs.Stands.{StandsFor};
 ghost use Rattle.lucid_pipe.specs.Packets.{Packet};
 ghost use Rattle.lucid_pipe.specs.Pipe.{PipeParts, empty_pipe};
 ghost use Rattle.lucid_drive.specs.Changes.{Moved};

@@ -4,7 +4,7 @@
 // whole handlers, and that `snap` writes the drive log and then these cells (`snap_log` of specs/Log).
 // snapshot.rt has the snapshot, copy.rt its rows, driven.rt a drive with a snapshot, laws.rt what entries keep. Of specs/, Calls says what
 // the calls do, and Writes what is written where one fails.
-// Stands on lucid_base, lucid_io, lucid_core, lucid_code, lucid_normal_form, lucid_tables, lucid_pipe, lucid_log, lucid_conf and lucid_drive.
+// Stands on lucid_base, lucid_io, lucid_core, lucid_code, lucid_normal_spec, lucid_tables, lucid_pipe, lucid_log, lucid_conf and lucid_drive.
 #![tactic(auto)]
 
 mod copy;

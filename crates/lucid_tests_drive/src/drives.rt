@@ -1,7 +1,7 @@
 // Drives, each with its log, by hand from the drive log.
 ghost use Rattle.std.specs.Prelude.{◌≡◌};
 ghost use Rattle.lucid_conf.specs.Kept.{AreLimits, IsScene};
-ghost use Rattle.lucid_normal_form.specs.Stands.{StandsFor};
+ghost use Rattle.lucid_normal_spec.specs.Stands.{StandsFor};
 
 use crate::placed::{LIMITS, SUMS, core_of, placed_of};
 use lucid_conf::{Limits, Scene, limits_of, scene_of};

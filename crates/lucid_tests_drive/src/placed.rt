@@ -1,7 +1,7 @@
 // Programs, and their code in the stages of a target.
 ghost use Rattle.std.specs.Prelude.{◌≡◌, ◌<◌, IfOk, IfSome};
 ghost use Rattle.lucid_conf.specs.Kept.{AreLimits};
-ghost use Rattle.lucid_normal_form.specs.Stands.{StandsFor};
+ghost use Rattle.lucid_normal_spec.specs.Stands.{StandsFor};
 
 use lucid_base::{Steps, uncounted};
 use lucid_conf::Limits;
@@ -13,7 +13,8 @@ use lucid_lex::lex;
 use lucid_normal::normal;
 use lucid_parse::parse;
 use lucid_parse_tree::Tree;
-use lucid_pass_stands::code_stands;
+use lucid_pass_laws::code_stands;
+use lucid_seed::Seeded;
 use lucid_tables::Placed;
 use lucid_types::elaborate;
 use std::alloc::Global;
@@ -38,7 +39,7 @@ fn tree_of(alloc: Global, program: &str) -> Result<Tree, Fail> {
 
 pub(crate) fn core_of(alloc: Global, program: &str) -> Result<Core, Fail> {
     let tree = tree_of(alloc, program)?;
-    Ok(elaborate(alloc, &tree)?)
+    Ok(elaborate(alloc, Seeded::by(program.as_bytes()), &tree)?)
 }
 
 /// The code of a program, if first fit places it.

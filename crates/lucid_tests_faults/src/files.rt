@@ -3,7 +3,7 @@ use lucid_io::MemFile;
 use std::alloc::{AllocError, Global};
 
 /// Each file: its name, its text, and how often the text stands in it.
-const FILES: [(&str, &str, usize); 16] = [
+const FILES: [(&str, &str, usize); 18] = [
     // One array, in which each packet leaves a number.
     (
         "first",
@@ -92,6 +92,22 @@ handle hit(int v) { int n = Array.update(x, 0, plus, v, plus, v); Array.set(y, 0
         "steps",
         r#"{"stop":1,"events":[{"at":0,"switch":0,"name":"hit","args":[3]},{"at":0,"switch":0,"name":"hit","args":[4]}],
 "steps":[["enter"],["enter"],["go",0],["enter"],["look","y",0],["go",1],["look","y",0]]}"#,
+        1,
+    ),
+    // Counts in an array, and two events that enter one after another.
+    (
+        "hits",
+        "global Array.t<<32>> hits = Array.create(4);
+memop plus(int stored, int x) { return stored + x; }
+event seen(int i, int n);
+event pkt(int i);
+handle pkt(int i) { int n = Array.update(hits, i, plus, 1, plus, 1); generate Event.delay(seen(i, n), 10); }
+",
+        1,
+    ),
+    (
+        "twice",
+        r#"{"stop":30,"events":[{"at":0,"switch":0,"name":"pkt","args":[1]},{"at":0,"switch":0,"name":"pkt","args":[1]}]}"#,
         1,
     ),
     // Limits: none that is named, and fewer stages.

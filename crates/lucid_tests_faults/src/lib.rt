@@ -8,3 +8,5 @@ mod failing;
 mod files;
 #[cfg(test)]
 mod running;
+#[cfg(test)]
+mod watching;

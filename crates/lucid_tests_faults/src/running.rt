@@ -2,7 +2,7 @@
 use crate::files::files;
 use lucid_io::{MemFiles, MemSink};
 use lucid_pass::{Copies, Dead, Direct, Fold, Pass};
-use lucid_pipe::NoWatch;
+use lucid_pipe::{NoWatch, Watch};
 use lucid_top::{Status, lucid};
 use std::alloc::{AllocError, Global};
 use std::test::Fail;
@@ -35,6 +35,16 @@ const ROOM: usize = 8192;
 
 /// The call of these words, with these faults.
 pub(crate) fn run(alloc: Global, line: &str, faults: Faults) -> Result<Ran, Fail> {
+    run_watched(alloc, line, faults, &mut NoWatch)
+}
+
+/// Like `run`, over a watch.
+pub(crate) fn run_watched<V: Watch>(
+    alloc: Global,
+    line: &str,
+    faults: Faults,
+    watch: &mut V,
+) -> Result<Ran, Fail> {
     let words = words(alloc, line)?;
     let mut files = MemFiles::new(alloc, files(alloc)?, one(alloc, faults.read)?)?;
     let mut out = MemSink::new(alloc, ROOM, one(alloc, faults.write)?)?;
@@ -47,7 +57,7 @@ pub(crate) fn run(alloc: Global, line: &str, faults: Faults) -> Result<Ran, Fail
         &mut out,
         &mut err,
         &mut passes,
-        &mut NoWatch,
+        watch,
     );
     Ok(Ran { status, out, err })
 }

@@ -7,30 +7,30 @@ use Rattle.lucid_io.specs.Counts.{Rose, SameCounts, OthersKept}
 use Rattle.lucid_io.specs.declared.reading.Take.{Take}
 use Rattle.lucid_io.specs.declared.reading.Take.TheVariants as take
 use Rattle.lucid_top_words.specs.declared.command.Command.{Command}
+use Rattle.lucid_top_words.specs.declared.command.Command.TheVariants as command
 use Rattle.lucid_top_words.specs.declared.command.NamedFile.{NamedFile}
 use Rattle.lucid_top_words.specs.declared.refusal.Refusal.{Refusal}
 use Rattle.lucid_top_words.specs.declared.refusal.Refusal.TheVariants as refusal
 use Rattle.lucid_top_words.specs.declared.status.Status.{Status}
 use Rattle.lucid_top_words.specs.declared.status.Status.TheVariants as status
-use Rattle.lucid_top.specs.Answer.{Question, given, Answers, AnswersTo, CanStop, IsTold, OverTexts, StopsOf, StopsOver, command_files, told_texts}
+use Rattle.lucid_top.specs.Answer.{Question, given, Answers, AnswersTo, CanStop, CommandShows, IsTold, OverTexts, StopsOf, StopsOver, command_files, told_texts}
 use Rattle.lucid_top.specs.Call.{Call, Ended, EndSaid, PerformsOver, RunsOver, ShowsOver, files_named, question}
 use Rattle.lucid_net.specs.Sights.{ShowsAll}
 use Rattle.lucid_code.specs.Parts as code
 use Rattle.lucid_pipe.specs.declared.sight.Sight.{Sight}
-use Rattle.lucid_top.specs.Headline.{Accepted, AuditAccepts, FirstFitPlaces, Hold, Holds, Three, drive, network_log, ready_of, run_pipe, run_placed, run_whole, steps_log}
+use Rattle.lucid_top.specs.Headline.{Accepted, AuditAccepts, FirstFitPlaces, Hold, Holds, Three, audited_of, bench_texts, drive, network_log, ready_of, run_pipe, run_placed, run_whole, snap, snapshot_log, steps_log, steps_sights}
 use Rattle.lucid_top.specs.Passes.{SamePasses}
 use Rattle.lucid_top.specs.Pipes.{sights_of}
-use Rattle.lucid_top.specs.RunPipe.{RunPipeShows}
 use Rattle.lucid_top.specs.Watching.{Seen, Shown, ToldBefore}
 use Rattle.lucid_top_fit.specs.Passes.{PassView, PassesRun}
-use Rattle.lucid_top.proofs.Headlines.{asks-drive, asks-pipe, asks-placed, asks-whole, shows-pipe, texts-pipe}
+use Rattle.lucid_top.proofs.Headlines.{asks-drive, asks-pipe, asks-placed, asks-snap, asks-whole, is-ready, shows-drive, shows-pipe, shows-placed, texts-drive, texts-pipe, texts-placed}
 use Rattle.lucid_top_words.specs.Command.{command_of}
-use Rattle.lucid_top_words.specs.Files.{FilesRead, IsOneOf, Texts, of_take}
+use Rattle.lucid_top_words.specs.Files.{FilesRead, IsOneOf, Texts, contents, of_take}
 use Rattle.lucid_top_words.specs.Outcome.{Alike, End, IsTheAnswer, Outcome, SameRefusal, end_status, outcome_status}
 use Rattle.lucid_top_words.specs.Refusal.{line_of, status_of}
 use Rattle.lucid_top_words.specs.Status.{IsDetermined}
 use Rattle.lucid_top_words.specs.Views.{FilesView, SinkView}
-use Rattle.lucid_top_words.specs.Words.{word_at}
+use Rattle.lucid_top_words.specs.Words.{number_of, word_at}
 use Rattle.lucid_top_words.specs.Writing.{Performs, Refuses}
 use Rattle.lucid_top_words.proofs.Seen.{All, Part, Prefix, Nothing, Line}
 use Rattle.lucid_top_words.proofs.Readings.{Agrees, read-agrees, read-why, read-rose, read-long, read-gave_more, read-held, read-others, read-quiet}
@@ -457,19 +457,49 @@ module _ {c : Call} {err err' : SinkView} {result : Status} (e : Ended c err err
       ((result ≡ status.Ok) × All c.out c.out' (network_log a)) ⊎ ((result ≡ status.Memory) × Prefix c.out c.out' (network_log a))
   placed-clause names texts hold placement text holds a audit quiet unmet is = wrote (network_log a) is (asks-placed hold a holds audit) quiet unmet
 
-  pub shown-clause : (names texts : Three) → Hold c.files.held names texts → (a : Accepted texts) → (f : FirstFitPlaces c.passes a) → c.words ≡ run_pipe names → result ≡ status.Ok →
-      ShowsAll c.seen c.seen' (sights_of (ready_of f))
-  shown-clause names texts hold a f is ok =
-      let ts : List (List ℕ) = texts.program ∷ texts.limits ∷ texts.scenario ∷ [] in
+  pub snapped-clause : (names texts : Three) → Hold c.files.held names texts → (a : Accepted texts) → (f : FirstFitPlaces c.passes a) → (word : List ℕ) (steps : ℕ) → number_of word ≡ Some steps →
+      Unmet c → ¬ Rose c.out.faults c.out'.faults → c.words ≡ snap names word →
+      ((result ≡ status.Ok) × All c.out c.out' (snapshot_log f steps)) ⊎ ((result ≡ status.Memory) × Prefix c.out c.out' (snapshot_log f steps))
+  snapped-clause names texts hold a f word steps number quiet unmet is = wrote (snapshot_log f steps) is (asks-snap hold a f word steps number) quiet unmet
+
+  -- the sights that are the answer of the command were shown
+  shows-answer : (cmd : Command) (ts : List (List ℕ)) (sights : List Sight) → command_of c.words ≡ Some cmd → contents c.files.held c.words (command_files (Some cmd)) ≡ Some (Ok ts) →
+      CommandShows cmd (given (question c) ts) (Ok sights) → result ≡ status.Ok → ShowsAll c.seen c.seen' sights
+  shows-answer cmd ts sights is told shows ok =
       let ends : end_status e.end ≡ status.Ok = sym e.status ∙ ok in
-      let told : told_texts (question c) ≡ Some (Ok ts) = subst (λ (w : List (List ℕ)). told_texts (record { words = w; held = c.files.held; passes = c.passes }) ≡ Some (Ok ts)) (sym is) (texts-pipe hold a) in
-      let agrees : Agrees e.done.texts (Some (Ok ts)) = subst (Agrees e.done.texts) told (read-agrees c.words c.files c.files' (command_files (command_of c.words)) e.done.texts e.done.reads) in
+      let hold : told_texts (question c) ≡ Some (Ok ts) = ap (λ (co : Option Command). contents c.files.held c.words (command_files co)) is ∙ told in
+      let agrees : Agrees e.done.texts (Some (Ok ts)) = subst (Agrees e.done.texts) hold (read-agrees c.words c.files c.files' (command_files (command_of c.words)) e.done.texts e.done.reads) in
       let read : e.done.texts ≡ Ok ts = ok-texts (command_of c.words) (question c) c.out c.out' e.done.texts ts e.end e.done.does ends agrees in
       let shown : Shown (ShowsOver (command_of c.words) (question c) (Ok ts)) c.seen c.seen' e.end =
       subst (λ (t : Texts). Shown (ShowsOver (command_of c.words) (question c) t) c.seen c.seen' e.end) read e.done.shown in
-      let pipe : Shown (RunPipeShows texts.program texts.limits texts.scenario c.passes) c.seen c.seen' e.end =
-      subst (λ (w : List (List ℕ)). Shown (ShowsOver (command_of w) (record { words = w; held = c.files.held; passes = c.passes }) (Ok ts)) c.seen c.seen' e.end) is shown in
-      shown-all (RunPipeShows texts.program texts.limits texts.scenario c.passes) c.seen c.seen' e.end (sights_of (ready_of f)) pipe ends (shows-pipe hold a f)
+      let over : Shown (CommandShows cmd (given (question c) ts)) c.seen c.seen' e.end =
+      subst (λ (co : Option Command). Shown (ShowsOver co (question c) (Ok ts)) c.seen c.seen' e.end) is shown in
+      shown-all (CommandShows cmd (given (question c) ts)) c.seen c.seen' e.end sights over ends shows
+
+  pub shown-clause : (names texts : Three) → Hold c.files.held names texts → (a : Accepted texts) → (f : FirstFitPlaces c.passes a) → c.words ≡ run_pipe names → result ≡ status.Ok →
+      ShowsAll c.seen c.seen' (sights_of (ready_of f))
+  shown-clause names texts hold a f is ok =
+      shows-answer command.RunPipe (texts.program ∷ texts.limits ∷ texts.scenario ∷ []) (sights_of (ready_of f)) (ap command_of is)
+      (subst (λ (w : List (List ℕ)). contents c.files.held w (command_files (Some command.RunPipe)) ≡ Some (Ok (texts.program ∷ texts.limits ∷ texts.scenario ∷ []))) (sym is) (texts-pipe hold a))
+      (shows-pipe hold a f) ok
+
+  pub shown_drive-clause : (names texts : Three) → Hold c.files.held names texts → (a : Accepted texts) → (f : FirstFitPlaces c.passes a) → c.words ≡ drive names → result ≡ status.Ok →
+      ShowsAll c.seen c.seen' (steps_sights f)
+  shown_drive-clause names texts hold a f is ok =
+      shows-answer command.Drive (texts.program ∷ texts.limits ∷ texts.scenario ∷ []) (steps_sights f) (ap command_of is)
+      (subst (λ (w : List (List ℕ)). contents c.files.held w (command_files (Some command.Drive)) ≡ Some (Ok (texts.program ∷ texts.limits ∷ texts.scenario ∷ []))) (sym is) (texts-drive hold a))
+      (shows-drive hold a f) ok
+
+  pub shown_placed-clause : (names texts : Three) → Hold c.files.held names texts → (placement text : List ℕ) → Holds c.files.held placement text 8388608 → (a : Accepted texts) → (audit : AuditAccepts c.passes a text) →
+      c.words ≡ run_placed names placement → result ≡ status.Ok → ShowsAll c.seen c.seen' (sights_of (audited_of audit))
+  shown_placed-clause names texts hold placement text holds a audit is ok =
+      shows-answer command.RunPlaced (texts.program ∷ texts.limits ∷ texts.scenario ∷ text ∷ []) (sights_of (audited_of audit)) (ap command_of is)
+      (subst (λ (w : List (List ℕ)). contents c.files.held w (command_files (Some command.RunPlaced)) ≡ Some (Ok (texts.program ∷ texts.limits ∷ texts.scenario ∷ text ∷ []))) (sym is) (texts-placed hold a holds))
+      (shows-placed hold a audit) ok
+
+  pub shown_bench-clause : (seed n : ℕ) → command_of c.words ≡ Some (command.Bench seed n) → (a : Accepted (bench_texts seed n)) → (f : FirstFitPlaces c.passes a) → result ≡ status.Ok →
+      ShowsAll c.seen c.seen' (sights_of (ready_of f))
+  shown_bench-clause seed n is a f ok = shows-answer (command.Bench seed n) [] (sights_of (ready_of f)) is refl (Ok (ready_of f), is-ready a f, refl) ok
 
   pub passes-clause : SamePasses c.passes c.passes'
   passes-clause = ran-same (RunsOver (command_of c.words) (question c) e.done.texts) c.passes c.passes' e.end e.done.ran

@@ -2,7 +2,7 @@
 use Rattle.std.proofs.Common.{◌≡◌, ℕ, ◌+◌, ◌<◌, ◌≤◌, ◌⊎◌, inl, inr, List, [], ◌∷◌, ◌++◌, ap, add-one, drop, drop-cons, get_or, length, map, refl, sym, take, ◌∙◌}
 use Rattle.std.proofs.lemmas.List.{drop_all, map_more}
 use Rattle.lucid_top.specs.Layout.{pass_line, passes_text}
-use Rattle.lucid_pass_form.specs.Replace.{Rewrite}
+use Rattle.lucid_pass_spec.specs.Replace.{Rewrite}
 use Rattle.lucid_top_fit.specs.Passes.{PassView, passes_view}
 
 pub names-of : {B : Type 0} (called : B → List ℕ) (gives : B → Rewrite) (count : B → ℕ) (passes : List B) → map called passes ≡ map PassView.name (passes_view called gives count passes)

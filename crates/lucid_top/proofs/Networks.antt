@@ -9,8 +9,8 @@ use Rattle.lucid_net.specs.Seen as net
 use Rattle.lucid_net.specs.Sights.{ShowsAll, ShowsRun, sights, sights_to}
 use Rattle.lucid_net.specs.declared.error.NetError.{NetError}
 use Rattle.lucid_net.specs.Wanting.{MayStop}
-use Rattle.lucid_net_log.specs.Log.{whole}
-use Rattle.lucid_net_log.specs.Ways.{Network}
+use Rattle.lucid_net_spec.specs.Log.{whole}
+use Rattle.lucid_net_spec.specs.Ways.{Network}
 use Rattle.lucid_pipe.specs.declared.sight.Sight.{Sight}
 use Rattle.lucid_tables.specs.Placed.{PlacedParts}
 use Rattle.lucid_top.specs.Pipes.{Ready, network_of, sights_of}

@@ -4,7 +4,7 @@ use Rattle.lucid_gen.specs.Limits.{limits_text}
 use Rattle.lucid_gen.specs.Program.{program_text}
 use Rattle.lucid_gen.specs.Scene.{scene_text}
 use Rattle.lucid_log_tally.specs.Bench.{bench_line}
-use Rattle.lucid_net_log.specs.Log.{log}
+use Rattle.lucid_net_spec.specs.Log.{log}
 use Rattle.lucid_pipe.specs.declared.sight.Sight.{Sight}
 use Rattle.lucid_top.specs.Pipes.{IsReady, network_of, sights_of}
 use Rattle.lucid_top_fit.specs.Passes.{PassView}

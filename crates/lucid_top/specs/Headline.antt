@@ -6,12 +6,18 @@ use Rattle.lucid_conf.specs.declared.limits.Limits.{Limits}
 use Rattle.lucid_conf.specs.declared.scene.Scene.{Scene}
 use Rattle.lucid_core.specs.Parts.{CoreParts}
 use Rattle.lucid_drive.specs.Drive.{drive_log}
+use Rattle.lucid_drive.specs.Sights.{sights}
+use Rattle.lucid_gen.specs.Limits.{limits_text}
+use Rattle.lucid_gen.specs.Program.{program_text}
+use Rattle.lucid_gen.specs.Scene.{scene_text}
 use Rattle.lucid_io.specs.Puts.{PutsAll}
-use Rattle.lucid_net_log.specs.Log.{log, whole}
+use Rattle.lucid_net_spec.specs.Log.{log, whole}
+use Rattle.lucid_pipe.specs.declared.sight.Sight.{Sight}
+use Rattle.lucid_snap.specs.Log.{snap_log}
 use Rattle.lucid_tables.specs.Placed.{PlacedParts}
 use Rattle.lucid_top.specs.Drive.{driven}
 use Rattle.lucid_top.specs.Pipes.{Ready, piped, ready, target}
-use Rattle.lucid_top_fit.specs.Fit.{Fit, IsComposed, IsFitted, Composed}
+use Rattle.lucid_top_fit.specs.Fit.{Fit, IsComposed, IsFitted, Composed, fit_of}
 use Rattle.lucid_top_fit.specs.Passes.{PassView}
 use Rattle.lucid_top_fit.specs.Placing.{IsAudited, IsCounted, IsPlan}
 use Rattle.lucid_top_program.specs.Program.{IsProgram}
@@ -41,6 +47,14 @@ drive names = codes "drive" ∷ names.program ∷ names.limits ∷ names.scenari
 -- with the name of a placement file
 abbrev pub run_placed : Three → Bytes → List Bytes
 run_placed names placement = codes "run" ∷ codes "placed" ∷ names.program ∷ names.limits ∷ names.scenario ∷ placement ∷ []
+
+-- with the number of steps before a snapshot
+abbrev pub snap : Three → Bytes → List Bytes
+snap names steps = codes "snap" ∷ names.program ∷ names.limits ∷ names.scenario ∷ steps ∷ []
+
+-- the texts that `bench` generates from these numbers
+abbrev pub bench_texts : ℕ → ℕ → Three
+bench_texts seed n = record { program = program_text seed; limits = limits_text; scenario = scene_text seed n }
 
 -- the name holds the text, which has at most so many bytes
 abbrev pub Holds : Held → Bytes → Bytes → ℕ → Type 0
@@ -80,6 +94,10 @@ pub record AuditAccepts (passes : List PassView) {texts : Three} (a : Accepted t
 abbrev pub ready_of : {passes : List PassView} {texts : Three} {a : Accepted texts} → FirstFitPlaces passes a → Ready
 ready_of {passes} {texts} {a} f = ready (piped (target a.core a.limits) f.fitted) a.scene
 
+-- the pipelines with the places of a file
+abbrev pub audited_of : {passes : List PassView} {texts : Three} {a : Accepted texts} {placement : Bytes} → AuditAccepts passes a placement → Ready
+audited_of {passes} {texts} {a} {placement} p = ready (piped (target a.core a.limits) (fit_of p.made.gone p.placed)) a.scene
+
 -- the log of the network whose handlers run whole, one event after another, in the order in which the events enter
 abbrev pub network_log : {texts : Three} → Accepted texts → Bytes
 network_log a = log (whole a.core a.scene a.limits)
@@ -87,6 +105,14 @@ network_log a = log (whole a.core a.scene a.limits)
 -- the log of the steps on one pipeline, told by handlers that run whole
 abbrev pub steps_log : {passes : List PassView} {texts : Three} {a : Accepted texts} → FirstFitPlaces passes a → Bytes
 steps_log f = drive_log (driven (ready_of f))
+
+-- the pipe after each step, told by handlers that run whole
+abbrev pub steps_sights : {passes : List PassView} {texts : Three} {a : Accepted texts} → FirstFitPlaces passes a → List Sight
+steps_sights f = sights (driven (ready_of f))
+
+-- the log of the steps, and then the cells of the handlers of all events that had entered by the first steps
+abbrev pub snapshot_log : {passes : List PassView} {texts : Three} {a : Accepted texts} → FirstFitPlaces passes a → ℕ → Bytes
+snapshot_log f steps = snap_log (driven (ready_of f)) steps
 
 -- the call wrote the text and ended with 0; or memory ran out, and then a prefix was written
 abbrev pub Wrote : {T : Type 0} → (T → Option Bytes) → (T → ℕ) → T → T → Status → Bytes → Type 0

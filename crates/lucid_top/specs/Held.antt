@@ -1,10 +1,10 @@
 -- How the code holds what it sets up, and what is known of that.
 use Rattle.std.specs.Prelude.{◌≡◌, length}
 use Rattle.lucid_conf.specs.Kept.{AreLimits, IsScene}
-use Rattle.lucid_effects_order.specs.Order.{IsAccepted}
+use Rattle.lucid_effects_spec.specs.Order.{IsAccepted}
 use Rattle.lucid_layout.specs.Counts.{CountsFit}
-use Rattle.lucid_normal_form.specs.Stands.{StandsFor}
-use Rattle.lucid_pass_form.specs.Replace.{MayReplace}
+use Rattle.lucid_normal_spec.specs.Stands.{StandsFor}
+use Rattle.lucid_pass_spec.specs.Replace.{MayReplace}
 use Rattle.lucid_top_fit.specs.Fit.{fit_view, made_view, normal_of}
 use Rattle.lucid_top.specs.declared.commands.setup.Network.{Network}
 use Rattle.lucid_top.specs.declared.commands.setup.Pipes.{Pipes}

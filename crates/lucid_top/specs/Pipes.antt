@@ -5,8 +5,8 @@ use Rattle.lucid_conf.specs.declared.limits.Limits.{Limits}
 use Rattle.lucid_conf.specs.declared.scene.Scene.{Scene}
 use Rattle.lucid_core.specs.Parts.{CoreParts}
 use Rattle.lucid_net.specs.Sights.{sights_to}
-use Rattle.lucid_net_log.specs.Log.{whole}
-use Rattle.lucid_net_log.specs.Ways.{Network}
+use Rattle.lucid_net_spec.specs.Log.{whole}
+use Rattle.lucid_net_spec.specs.Ways.{Network}
 use Rattle.lucid_pipe.specs.declared.sight.Sight.{Sight}
 use Rattle.lucid_top_fit.specs.Fit.{Fit, IsFitted, RunsOn}
 use Rattle.lucid_top_fit.specs.Passes.{PassView}

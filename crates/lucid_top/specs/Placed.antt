@@ -3,7 +3,7 @@ use Rattle.std.specs.Prelude.{◌≡◌, List, Result, Ok, length, map}
 use Rattle.lucid_code.specs.Nodes.{nodes}
 use Rattle.lucid_conf.specs.declared.scene.Scene.{Scene}
 use Rattle.lucid_net.specs.Wanting as net
-use Rattle.lucid_net_log.specs.Log.{log}
+use Rattle.lucid_net_spec.specs.Log.{log}
 use Rattle.lucid_pipe.specs.declared.sight.Sight.{Sight}
 use Rattle.lucid_top.specs.Layout.{fit_text}
 use Rattle.lucid_top.specs.Pipes.{IsTarget, Piped, Ready, Target, network_of, piped, ready, sights_of}

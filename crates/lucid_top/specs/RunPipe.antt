@@ -1,7 +1,7 @@
 -- `run pipe P L T`: the network of a scenario on pipelines. What it writes is the log of handlers that run whole.
 use Rattle.std.specs.Prelude.{◌≡◌, List, Result, Ok}
 use Rattle.lucid_net.specs.Wanting as net
-use Rattle.lucid_net_log.specs.Log.{log}
+use Rattle.lucid_net_spec.specs.Log.{log}
 use Rattle.lucid_pipe.specs.declared.sight.Sight.{Sight}
 use Rattle.lucid_top.specs.Pipes.{IsReady, Ready, network_of, sights_of}
 use Rattle.lucid_top_fit.specs.Passes.{PassView}

@@ -1,6 +1,6 @@
 -- `run whole P L T`: the log of the network of a scenario, whose switches run the handlers of a program whole, under the limits of a target.
 use Rattle.std.specs.Prelude.{◌≡◌, Ok}
-use Rattle.lucid_net_log.specs.Log.{log, whole}
+use Rattle.lucid_net_spec.specs.Log.{log, whole}
 use Rattle.lucid_top.specs.Pipes.{IsTarget, Target}
 use Rattle.lucid_top_program.specs.Settings.{IsScenario}
 use Rattle.lucid_top_words.specs.Outcome.{Outcome, FollowedBy}

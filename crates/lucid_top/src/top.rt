@@ -1,5 +1,5 @@
 // The top call: all that the program does, over words, files, two sinks, passes and a watch.
-ghost use Rattle.std.specs.Prelude.{◌≡◌, ◌≢◌, ◌⊎◌, ◌+◌, ℕ, List, [], ◌∷◌, None, Ok, Err};
+ghost use Rattle.std.specs.Prelude.{◌≡◌, ◌≢◌, ◌⊎◌, ◌+◌, ℕ, List, [], ◌∷◌, None, Some, Ok, Err};
 ghost use Rattle.std.specs.Io.KnownBytes.{Appends, Keeps};
 ghost use Rattle.lucid_io.specs.Contents.{SameHeld};
 ghost use Rattle.lucid_io.specs.Counts.{Rose, SameCounts, OthersKept};
@@ -8,7 +8,7 @@ ghost use Rattle.lucid_top.specs.Answer.{Answers, CanStop, IsTold};
 ghost use Rattle.lucid_top.specs.Call.{Done, Ended, IsNamed, Names, Unfailed, asked, bytes_of, name_of, named_files};
 ghost use Rattle.lucid_net.specs.Sights.{ShowsAll};
 ghost use Rattle.lucid_top.specs.Headline.{Accepted, AuditAccepts, FirstFitPlaces, Hold, Holds, Three, Wrote, drive, network_log};
-ghost use Rattle.lucid_top.specs.Headline.{ready_of, run_pipe, run_placed, run_whole, steps_log};
+ghost use Rattle.lucid_top.specs.Headline.{audited_of, bench_texts, ready_of, run_pipe, run_placed, run_whole, snap, snapshot_log, steps_log, steps_sights};
 ghost use Rattle.lucid_top.specs.Pipes.{sights_of};
 ghost use Rattle.lucid_top.specs.Watching.{ToldBefore};
 ghost use Rattle.lucid_top.specs.Passes.{SamePasses};
@@ -18,6 +18,7 @@ ghost use Rattle.lucid_top_words.specs.Outcome.{Outcome, SameRefusal, outcome_st
 ghost use Rattle.lucid_top_words.specs.Refusal.{line_of, status_of};
 ghost use Rattle.lucid_top_words.specs.Status.{IsDetermined};
 ghost use Rattle.lucid_top_words.specs.Views.{files_view, sink_view};
+ghost use Rattle.lucid_top_words.specs.Words.{number_of};
 ghost use Rattle.lucid_top_words.specs.Writing.{PutsSome, Said};
 
 use crate::commands::perform;
@@ -70,10 +71,26 @@ pub fn lucid<F: Files, W: Sink, E: Sink, V: Watch>(
         (f : FirstFitPlaces (passes_view called gives count passes.old.items) a) →
         Unfailed F.faults files.old files.new words.now → ¬ Rose (W.faults out.old) (W.faults out.new) →
         bytes_of words.now ≡ drive names → Wrote W.written W.faults out.old out.new result (steps_log f) }
+    // and a snapshot that is taken stage by stage after so many steps holds the cells of the handlers of all events that had entered
+    ensures snapped { (names texts : Three) → Hold (F.held files.old) names texts → (a : Accepted texts) →
+        (f : FirstFitPlaces (passes_view called gives count passes.old.items) a) → (word : List ℕ) (steps : ℕ) → number_of word ≡ Some steps →
+        Unfailed F.faults files.old files.new words.now → ¬ Rose (W.faults out.old) (W.faults out.new) →
+        bytes_of words.now ≡ snap names word → Wrote W.written W.faults out.old out.new result (snapshot_log f steps) }
     // and what happens in the pipes is shown: after each tick the pipe of each switch
     ensures shown { (names texts : Three) → Hold (F.held files.old) names texts → (a : Accepted texts) →
         (f : FirstFitPlaces (passes_view called gives count passes.old.items) a) → bytes_of words.now ≡ run_pipe names →
         result ≡ Status.Ok → ShowsAll (V.seen watch.old) (V.seen watch.new) (sights_of (ready_of f)) }
+    ensures shown_placed { (names texts : Three) → Hold (F.held files.old) names texts →
+        (placement text : List ℕ) → Holds (F.held files.old) placement text 8388608 → (a : Accepted texts) →
+        (p : AuditAccepts (passes_view called gives count passes.old.items) a text) → bytes_of words.now ≡ run_placed names placement →
+        result ≡ Status.Ok → ShowsAll (V.seen watch.old) (V.seen watch.new) (sights_of (audited_of p)) }
+    ensures shown_bench { (seed n : ℕ) → command_of (bytes_of words.now) ≡ Some (Command.Bench seed n) → (a : Accepted (bench_texts seed n)) →
+        (f : FirstFitPlaces (passes_view called gives count passes.old.items) a) →
+        result ≡ Status.Ok → ShowsAll (V.seen watch.old) (V.seen watch.new) (sights_of (ready_of f)) }
+    // after each step of a drive, its pipe
+    ensures shown_drive { (names texts : Three) → Hold (F.held files.old) names texts → (a : Accepted texts) →
+        (f : FirstFitPlaces (passes_view called gives count passes.old.items) a) → bytes_of words.now ≡ drive names →
+        result ≡ Status.Ok → ShowsAll (V.seen watch.old) (V.seen watch.new) (steps_sights f) }
 
     // What words, files and passes determine is answered: the status, the bytes of `out`, the line of `err`.
     ensures status { let q = asked words.now (F.held files.old) (passes_view called gives count passes.old.items) in
@@ -118,8 +135,9 @@ pub fn lucid<F: Files, W: Sink, E: Sink, V: Watch>(
     ensures passes { let seen = passes_view called gives count in SamePasses (seen passes.old.items) (seen passes.new.items) }
     ensures told { ToldBefore (V.seen watch.old) (V.seen watch.new) }
 
-    // what stays as it was: where the words are none of the forms, the files do
-    ensures unread { command_of (bytes_of words.now) ≡ None → files.new ≡ files.old }
+    // what stays as it was: the files, if the words name none; no file that the words don't name is ever begun
+    ensures unread { named_files words.now ≡ [] → files.new ≡ files.old }
+    ensures tries { (name : List ℕ) → F.tried files.new name → F.tried files.old name ⊎ IsNamed words.now name }
     ensures held { SameHeld (F.held files.old) (F.held files.new) }
     ensures quiet { result ≢ Status.ReadFault → SameCounts (F.faults files.old) (F.faults files.new) }
     ensures others { OthersKept (IsNamed words.now) (F.held files.old) (F.faults files.old) (F.faults files.new) }
@@ -149,7 +167,8 @@ fn call<F: Files, W: Sink, E: Sink, V: Watch>(
           seen = V.seen watch.old;
           seen' = V.seen watch.new;
         }) (err' err.old) (err' err.new) result }
-    ensures unread { command_of (bytes_of words.now) ≡ None → files.new ≡ files.old }
+    ensures unread { named_files words.now ≡ [] → files.new ≡ files.old }
+    ensures tries { (name : List ℕ) → F.tried files.new name → F.tried files.old name ⊎ IsNamed words.now name }
 {
     match work(alloc, words, files, out, passes, watch) {
         Ok(()) => Status::Ok,
@@ -178,7 +197,8 @@ fn work<F: Files, W: Sink, V: Watch>(
           seen = V.seen watch.old;
           seen' = V.seen watch.new;
         }) result }
-    ensures unread { command_of (bytes_of words.now) ≡ None → files.new ≡ files.old }
+    ensures unread { named_files words.now ≡ [] → files.new ≡ files.old }
+    ensures tries { (name : List ℕ) → F.tried files.new name → F.tried files.old name ⊎ IsNamed words.now name }
 {
     let Some(command) = Command::read(words) else {
         return Err(Refusal::Usage);

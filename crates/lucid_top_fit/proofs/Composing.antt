@@ -7,7 +7,7 @@ use Rattle.lucid_inline.specs.declared.error.InlineError.TheVariants as inline
 use Rattle.lucid_inline.specs.Refusals.{Refused}
 use Rattle.lucid_layout.specs.Counts.{most_ops}
 use Rattle.lucid_pass.specs.Through.{gone, through}
-use Rattle.lucid_pass_form.specs.Replace.{Rewrite}
+use Rattle.lucid_pass_spec.specs.Replace.{Rewrite}
 use Rattle.lucid_top_fit.specs.Causes.{of_inline}
 use Rattle.lucid_top_fit.specs.Fit.{HasNormal, IsComposed, Composed, RunsOn, composed, normal_of}
 use Rattle.lucid_top_fit.specs.Passes.{PassView, RanOut, passes_view}

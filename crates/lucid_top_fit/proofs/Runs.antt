@@ -4,7 +4,7 @@ use Rattle.std.proofs.lemmas.List.{length-map, take_all}
 use Rattle.std.proofs.lemmas.Simd.{map-map}
 use Rattle.lucid_code.specs.Parts as code
 use Rattle.lucid_pass.specs.Through.{gone, raised}
-use Rattle.lucid_pass_form.specs.Replace.{Rewrite}
+use Rattle.lucid_pass_spec.specs.Replace.{Rewrite}
 use Rattle.lucid_top_fit.specs.Passes.{PassView, PassesRun, Ran, RanOut, pass_view, passes_view}
 use Rattle.lucid_top_words.specs.declared.refusal.Refusal.{Refusal}
 use Rattle.lucid_top_words.specs.declared.refusal.Refusal.TheVariants as refusal

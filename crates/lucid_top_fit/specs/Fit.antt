@@ -4,13 +4,13 @@ use Rattle.lucid_code.specs.Parts as code
 use Rattle.lucid_conf.specs.declared.limits.Limits.{Limits}
 use Rattle.lucid_core.specs.Parts.{CoreParts}
 use Rattle.lucid_inline.specs.Refusals.{Fits, largest, length_of, size_of}
-use Rattle.lucid_inline_form.specs.Flat.{flat_of}
+use Rattle.lucid_inline_spec.specs.Flat.{flat_of}
 use Rattle.lucid_layout.specs.declared.error.FitError.TheVariants as cause
 use Rattle.lucid_layout.specs.Counts.{most_ops}
 use Rattle.lucid_layout.specs.Laws.{NoRoom}
 use Rattle.lucid_layout.specs.Layout.{IsLayout, IsRefused}
 use Rattle.lucid_layout.specs.Nodes.{works}
-use Rattle.lucid_normal_form.specs.Program.{translate}
+use Rattle.lucid_normal_spec.specs.Program.{translate}
 use Rattle.lucid_pass.specs.Through.{gone, through}
 use Rattle.lucid_tables.specs.Placed.{PlacedParts}
 use Rattle.lucid_top_words.specs.declared.no_fit.NoFit.TheVariants as fit

@@ -3,8 +3,8 @@ use Rattle.std.specs.Prelude.{◌≡◌, ◌⊎◌, ℕ, List, Result, Err, leng
 use Rattle.std.specs.List.{AllByRecursion}
 use Rattle.lucid_code.specs.Parts as code
 use Rattle.lucid_pass.specs.Through.{gone, raised}
-use Rattle.lucid_pass_form.specs.Laws.{KeepsNodes}
-use Rattle.lucid_pass_form.specs.Replace.{Rewrite}
+use Rattle.lucid_pass_spec.specs.Laws.{KeepsNodes}
+use Rattle.lucid_pass_spec.specs.Replace.{Rewrite}
 use Rattle.lucid_top_words.specs.declared.refusal.Refusal.{Refusal}
 use Rattle.lucid_top_words.specs.declared.refusal.Refusal.TheVariants as refusal
 use Rattle.lucid_top_words.specs.Words.{Bytes}

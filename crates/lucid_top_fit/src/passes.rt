@@ -1,9 +1,9 @@
 // From a program to the code that its passes make.
 ghost use Rattle.std.specs.Prelude.{◌≡◌, IfErr, IfOk, IsTrue, List, map};
 ghost use Rattle.lucid_code.specs.Nodes.{nodes_follow_writes};
-ghost use Rattle.lucid_effects_order.specs.Order.{IsAccepted};
-ghost use Rattle.lucid_inline_form.specs.Flat.{flat_of};
-ghost use Rattle.lucid_pass_form.specs.Replace.{MayReplace};
+ghost use Rattle.lucid_effects_spec.specs.Order.{IsAccepted};
+ghost use Rattle.lucid_inline_spec.specs.Flat.{flat_of};
+ghost use Rattle.lucid_pass_spec.specs.Replace.{MayReplace};
 ghost use Rattle.lucid_top_fit.specs.Fit.{HasNormal, IsComposed, RunsOn, normal_of, made_view};
 ghost use Rattle.lucid_top_fit.specs.Passes.{KeepNodes, PassView, PassesRun, passes_view};
 ghost use Rattle.lucid_top_words.specs.Outcome.{Declines, Prepares};

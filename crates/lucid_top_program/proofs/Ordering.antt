@@ -5,8 +5,8 @@ use Rattle.std.proofs.lemmas.Bool.{cases_order}
 use Rattle.std.proofs.lemmas.List.Elements.{All-contains}
 use Rattle.lucid_base.specs.declared.array.ArrayName.{ArrayName}
 use Rattle.lucid_core.specs.Parts.{CoreParts}
-use Rattle.lucid_effects_order.specs.Order.{Body, InOrder, IsAccepted, bodies}
-use Rattle.lucid_effects_order.specs.Refused.{IsFirstRefused}
+use Rattle.lucid_effects_spec.specs.Order.{Body, InOrder, IsAccepted, bodies}
+use Rattle.lucid_effects_spec.specs.Refused.{IsFirstRefused}
 use Rattle.lucid_effects.specs.First.{IsRefusedFirst}
 use Rattle.lucid_parse_tree.specs.declared.tree.Tree.{Tree}
 use Rattle.lucid_top_words.specs.declared.refusal.Refusal.{Refusal}

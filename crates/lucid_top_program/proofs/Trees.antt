@@ -1,14 +1,14 @@
 -- What the parser and the elaborator answered is what the tree and the core of a text are.
 use Rattle.std.proofs.Common.{◌≡◌, ◌≢◌, ℕ, List, Some, None, Result, Ok, Err, sym, ap, refl}
 use Rattle.lucid_core.specs.Parts.{CoreParts}
-use Rattle.lucid_parse_grammar.specs.Lexemes.{lexemes_of}
+use Rattle.lucid_parse_spec.specs.Lexemes.{lexemes_of}
 use Rattle.lucid_lex.specs.declared.token.Token.{Token}
 use Rattle.lucid_parse.specs.Nesting.{too_deep}
 use Rattle.lucid_parse.specs.Program.{IsFault, IsTreeOf, kinds_of}
 use Rattle.lucid_parse.specs.declared.error.ParseError.{ParseError}
 use Rattle.lucid_parse.specs.declared.error.ParseError.TheVariants as parse
-use Rattle.lucid_types_rules.specs.Found.{IsDetermined}
-use Rattle.lucid_types_rules.specs.Makes.{IsTyped}
+use Rattle.lucid_types_spec.specs.Found.{IsDetermined}
+use Rattle.lucid_types_spec.specs.Makes.{IsTyped}
 use Rattle.lucid_parse_tree.specs.declared.tree.Tree.{Tree}
 use Rattle.lucid_types.specs.Answers.{Tells}
 use Rattle.lucid_types.specs.declared.error.TypeError.{TypeError}

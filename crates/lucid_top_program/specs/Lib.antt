@@ -1,4 +1,5 @@
 pub mod Causes
 pub mod Program
+pub mod Safe
 pub mod Settings
 pub mod Source

@@ -5,14 +5,14 @@ use Rattle.std.specs.Option.{option_and_then, option_or, unwrap_or}
 use Rattle.lucid_base.specs.declared.array.ArrayName.{ArrayName}
 use Rattle.lucid_base.specs.declared.array.ArrayName.TheVariants.{Global, Param}
 use Rattle.lucid_core.specs.Parts.{CoreParts}
-use Rattle.lucid_parse_grammar.specs.Lexemes.{lexemes_of}
+use Rattle.lucid_parse_spec.specs.Lexemes.{lexemes_of}
 use Rattle.lucid_lex.specs.declared.token.Token.{Token}
 use Rattle.lucid_lex.specs.Reading.{Reads, StopsAt}
-use Rattle.lucid_effects_order.specs.Order.{IsAccepted}
-use Rattle.lucid_effects_order.specs.Refused.{IsFirstRefused}
+use Rattle.lucid_effects_spec.specs.Order.{IsAccepted}
+use Rattle.lucid_effects_spec.specs.Refused.{IsFirstRefused}
 use Rattle.lucid_parse.specs.Nesting.{too_deep}
 use Rattle.lucid_parse.specs.Program.{IsFault, IsTreeOf, kinds_of}
-use Rattle.lucid_types_rules.specs.Makes.{IsTyped, IsRefused}
+use Rattle.lucid_types_spec.specs.Makes.{IsTyped, IsRefused}
 use Rattle.lucid_parse_tree.specs.declared.tree.DeclKind.{DeclKind}
 use Rattle.lucid_parse_tree.specs.declared.tree.DeclKind.TheVariants as kind
 use Rattle.lucid_parse_tree.specs.declared.tree.P.{P}

@@ -5,11 +5,13 @@
 #![tactic(auto)]
 
 mod causes;
+mod laws;
 mod order;
 mod program;
 mod settings;
 mod source;
 
+pub use laws::touches_rise_in_texts;
 pub use program::accepted;
 pub use settings::{limits, scenario};
 pub use source::Source;

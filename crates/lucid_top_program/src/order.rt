@@ -2,7 +2,7 @@
 ghost use Rattle.std.specs.Prelude.{◌≡◌, ◌<◌, [], IfOk, map, nat_eq, option_map};
 ghost use Rattle.std.specs.List.{find};
 ghost use Rattle.std.specs.Option.{unwrap_or};
-ghost use Rattle.lucid_effects_order.specs.Order.{IsAccepted};
+ghost use Rattle.lucid_effects_spec.specs.Order.{IsAccepted};
 ghost use Rattle.lucid_top_words.specs.Outcome.{Prepares};
 ghost use Rattle.lucid_top_program.specs.Program.{IsOrdered, array_name, array_param as array_param_of, declared_line, param_of};
 

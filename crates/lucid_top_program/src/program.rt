@@ -1,6 +1,6 @@
 // From a program's text to the program: the path that every command takes which names a program file.
 ghost use Rattle.std.specs.Prelude.{IfOk};
-ghost use Rattle.lucid_effects_order.specs.Order.{IsAccepted};
+ghost use Rattle.lucid_effects_spec.specs.Order.{IsAccepted};
 ghost use Rattle.lucid_lex.specs.Reading.{Reads};
 ghost use Rattle.lucid_top_words.specs.Outcome.{Prepares};
 ghost use Rattle.lucid_top_program.specs.Program.{IsElaborated, IsParsed, IsProgram, IsProgramFrom, IsProgramOf, IsRead};
@@ -13,6 +13,7 @@ use lucid_base::uncounted;
 use lucid_core::Core;
 use lucid_lex::Token;
 use lucid_parse::{Tree, parse};
+use lucid_seed::Seeded;
 use lucid_top_words::Refusal;
 use lucid_types::elaborate;
 use std::alloc::Global;
@@ -55,14 +56,14 @@ fn accepted_tokens(alloc: Global, text: &[u8], tokens: &[Token]) -> Result<Core,
     ensures accepted { IfOk result IsAccepted }
 {
     let tree = tree_of(alloc, text, tokens)?;
-    accepted_tree(alloc, &tree)
+    accepted_tree(alloc, Seeded::by(text), &tree)
 }
 
-fn accepted_tree(alloc: Global, tree: &Tree) -> Result<Core, Refusal>
+fn accepted_tree(alloc: Global, seeded: Seeded, tree: &Tree) -> Result<Core, Refusal>
     ensures program { Prepares (IsProgramOf tree.now) (λ core. core) result }
     ensures accepted { IfOk result IsAccepted }
 {
-    let core = core_of(alloc, tree)?;
+    let core = core_of(alloc, seeded, tree)?;
     in_order::<Brand>(alloc, tree, core, uncounted())
 }
 
@@ -78,10 +79,10 @@ fn tree_of(alloc: Global, text: &[u8], tokens: &[Token]) -> Result<Tree, Refusal
 }
 
 // The core of the tree.
-fn core_of(alloc: Global, tree: &Tree) -> Result<Core, Refusal>
+fn core_of(alloc: Global, seeded: Seeded, tree: &Tree) -> Result<Core, Refusal>
     ensures { Prepares (IsElaborated tree.now) (λ core. core) result }
 {
-    match elaborate(alloc, tree) {
+    match elaborate(alloc, seeded, tree) {
         Ok(core) => Ok(core),
         Err(error) => Err(of_types(error)),
     }

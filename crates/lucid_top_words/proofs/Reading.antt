@@ -1,10 +1,12 @@
 -- How the named files are read, one after another.
-use Rattle.std.proofs.Common.{◌≡◌, ℕ, inl, inr, List, [], ◌∷◌, ◌++◌, Ok, Err, refl, sym, ◌∙◌, ap, subst, append_assoc, append-nil, ◌+◌, ◌<◌, ◌≤◌, drop, drop-cons, get_or, add-one, length}
+use Rattle.std.proofs.Common.{◌≡◌, ℕ, zero, suc, inl, inr, arith, List, [], ◌∷◌, ◌++◌, Ok, Err, refl, sym, ◌∙◌, ap, subst, append_assoc, append-nil, ◌+◌, ◌<◌, ◌≤◌, drop, drop-cons, get_or, add-one, length}
 use Rattle.std.proofs.lemmas.List.{drop_all}
 use Rattle.lucid_top_words.specs.declared.command.NamedFile.{NamedFile}
 use Rattle.lucid_top_words.specs.declared.refusal.Refusal.{Refusal}
 use Rattle.lucid_top_words.specs.Views.{FilesView}
-use Rattle.lucid_top_words.specs.Files.{Texts, FilesRead, ReadsOne, ReadsNone, before}
+use Rattle.std.specs.Prelude.{◌⊎◌}
+use Rattle.lucid_top_words.specs.Files.{Texts, FilesRead, IsOneOf, IsNameIn, ReadsOne, ReadsNone, TriesOnly, before}
+use Rattle.lucid_top_words.specs.Words.{word_at}
 
 -- these texts before those of the rest
 abbrev pub after : List (List ℕ) → Texts → Texts
@@ -51,3 +53,29 @@ files-next named i file lt is =
 
 pub files-none : (named : List NamedFile) (i : ℕ) → length named ≤ i → drop i named ≡ []
 files-none named i le = drop_all i named le
+
+-- the file at an index is one of the files
+pub is_one_of : (named : List NamedFile) (i : ℕ) (file : NamedFile) → i < length named → file ≡ get_or named i file → IsOneOf named file
+is_one_of [] i file lt is = absurd (omega (arith, lt))
+is_one_of (f ∷ rest) zero file lt is = inl is
+is_one_of (f ∷ rest) (suc i) file lt is = inr (is_one_of rest i file (omega (arith, lt)) is)
+
+-- one more of the files was tried
+pub TriesOnly-more : (before mid now : List ℕ → Type 0) (words : List (List ℕ)) (named : List NamedFile) (file : NamedFile) → IsOneOf named file → TriesOnly words named before mid →
+    ((name : List ℕ) → now name → mid name ⊎ (name ≡ word_at words file.word)) → TriesOnly words named before now
+TriesOnly-more before mid now words named file one so_far step = λ name is. joined name (step name is)
+  where
+    joined : (name : List ℕ) → mid name ⊎ (name ≡ word_at words file.word) → before name ⊎ IsNameIn words named name
+    joined name (inl was) = so_far name was
+    joined name (inr same) = inr (file, one, same)
+
+-- the same, where the file is that of a reading: whole, or refused
+pub TriesOnly-one : {old new : FilesView} (texts texts' : List (List ℕ)) (was mid now : List ℕ → Type 0) (words : List (List ℕ)) (named : List NamedFile) (file : NamedFile) →
+    ReadsOne words old new file texts texts' → IsOneOf named file → TriesOnly words named was mid →
+    ((name : List ℕ) → now name → mid name ⊎ (name ≡ word_at words file.word)) → TriesOnly words named was now
+TriesOnly-one texts texts' was mid now words named file read one so_far step = TriesOnly-more was mid now words named file one so_far step
+
+pub TriesOnly-not : {old new : FilesView} {r : Refusal} (was mid now : List ℕ → Type 0) (words : List (List ℕ)) (named : List NamedFile) (file : NamedFile) →
+    ReadsNone words old new file r → IsOneOf named file → TriesOnly words named was mid →
+    ((name : List ℕ) → now name → mid name ⊎ (name ≡ word_at words file.word)) → TriesOnly words named was now
+TriesOnly-not was mid now words named file read one so_far step = TriesOnly-more was mid now words named file one so_far step

@@ -88,3 +88,11 @@ contents held words (file ∷ rest) = held_with file (held (word_at words file.w
 abbrev pub IsOneOf : List NamedFile → NamedFile → Type 0
 IsOneOf [] file = ⊥
 IsOneOf (f ∷ rest) file = (file ≡ f) ⊎ IsOneOf rest file
+
+-- one of these files has this name
+abbrev pub IsNameIn : List Bytes → List NamedFile → Bytes → Type 0
+IsNameIn words files name = (file : NamedFile) × IsOneOf files file × (name ≡ word_at words file.word)
+
+-- a name that was tried now was tried before, or one of these files has it
+abbrev pub TriesOnly : List Bytes → List NamedFile → (Bytes → Type 0) → (Bytes → Type 0) → Type 0
+TriesOnly words files before now = (name : Bytes) → now name → before name ⊎ IsNameIn words files name

@@ -3,8 +3,8 @@ use Rattle.std.specs.Prelude.{ℕ, List, [], ◌++◌, Option, None, Some, codes
 use Rattle.std.specs.List.{flat_map}
 use Rattle.lucid_conf.specs.Keys.{name_of}
 use Rattle.lucid_conf.specs.declared.key.Key.{Key}
-use Rattle.lucid_types_rules.specs.declared.limit.What.{What}
-use Rattle.lucid_types_rules.specs.declared.limit.What.TheVariants as what
+use Rattle.lucid_types_spec.specs.declared.limit.What.{What}
+use Rattle.lucid_types_spec.specs.declared.limit.What.TheVariants as what
 use Rattle.lucid_top_words.specs.declared.refusal.Refusal.{Refusal}
 use Rattle.lucid_top_words.specs.declared.refusal.Refusal.TheVariants as refusal
 use Rattle.lucid_top_words.specs.declared.status.Status.{Status}

@@ -1,14 +1,15 @@
 // The files that the words name, read in word order. All that is said of statuses 2 and 3 comes from here.
-ghost use Rattle.std.specs.Prelude.{◌<◌, ◌^◌, All, OnOk, IfErr, length, map, string_bytes};
-ghost use Rattle.lucid_top_words.specs.Files.{FilesRead, ReadsOne, ReadsNone, texts_of, texts_in};
+ghost use Rattle.std.specs.Prelude.{◌≡◌, ◌⊎◌, ◌<◌, ◌^◌, ℕ, List, [], All, OnOk, IfErr, length, map, string_bytes};
+ghost use Rattle.lucid_top_words.specs.Files.{FilesRead, ReadsOne, ReadsNone, TriesOnly, texts_of, texts_in};
 ghost use Rattle.lucid_top_words.specs.Views.{files_view};
+ghost use Rattle.lucid_top_words.specs.Words.{word_at};
 
 use crate::command::NamedFile;
 use crate::refusal::Refusal;
 use lucid_io::{Files, read_all};
 use std::alloc::Global;
 
-/// What the named files hold, each read whole within its limit, or why the first that was not taken was not.
+/// Reads the named files, each whole within its limit, up to the first that can't be taken. No file of another name is tried.
 pub fn read_files<F: Files>(
     alloc: Global,
     files: &mut F,
@@ -17,8 +18,10 @@ pub fn read_files<F: Files>(
 ) -> Result<Vec<Vec<u8>>, Refusal>
     requires there { All (λ file. file.word < length words.now) named.now }
     requires small { All (λ file. file.limit < 2 ^ 32) named.now }
-    ensures { let seen = files_view F.held F.given F.faults in
+    ensures reads { let seen = files_view F.held F.given F.faults in
         FilesRead (map string_bytes words.now) (seen files.old) (seen files.new) named.now (texts_of result) }
+    ensures tries { TriesOnly (map string_bytes words.now) named.now (F.tried files.old) (F.tried files.new) }
+    ensures none { named.now ≡ [] → files.new ≡ files.old }
 {
     let mut texts = Vec::new(alloc);
     for file in named {
@@ -41,6 +44,7 @@ fn read_next<F: Files>(
         OnOk result (ReadsOne (map string_bytes words.now) (seen files.old) (seen files.new) file.now before (texts_in texts.new.items)) }
     ensures not { let seen = files_view F.held F.given F.faults in
         IfErr result (λ r. ReadsNone (map string_bytes words.now) (seen files.old) (seen files.new) file.now r) }
+    ensures tries { (name : List ℕ) → F.tried files.new name → F.tried files.old name ⊎ (name ≡ word_at (map string_bytes words.now) file.now.word) }
 {
     match read_all(alloc, files, words[file.word].as_str(), file.limit) {
         Ok(text) => {

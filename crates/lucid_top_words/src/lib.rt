@@ -2,7 +2,7 @@
 // output, with its status and its line. A part of the work `Prepares` something or refuses, and one part follows another (specs/Outcome).
 // It promises that the words are read by place (specs/Command), that the files are read as specs/Files says, of which all that is said of
 // statuses 2 and 3 comes, and that the line of a refusal is the one of specs/Refusal. Stands on lucid_io for files and sinks, lucid_log for
-// what is written, and on lucid_types_rules and lucid_conf for what a refusal names.
+// what is written, and on lucid_types_spec and lucid_conf for what a refusal names.
 #![tactic(auto)]
 
 mod command;

@@ -13,7 +13,7 @@ use lucid_base::Id;
 use lucid_conf::Key;
 use lucid_io::{Sink, WriteFault, put_all};
 use lucid_log::{Piece, put_pieces};
-use lucid_types_rules::What;
+use lucid_types_spec::What;
 
 /// Ends a call by a refusal: writes its line, and gives its status, which a fault of `err` doesn't change.
 pub fn refuse<E: Sink>(err: &mut E, words: &[String], refusal: Refusal) -> Status

@@ -10,7 +10,7 @@ use crate::status::Status;
 use lucid_base::{Id, Memory as WantOfMemory};
 use lucid_conf::Key;
 use lucid_io::{Take, WriteFault};
-use lucid_types_rules::What;
+use lucid_types_spec::What;
 use std::alloc::AllocError;
 
 /// Why there is no output, or only a part of it, with what its line tells.

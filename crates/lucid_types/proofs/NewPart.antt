@@ -14,14 +14,14 @@ use Rattle.lucid_parse_tree.specs.declared.tree.S.{S}
 use Rattle.lucid_parse_tree.specs.declared.tree.Size.{Size}
 use Rattle.lucid_parse_tree.specs.declared.tree.Tree.{Tree}
 use Rattle.lucid_parse_tree.specs.declared.tree.Ty.{Ty}
-use Rattle.lucid_types_rules.specs.declared.limit.What.{What}
-use Rattle.lucid_types_rules.specs.Declaration.{Declared, Definitions, parts_of}
-use Rattle.lucid_types_rules.specs.Declaration as rule
-use Rattle.lucid_types_rules.specs.Found.{Computes}
-use Rattle.lucid_types_rules.specs.Limits.{passed}
-use Rattle.lucid_types_rules.specs.Makes.{IsTyped}
-use Rattle.lucid_types_rules.specs.Types.{answer_width, cell_widths, value_widths}
-use Rattle.lucid_types_function.specs.Declaration.{declaration}
+use Rattle.lucid_types_spec.specs.declared.limit.What.{What}
+use Rattle.lucid_types_spec.specs.Declaration.{Declared, Definitions, parts_of}
+use Rattle.lucid_types_spec.specs.Declaration as rule
+use Rattle.lucid_types_spec.specs.Found.{Computes}
+use Rattle.lucid_types_spec.specs.Limits.{passed}
+use Rattle.lucid_types_spec.specs.Makes.{IsTyped}
+use Rattle.lucid_types_spec.specs.Types.{answer_width, cell_widths, value_widths}
+use Rattle.lucid_types_laws.specs.Declaration.{declaration}
 use Rattle.lucid_types_limits.specs.declared.limits.Limits.{Limits}
 use Rattle.lucid_types_limits.specs.Laws.{NewAlone, OnlyTheNew}
 use Rattle.lucid_types_limits.specs.NewPart.{Knows, array_passes, event_passes, fun_passes, handler_passes}

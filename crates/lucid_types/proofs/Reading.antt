@@ -3,12 +3,12 @@ use Rattle.std.proofs.Common.{◌≡◌, ℕ, suc, ◌+◌, ◌<◌, ◌≤◌, 
 use Rattle.std.proofs.lemmas.List.{append_assoc, take-append-drop, take_more}
 use Rattle.lucid_parse_tree.specs.declared.tree.Decl.{Decl}
 use Rattle.lucid_parse_tree.specs.declared.tree.Tree.{Tree}
-use Rattle.lucid_types_rules.specs.declared.limit.What.{What}
-use Rattle.lucid_types_rules.specs.Declaration.{Definitions, parts_of, start}
-use Rattle.lucid_types_rules.specs.Found.{Decides, Refusal, found, on_limit, on_made}
-use Rattle.lucid_types_rules.specs.Limits.{passed}
-use Rattle.lucid_types_rules.specs.Makes.{IsTyped}
-use Rattle.lucid_types_function.specs.Declaration.{declaration}
+use Rattle.lucid_types_spec.specs.declared.limit.What.{What}
+use Rattle.lucid_types_spec.specs.Declaration.{Definitions, parts_of, start}
+use Rattle.lucid_types_spec.specs.Found.{Decides, Refusal, found, on_limit, on_made}
+use Rattle.lucid_types_spec.specs.Limits.{passed}
+use Rattle.lucid_types_spec.specs.Makes.{IsTyped}
+use Rattle.lucid_types_laws.specs.Declaration.{declaration}
 use Rattle.lucid_types_limits.specs.declared.limits.Limits.{Limits}
 use Rattle.lucid_types_limits.specs.NewPart.{Knows}
 use Rattle.lucid_types.specs.declared.error.TypeError.{TypeError}

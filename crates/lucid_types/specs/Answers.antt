@@ -4,12 +4,12 @@ use Rattle.lucid_base.specs.declared.memory.Memory.{Memory as WantOfMemory}
 use Rattle.lucid_parse_tree.specs.declared.tree.Decl.{Decl}
 use Rattle.lucid_parse_tree.specs.declared.tree.DeclKind.{DeclKind}
 use Rattle.lucid_parse_tree.specs.declared.tree.Tree.{Tree}
-use Rattle.lucid_types_rules.specs.declared.limit.What.{What}
-use Rattle.lucid_types_rules.specs.Declaration.{Definitions, parts_of}
-use Rattle.lucid_types_rules.specs.Found.{Refusal, on_made}
-use Rattle.lucid_types_rules.specs.Limits.{passed}
-use Rattle.lucid_types_rules.specs.Makes.{IsRefused, IsTyped}
-use Rattle.lucid_types_function.specs.Declaration.{declaration}
+use Rattle.lucid_types_spec.specs.declared.limit.What.{What}
+use Rattle.lucid_types_spec.specs.Declaration.{Definitions, parts_of}
+use Rattle.lucid_types_spec.specs.Found.{Refusal, on_made}
+use Rattle.lucid_types_spec.specs.Limits.{passed}
+use Rattle.lucid_types_spec.specs.Makes.{IsRefused, IsTyped}
+use Rattle.lucid_types_laws.specs.Declaration.{declaration}
 use Rattle.lucid_types_limits.specs.declared.limits.Limits.{Limits}
 use Rattle.lucid_types_limits.specs.NewPart.{Knows}
 use Rattle.lucid_types.specs.declared.error.TypeError.{TypeError}

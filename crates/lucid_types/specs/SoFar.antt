@@ -1,9 +1,9 @@
 -- How far a program was read.
 use Rattle.std.specs.Prelude.{◌≡◌, ℕ, ◌+◌, List, ◌++◌, take}
 use Rattle.lucid_parse_tree.specs.declared.tree.Decl.{Decl}
-use Rattle.lucid_types_rules.specs.Declaration.{Definitions, start}
-use Rattle.lucid_types_rules.specs.Found.{found}
-use Rattle.lucid_types_function.specs.Declaration.{declaration}
+use Rattle.lucid_types_spec.specs.Declaration.{Definitions, start}
+use Rattle.lucid_types_spec.specs.Found.{found}
+use Rattle.lucid_types_laws.specs.Declaration.{declaration}
 
 -- Whatever follows the first `count` declarations, it follows what they made.
 abbrev pub SoFar : List Decl → ℕ → Definitions → Type 0

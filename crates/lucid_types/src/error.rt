@@ -1,6 +1,6 @@
 // Why a tree has no core.
 use lucid_base::Memory as WantOfMemory;
-use lucid_types_rules::What;
+use lucid_types_spec::What;
 
 /// Why a tree has no core. Declarations are counted from 1, and so are lines; a declaration's line is that of its first token.
 #[derive(Clone, Copy, Debug, PartialEq, Eq)]

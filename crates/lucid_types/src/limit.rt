@@ -8,9 +8,9 @@ use crate::depth::{MOST, stand_within};
 use lucid_base::Memory;
 use lucid_parse_tree::DeclKind;
 use lucid_types_declarations::Known;
-use lucid_types_function::declarations_are_computed;
+use lucid_types_laws::declarations_are_computed;
 use lucid_types_limits::{Limits, only_the_new_counts};
-use lucid_types_rules::What;
+use lucid_types_spec::What;
 
 /// What this declaration passes, which made what is known the last. Where it passes none, Memory is told of blocks of it that stand too deep in one
 /// another; what asks the limits takes no more stack for them.

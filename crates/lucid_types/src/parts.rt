@@ -1,7 +1,7 @@
 // The core of what was made.
 ghost use Rattle.std.specs.Prelude.{◌≡◌};
 ghost use Rattle.lucid_core.specs.Valid.{IsValid};
-ghost use Rattle.lucid_types_rules.specs.Declaration.{parts_of};
+ghost use Rattle.lucid_types_spec.specs.Declaration.{parts_of};
 ghost use Rattle.lucid_types_declarations.specs.Known.{made_of};
 
 use lucid_core::Core;

@@ -1,9 +1,9 @@
 // From a tree to its core.
 ghost use Rattle.std.specs.Prelude.{IfErr, IfOk};
 ghost use Rattle.lucid_parse_tree.specs.declared.tree.Tree.{Tree as Program};
-ghost use Rattle.lucid_types_rules.specs.Declaration.{parts_of};
-ghost use Rattle.lucid_types_rules.specs.Found.{IsDetermined};
-ghost use Rattle.lucid_types_rules.specs.Makes.{IsTyped};
+ghost use Rattle.lucid_types_spec.specs.Declaration.{parts_of};
+ghost use Rattle.lucid_types_spec.specs.Found.{IsDetermined};
+ghost use Rattle.lucid_types_spec.specs.Makes.{IsTyped};
 ghost use Rattle.lucid_types_declarations.specs.Known.{made_of};
 ghost use Rattle.lucid_types_limits.specs.NewPart.{Knows};
 ghost use Rattle.lucid_types.specs.Answers.{Adds, Tells};
@@ -13,17 +13,18 @@ use crate::limit::passed;
 use crate::parts::core_of;
 use lucid_core::Core;
 use lucid_parse_tree::{Decl, Tree};
+use lucid_seed::Seeded;
 use lucid_types_declarations::{Known, declare};
 use lucid_types_expressions::Fault;
-use lucid_types_function::declarations_are_computed;
+use lucid_types_laws::{declarations_are_computed, typed_programs_are_valid};
 use lucid_types_limits::Limits;
-use lucid_types_rules::the_first_refusal_is_found;
 use lucid_types_scope::next;
-use lucid_types_valid::typed_programs_are_valid;
+use lucid_types_spec::the_first_refusal_is_found;
 use std::alloc::Global;
 
 /// The core of the tree, where the rules derive one; else the first declaration that is refused, and why. A tree has one of the two.
-pub fn elaborate(alloc: Global, tree: &Tree) -> Result<Core, TypeError>
+/// The answer is the same whatever the seed of the tables, which is the text of the tree.
+pub fn elaborate(alloc: Global, seeded: Seeded, tree: &Tree) -> Result<Core, TypeError>
     ensures typed { IfOk result (λ core. IsTyped tree.now core) }
     ensures refused { IfErr result (Tells tree.now) }
     ensures one { IsDetermined tree.now }
@@ -31,7 +32,7 @@ pub fn elaborate(alloc: Global, tree: &Tree) -> Result<Core, TypeError>
     declarations_are_computed();
     the_first_refusal_is_found();
     typed_programs_are_valid();
-    let mut known = Known::new(alloc);
+    let mut known = Known::new(alloc, seeded);
     let mut limits = Limits::new(alloc);
     let mut number = 0u32;
     for x in tree.decls.as_slice() {

@@ -4,15 +4,15 @@ use Rattle.lucid_base.specs.declared.array.ArrayName.TheVariants as array_name
 use Rattle.lucid_core.specs.Typing.{◌>>=◌}
 use Rattle.lucid_parse_tree.specs.declared.tree.P.{P}
 use Rattle.lucid_parse_tree.specs.declared.tree.P.TheVariants as p
-use Rattle.lucid_types_rules.specs.declared.scope.Entry.TheVariants as entry
-use Rattle.lucid_types_rules.specs.declared.scope.Param.{Param}
-use Rattle.lucid_types_rules.specs.declared.scope.Param.TheVariants as param
-use Rattle.lucid_types_rules.specs.declared.scope.ValueType.{ValueType}
-use Rattle.lucid_types_rules.specs.Names.{Names, called}
-use Rattle.lucid_types_function.specs.Declaration.{parameters}
-use Rattle.lucid_types_function.specs.Partial.{given, when}
-use Rattle.lucid_types_function.specs.Reading.{is_width}
-use Rattle.lucid_types_function.specs.Statement.{type_of}
+use Rattle.lucid_types_spec.specs.declared.scope.Entry.TheVariants as entry
+use Rattle.lucid_types_spec.specs.declared.scope.Param.{Param}
+use Rattle.lucid_types_spec.specs.declared.scope.Param.TheVariants as param
+use Rattle.lucid_types_spec.specs.declared.scope.ValueType.{ValueType}
+use Rattle.lucid_types_spec.specs.Names.{Names, called}
+use Rattle.lucid_types_laws.specs.Declaration.{parameters}
+use Rattle.lucid_types_laws.specs.Partial.{given, when}
+use Rattle.lucid_types_laws.specs.Reading.{is_width}
+use Rattle.lucid_types_laws.specs.Statement.{type_of}
 use Rattle.lucid_types_statements.proofs.Kept.{keeps_same, keeps_more}
 use Rattle.lucid_types_declarations.specs.declared.parameters.Entered.{Entered}
 use Rattle.lucid_types_declarations.specs.Parameters.{one_more, with_params}

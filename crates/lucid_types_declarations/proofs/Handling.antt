@@ -3,12 +3,12 @@ use Rattle.std.proofs.Common.{◌≡◌, ℕ, List, Option, None, Some, Bool, tr
 use Rattle.lucid_core.specs.Typing.{◌>>=◌, same}
 use Rattle.lucid_parse_tree.specs.declared.tree.P.{P}
 use Rattle.lucid_parse_tree.specs.declared.tree.S.{S}
-use Rattle.lucid_types_rules.specs.Declaration.{Definitions}
-use Rattle.lucid_types_rules.specs.Names.{seen}
-use Rattle.lucid_types_function.specs.Declaration.{event_at, handle, int_params, parameters}
-use Rattle.lucid_types_function.specs.Partial.{when}
-use Rattle.lucid_types_function.specs.Sending.{is_none}
-use Rattle.lucid_types_function.specs.Statement.{body_of}
+use Rattle.lucid_types_spec.specs.Declaration.{Definitions}
+use Rattle.lucid_types_spec.specs.Names.{seen}
+use Rattle.lucid_types_laws.specs.Declaration.{event_at, handle, int_params, parameters}
+use Rattle.lucid_types_laws.specs.Partial.{when}
+use Rattle.lucid_types_laws.specs.Sending.{is_none}
+use Rattle.lucid_types_laws.specs.Statement.{body_of}
 use Rattle.lucid_types_declarations.specs.Events.{handle_event}
 
 under : {A B : Type 0} (o : Option A) (f g : A → Option B) → ((a : A) → f a ≡ g a) → (o >>= f) ≡ (o >>= g)

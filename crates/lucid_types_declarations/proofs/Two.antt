@@ -1,7 +1,7 @@
 -- Two names more.
 use Rattle.std.proofs.Common.{◌≡◌, ◌-◌, ◌∷◌, drop, length, ℕ, ap, arith}
-use Rattle.lucid_types_rules.specs.declared.scope.Named.{Named}
-use Rattle.lucid_types_rules.specs.Names.{Names}
+use Rattle.lucid_types_spec.specs.declared.scope.Named.{Named}
+use Rattle.lucid_types_spec.specs.Names.{Names}
 use Rattle.lucid_types_statements.specs.Kept.{Keeps}
 
 pub keeps_two : (s : Names) (d e : Named) → Keeps s (e ∷ d ∷ s)

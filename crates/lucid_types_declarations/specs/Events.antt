@@ -5,14 +5,14 @@ use Rattle.lucid_core.specs.declared.defs.EventDef.{EventDef}
 use Rattle.lucid_core.specs.Typing.{◌>>=◌, same}
 use Rattle.lucid_parse_tree.specs.declared.tree.P.{P}
 use Rattle.lucid_parse_tree.specs.declared.tree.S.{S}
-use Rattle.lucid_types_rules.specs.declared.body.Body.{Body}
-use Rattle.lucid_types_rules.specs.Block.{Numbered}
-use Rattle.lucid_types_rules.specs.Declaration.{Definitions}
-use Rattle.lucid_types_rules.specs.Names.{Names}
-use Rattle.lucid_types_function.specs.Declaration.{int_params, parameters}
-use Rattle.lucid_types_function.specs.Partial.{when}
-use Rattle.lucid_types_function.specs.Sending.{is_none}
-use Rattle.lucid_types_function.specs.Statement.{body_of}
+use Rattle.lucid_types_spec.specs.declared.body.Body.{Body}
+use Rattle.lucid_types_spec.specs.Block.{Numbered}
+use Rattle.lucid_types_spec.specs.Declaration.{Definitions}
+use Rattle.lucid_types_spec.specs.Names.{Names}
+use Rattle.lucid_types_laws.specs.Declaration.{int_params, parameters}
+use Rattle.lucid_types_laws.specs.Partial.{when}
+use Rattle.lucid_types_laws.specs.Sending.{is_none}
+use Rattle.lucid_types_laws.specs.Statement.{body_of}
 use Rattle.lucid_types_expressions.specs.declared.fault.Fault.{Fault}
 use Rattle.lucid_types_expressions.specs.Gives.{Fails}
 use Rattle.lucid_types_scope.specs.Numbered.{numbered_of}

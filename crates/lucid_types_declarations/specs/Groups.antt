@@ -1,7 +1,7 @@
 -- The members of a group.
 use Rattle.std.specs.Prelude.{ℕ, List, Option, nat_lt}
 use Rattle.std.specs.List.{list_all}
-use Rattle.lucid_types_function.specs.Partial.{given}
+use Rattle.lucid_types_laws.specs.Partial.{given}
 
 -- These numbers, where each is below 64.
 abbrev pub small_ones : List ℕ → Option (List ℕ)

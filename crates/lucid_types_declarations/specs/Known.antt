@@ -1,6 +1,6 @@
 -- What is known while declarations are typed, as the rules have it.
 use Rattle.std.specs.Prelude.{◌≡◌, Option, Some, Result, Ok, Err}
-use Rattle.lucid_types_rules.specs.Declaration.{Definitions}
+use Rattle.lucid_types_spec.specs.Declaration.{Definitions}
 use Rattle.lucid_types_expressions.specs.declared.fault.Fault.{Fault}
 use Rattle.lucid_types_expressions.specs.Gives.{Fails}
 use Rattle.lucid_types_declarations.specs.declared.known.Known.{Known}

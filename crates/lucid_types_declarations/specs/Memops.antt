@@ -4,8 +4,8 @@ use Rattle.lucid_core.specs.declared.body.Stmt.{Stmt}
 use Rattle.lucid_parse_tree.specs.declared.tree.C.{C, out-C}
 use Rattle.lucid_parse_tree.specs.declared.tree.No.{No, out-No}
 use Rattle.lucid_parse_tree.specs.declared.tree.S.{S}
-use Rattle.lucid_types_rules.specs.Names.{Names}
-use Rattle.lucid_types_function.specs.Memop.{choice_form, second_form}
+use Rattle.lucid_types_spec.specs.Names.{Names}
+use Rattle.lucid_types_laws.specs.Memop.{choice_form, second_form}
 
 -- An if, and what stands behind it.
 abbrev pub chosen : ℕ → Names → C → List S → Option (List Stmt)

@@ -1,6 +1,6 @@
 // Arrays.
 ghost use Rattle.std.specs.Prelude.{◌≡◌};
-ghost use Rattle.lucid_types_function.specs.Declaration.{global, size_of};
+ghost use Rattle.lucid_types_laws.specs.Declaration.{global, size_of};
 ghost use Rattle.lucid_types_declarations.specs.Known.{Declares, made_of};
 
 use crate::Known;
@@ -8,8 +8,8 @@ use crate::known::enter;
 use lucid_base::{ArrayDef, ArrayName, Id, Width};
 use lucid_parse_tree::Size;
 use lucid_types_expressions::Fault;
-use lucid_types_rules::Entry;
 use lucid_types_scope::{Scope, number};
+use lucid_types_spec::Entry;
 use std::alloc::Global;
 
 /// NoRule where the width is none, or the size is none: 1 to 65,536, or a constant's number.

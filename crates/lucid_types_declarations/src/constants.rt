@@ -1,6 +1,6 @@
 // Constants.
 ghost use Rattle.std.specs.Prelude.{◌≡◌};
-ghost use Rattle.lucid_types_function.specs.Declaration.{constant, int_of};
+ghost use Rattle.lucid_types_laws.specs.Declaration.{constant, int_of};
 ghost use Rattle.lucid_types_declarations.specs.Known.{Declares, made_of};
 
 use crate::Known;
@@ -8,7 +8,7 @@ use crate::known::enter;
 use lucid_base::{Bits, Id, Width};
 use lucid_parse_tree::Ty;
 use lucid_types_expressions::Fault;
-use lucid_types_rules::{Entry, ValueType};
+use lucid_types_spec::{Entry, ValueType};
 use lucid_types_statements::type_of;
 use std::alloc::Global;
 

@@ -1,5 +1,5 @@
 // Declarations.
-ghost use Rattle.lucid_types_function.specs.Declaration.{declaration};
+ghost use Rattle.lucid_types_laws.specs.Declaration.{declaration};
 ghost use Rattle.lucid_types_declarations.specs.Known.{Declares, made_of};
 
 use crate::Known;

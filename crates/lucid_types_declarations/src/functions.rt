@@ -1,7 +1,7 @@
 // Functions.
 ghost use Rattle.std.specs.Prelude.{◌≡◌, OnOk};
-ghost use Rattle.lucid_types_rules.specs.Types.{answer_width};
-ghost use Rattle.lucid_types_function.specs.Declaration.{answer_of, ends_well, fun};
+ghost use Rattle.lucid_types_spec.specs.Types.{answer_width};
+ghost use Rattle.lucid_types_laws.specs.Declaration.{answer_of, ends_well, fun};
 ghost use Rattle.lucid_types_expressions.specs.Gives.{Gives};
 ghost use Rattle.lucid_types_declarations.specs.Functions.{with_fun};
 ghost use Rattle.lucid_types_declarations.specs.Known.{Declares, made_of};
@@ -13,8 +13,8 @@ use lucid_base::{Id, Items, Memory, Width};
 use lucid_core::{Ending, FunDef};
 use lucid_parse_tree::{P, S, Ty};
 use lucid_types_expressions::Fault;
-use lucid_types_rules::{Body, Entry, Param, ValueType};
 use lucid_types_scope::number;
+use lucid_types_spec::{Body, Entry, Param, ValueType};
 use lucid_types_statements::{block, type_of, width_of};
 use std::alloc::Global;
 use std::mem;

@@ -1,6 +1,6 @@
 // Groups of switches.
 ghost use Rattle.std.specs.Prelude.{◌≡◌};
-ghost use Rattle.lucid_types_function.specs.Declaration.{group};
+ghost use Rattle.lucid_types_laws.specs.Declaration.{group};
 ghost use Rattle.lucid_types_expressions.specs.Gives.{Gives};
 ghost use Rattle.lucid_types_declarations.specs.Groups.{small_ones};
 ghost use Rattle.lucid_types_declarations.specs.Known.{Declares, made_of};
@@ -9,8 +9,8 @@ use crate::Known;
 use crate::known::enter;
 use lucid_base::{Id, Items};
 use lucid_types_expressions::Fault;
-use lucid_types_rules::Entry;
 use lucid_types_scope::are_distinct;
+use lucid_types_spec::Entry;
 use std::alloc::Global;
 
 /// NoRule where there are more than 8 members or none, one twice, or one above 63.

@@ -1,13 +1,14 @@
 // What is known while declarations are typed.
 ghost use Rattle.std.specs.Prelude.{◌≡◌, ◌∷◌, OnOk};
-ghost use Rattle.lucid_types_rules.specs.Declaration.{start};
-ghost use Rattle.lucid_types_rules.specs.Names.{called};
+ghost use Rattle.lucid_types_spec.specs.Declaration.{start};
+ghost use Rattle.lucid_types_spec.specs.Names.{called};
 ghost use Rattle.lucid_types_declarations.specs.Known.{made_of};
 
 use lucid_base::{ArrayDef, Id, Items, Memory};
 use lucid_core::{EventDef, FunDef, HandlerDef, MemopDef};
-use lucid_types_rules::{Entry, Named};
+use lucid_seed::Seeded;
 use lucid_types_scope::{Numbering, Scope, Texts};
+use lucid_types_spec::{Entry, Named};
 use std::alloc::Global;
 
 /// The names in scope, what is numbered, and the parts of the core so far. The numbered locals are those of the last body.
@@ -23,15 +24,15 @@ pub struct Known {
 }
 
 impl Known {
-    /// Before the first declaration.
-    pub fn new(alloc: Global) -> Known
+    /// Before the first declaration of a program whose text is the seed.
+    pub fn new(alloc: Global, seeded: Seeded) -> Known
         ensures { made_of result ≡ start }
     {
         Known {
-            scope: Scope::new(alloc),
+            scope: Scope::new(alloc, seeded),
             numbering: Numbering {
                 locals: Items::new(alloc),
-                forms: Texts::new(alloc),
+                forms: Texts::new(alloc, seeded),
             },
             arrays: Vec::new(alloc),
             memops: Vec::new(alloc),

@@ -1,9 +1,9 @@
 // Memops.
 ghost use Rattle.std.specs.Prelude.{◌≡◌, OnOk};
-ghost use Rattle.lucid_types_rules.specs.Memop.{memop_names};
-ghost use Rattle.lucid_types_function.specs.Declaration.{memop};
-ghost use Rattle.lucid_types_function.specs.Memop.{memop_body, one_return};
-ghost use Rattle.lucid_types_function.specs.Reading.{reading};
+ghost use Rattle.lucid_types_spec.specs.Memop.{memop_names};
+ghost use Rattle.lucid_types_laws.specs.Declaration.{memop};
+ghost use Rattle.lucid_types_laws.specs.Memop.{memop_body, one_return};
+ghost use Rattle.lucid_types_laws.specs.Reading.{reading};
 ghost use Rattle.lucid_types_expressions.specs.Gives.{Gives};
 ghost use Rattle.lucid_types_declarations.specs.Known.{Declares, made_of};
 ghost use Rattle.lucid_types_declarations.specs.Memops.{chosen, second};
@@ -16,8 +16,8 @@ use lucid_core::{Expr, MemopDef, Stmt};
 use lucid_memop::shape;
 use lucid_parse_tree::{C, E, No, S, Ty};
 use lucid_types_expressions::{Fault, comparison, expression};
-use lucid_types_rules::{Entry, ValueType};
 use lucid_types_scope::Scope;
+use lucid_types_spec::{Entry, ValueType};
 use std::alloc::Global;
 
 /// NoRule where its parameters are no ints of one width, or its body doesn't have the shape of a memop.

@@ -1,9 +1,9 @@
 // Parameters.
 ghost use Rattle.std.specs.Prelude.{◌≡◌, ◌∷◌, IfOk, OnOk};
-ghost use Rattle.lucid_types_rules.specs.declared.scope.Entry.TheVariants as entry;
-ghost use Rattle.lucid_types_rules.specs.Names.{called};
-ghost use Rattle.lucid_types_rules.specs.Types.{cell_widths, value_widths};
-ghost use Rattle.lucid_types_function.specs.Declaration.{int_params, parameters};
+ghost use Rattle.lucid_types_spec.specs.declared.scope.Entry.TheVariants as entry;
+ghost use Rattle.lucid_types_spec.specs.Names.{called};
+ghost use Rattle.lucid_types_spec.specs.Types.{cell_widths, value_widths};
+ghost use Rattle.lucid_types_laws.specs.Declaration.{int_params, parameters};
 ghost use Rattle.lucid_types_expressions.specs.Gives.{Gives};
 ghost use Rattle.lucid_types_statements.specs.Kept.{Keeps};
 ghost use Rattle.lucid_types_declarations.specs.Parameters.{Enters, EntersOne, one_more};
@@ -12,8 +12,8 @@ use crate::known::enter;
 use lucid_base::{ArrayName, Id, Items, Memory, Width};
 use lucid_parse_tree::P;
 use lucid_types_expressions::Fault;
-use lucid_types_rules::{Entry, Param, ValueType};
 use lucid_types_scope::{Scope, next};
+use lucid_types_spec::{Entry, Param, ValueType};
 use lucid_types_statements::{type_of, width_of};
 use std::alloc::Global;
 

@@ -4,11 +4,11 @@ use Rattle.std.proofs.Math.ListN.{drop_of_length-le}
 use Rattle.std.proofs.Math.Nat.{eq-or-lt_of_le}
 use Rattle.std.proofs.lemmas.List.{length-drop}
 use Rattle.lucid_parse_tree.specs.declared.tree.E.{E}
-use Rattle.lucid_types_rules.specs.declared.scope.Param.{Param}
-use Rattle.lucid_types_rules.specs.declared.scope.Param.TheVariants as param
-use Rattle.lucid_types_rules.specs.Names.{Names}
-use Rattle.lucid_types_function.specs.declared.arguments.Arguments.{Arguments}
-use Rattle.lucid_types_function.specs.Reading.{given_all, reading}
+use Rattle.lucid_types_spec.specs.declared.scope.Param.{Param}
+use Rattle.lucid_types_spec.specs.declared.scope.Param.TheVariants as param
+use Rattle.lucid_types_spec.specs.Names.{Names}
+use Rattle.lucid_types_laws.specs.declared.arguments.Arguments.{Arguments}
+use Rattle.lucid_types_laws.specs.Reading.{given_all, reading}
 use Rattle.lucid_types_expressions.specs.Forms.{behind}
 
 none_more : (ps : List Param) (s : Names) → 0 < length ps → given_all ps [] s ≡ None

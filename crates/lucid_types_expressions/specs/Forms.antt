@@ -6,13 +6,13 @@ use Rattle.lucid_base.specs.declared.ops.UnOp.TheVariants.{Shl, Shr}
 use Rattle.lucid_core.specs.declared.body.Expr.{Expr}
 use Rattle.lucid_core.specs.declared.body.Expr.TheVariants as core
 use Rattle.lucid_core.specs.Typing.{◌>>=◌}
-use Rattle.lucid_types_rules.specs.declared.scope.ValueType.{ValueType}
-use Rattle.lucid_types_rules.specs.declared.scope.ValueType.TheVariants.{Int}
-use Rattle.lucid_types_rules.specs.declared.scope.ValueType.TheVariants as vt
-use Rattle.lucid_types_rules.specs.Names.{Names, seen}
-use Rattle.lucid_types_function.specs.declared.arguments.Arguments.{Arguments}
-use Rattle.lucid_types_function.specs.Partial.{given}
-use Rattle.lucid_types_function.specs.Reading.{Elaboration, CallElaboration, Touching, array_at, at_bool, at_int, called, get_at, getm_at, same_type, set_at, setm_at, touch_value, unary, update_at, value_of}
+use Rattle.lucid_types_spec.specs.declared.scope.ValueType.{ValueType}
+use Rattle.lucid_types_spec.specs.declared.scope.ValueType.TheVariants.{Int}
+use Rattle.lucid_types_spec.specs.declared.scope.ValueType.TheVariants as vt
+use Rattle.lucid_types_spec.specs.Names.{Names, seen}
+use Rattle.lucid_types_laws.specs.declared.arguments.Arguments.{Arguments}
+use Rattle.lucid_types_laws.specs.Partial.{given}
+use Rattle.lucid_types_laws.specs.Reading.{Elaboration, CallElaboration, Touching, array_at, at_bool, at_int, called, get_at, getm_at, same_type, set_at, setm_at, touch_value, unary, update_at, value_of}
 
 abbrev pub is_int : ValueType → Bool
 is_int (Int w) = true

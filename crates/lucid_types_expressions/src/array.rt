@@ -1,7 +1,7 @@
 // Arrays and their calls.
 ghost use Rattle.std.specs.Prelude.{◌≡◌};
-ghost use Rattle.lucid_types_rules.specs.Typed.{returning, touching, zero_of};
-ghost use Rattle.lucid_types_function.specs.Reading.{named_array, reading};
+ghost use Rattle.lucid_types_spec.specs.Typed.{returning, touching, zero_of};
+ghost use Rattle.lucid_types_laws.specs.Reading.{named_array, reading};
 ghost use Rattle.lucid_types_expressions.specs.Gives.{Gives};
 
 use crate::Fault;

@@ -1,8 +1,8 @@
 // Expressions: each function gives what the typing function gives of its form.
 ghost use Rattle.std.specs.Prelude.{◌≡◌, map};
-ghost use Rattle.lucid_types_rules.specs.Operators.{arithmetic, comparison, logic};
-ghost use Rattle.lucid_types_rules.specs.Types.{stated};
-ghost use Rattle.lucid_types_function.specs.Reading.{all_free, called, cast_core, core_of, free, given_all, hash_core, infix_core, prefix_core, reading, reading_call, touch_of};
+ghost use Rattle.lucid_types_spec.specs.Operators.{arithmetic, comparison, logic};
+ghost use Rattle.lucid_types_spec.specs.Types.{stated};
+ghost use Rattle.lucid_types_laws.specs.Reading.{all_free, called, cast_core, core_of, free, given_all, hash_core, infix_core, prefix_core, reading, reading_call, touch_of};
 ghost use Rattle.lucid_types_expressions.specs.Forms.{called_value, get_of, getm_of, set_of, setm_of, shift_core, touched_value, update_of};
 ghost use Rattle.lucid_types_expressions.specs.Gives.{Gives};
 
@@ -13,9 +13,9 @@ use crate::{Fault, names, node};
 use lucid_base::{Boxed, Id, Items, MemArg, UnOp, Width};
 use lucid_core::{Expr, Touch};
 use lucid_parse_tree::{A, E, Infix, Pre};
-use lucid_types_function::Arguments;
-use lucid_types_rules::{Entry, Param, ValueType};
+use lucid_types_laws::Arguments;
 use lucid_types_scope::Scope;
+use lucid_types_spec::{Entry, Param, ValueType};
 use std::alloc::Global;
 
 /// The core of the expression at a place that asks for this type. NoRule where it has none.

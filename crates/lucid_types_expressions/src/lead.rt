@@ -1,8 +1,8 @@
 // The first leaf of an expression that is no number, from the left.
 ghost use Rattle.std.specs.Prelude.{◌≡◌};
 ghost use Rattle.std.specs.Option.{option_copied};
-ghost use Rattle.lucid_types_function.specs.Lead.{or_32};
-ghost use Rattle.lucid_types_function.specs.Reading.{reading, reading_call, shared_width};
+ghost use Rattle.lucid_types_laws.specs.Lead.{or_32};
+ghost use Rattle.lucid_types_laws.specs.Reading.{reading, reading_call, shared_width};
 
 use crate::names::{array_width, named_width};
 use crate::operator::{arithmetic, stated};

@@ -1,14 +1,14 @@
 // What names stand for.
 ghost use Rattle.std.specs.Prelude.{◌≡◌};
-ghost use Rattle.lucid_types_rules.specs.Names.{seen};
-ghost use Rattle.lucid_types_function.specs.Lead.{array_lead, int_width, named_lead};
-ghost use Rattle.lucid_types_function.specs.Reading.{array_at, memop_at};
+ghost use Rattle.lucid_types_spec.specs.Names.{seen};
+ghost use Rattle.lucid_types_laws.specs.Lead.{array_lead, int_width, named_lead};
+ghost use Rattle.lucid_types_laws.specs.Reading.{array_at, memop_at};
 ghost use Rattle.lucid_types_expressions.specs.Gives.{Gives};
 
 use crate::Fault;
 use lucid_base::{ArrayName, Id, MemAlu, Width};
-use lucid_types_rules::{Entry, ValueType};
 use lucid_types_scope::Scope;
+use lucid_types_spec::{Entry, ValueType};
 
 fn int_width(t: ValueType) -> Option<u64>
     ensures { result ≡ int_width t }

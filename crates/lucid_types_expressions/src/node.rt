@@ -1,7 +1,7 @@
 // The last step of each form: what is tested once its parts have cores, and the node. They stand outside the cycle of expressions.
 ghost use Rattle.std.specs.Prelude.{◌≡◌, Some};
-ghost use Rattle.lucid_types_rules.specs.Names.{seen};
-ghost use Rattle.lucid_types_function.specs.Reading.{cast_core, hash_of, name_core, number_core, touch_value, value_of};
+ghost use Rattle.lucid_types_spec.specs.Names.{seen};
+ghost use Rattle.lucid_types_laws.specs.Reading.{cast_core, hash_of, name_core, number_core, touch_value, value_of};
 ghost use Rattle.lucid_types_expressions.specs.Forms.{truth_core, word_core};
 ghost use Rattle.lucid_types_expressions.specs.Gives.{Gives};
 
@@ -9,8 +9,8 @@ use crate::Fault;
 use crate::operator::same_type;
 use lucid_base::{Bits, Boxed, Id, Items, Width};
 use lucid_core::{Expr, Touch};
-use lucid_types_rules::{Entry, ValueType};
 use lucid_types_scope::Scope;
+use lucid_types_spec::{Entry, ValueType};
 use std::alloc::Global;
 
 /// A number, which fits the width that is asked for.

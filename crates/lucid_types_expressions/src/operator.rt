@@ -1,13 +1,13 @@
 // Types, stated widths, and what the signs between two operands are.
 ghost use Rattle.std.specs.Prelude.{◌≡◌};
-ghost use Rattle.lucid_types_rules.specs.Operators.{arithmetic, comparison, logic};
-ghost use Rattle.lucid_types_rules.specs.Types.{stated};
-ghost use Rattle.lucid_types_function.specs.Reading.{same_type};
+ghost use Rattle.lucid_types_spec.specs.Operators.{arithmetic, comparison, logic};
+ghost use Rattle.lucid_types_spec.specs.Types.{stated};
+ghost use Rattle.lucid_types_laws.specs.Reading.{same_type};
 ghost use Rattle.lucid_types_expressions.specs.Forms.{is_int};
 
 use lucid_base::{BinOp, CmpOp};
 use lucid_parse_tree::Infix;
-use lucid_types_rules::ValueType;
+use lucid_types_spec::ValueType;
 
 /// Whether the types are one.
 pub fn same_type(t: ValueType, u: ValueType) -> bool

@@ -13,7 +13,7 @@ use Rattle.lucid_parse_tree.specs.declared.tree.No.TheVariants as no
 use Rattle.lucid_parse_tree.specs.declared.tree.No.TheViews.{roll-out-C}
 use Rattle.lucid_parse_tree.specs.declared.tree.S.{S, fold-roll-S, map-S}
 use Rattle.lucid_parse_tree.specs.declared.tree.S.TheVariants as s
-use Rattle.lucid_types_rules.specs.Limits.{cases_are_few, cases_of_choice, cases_of_no, cases_of_statement}
+use Rattle.lucid_types_spec.specs.Limits.{cases_are_few, cases_of_choice, cases_of_no, cases_of_statement}
 use Rattle.lucid_types_limits.specs.Cases.{few_in_choice, few_in_no}
 
 all : (ss : List S) → all_hold (map cases_are_few ss) ≡ list_all cases_are_few ss

@@ -16,14 +16,14 @@ use Rattle.lucid_core.specs.Few.{arguments_are_few}
 use Rattle.lucid_parse_tree.specs.declared.tree.Decl.{Decl}
 use Rattle.lucid_parse_tree.specs.declared.tree.DeclKind.{DeclKind}
 use Rattle.lucid_parse_tree.specs.declared.tree.Tree.{Tree}
-use Rattle.lucid_types_rules.specs.declared.limit.What.{What}
-use Rattle.lucid_types_rules.specs.declared.limit.What.TheVariants as what
-use Rattle.lucid_types_rules.specs.Declaration.{Definitions, parts_of}
-use Rattle.lucid_types_rules.specs.Limits.{body_of, cases_are_few, first_passed, limits, passed}
-use Rattle.lucid_types_rules.specs.Makes.{IsTyped, Makes}
-use Rattle.lucid_types_rules.specs.Makes as made
-use Rattle.lucid_types_valid.proofs.Lists.{map-set}
-use Rattle.lucid_types_valid.proofs.Programs.{typed_is_valid}
+use Rattle.lucid_types_spec.specs.declared.limit.What.{What}
+use Rattle.lucid_types_spec.specs.declared.limit.What.TheVariants as what
+use Rattle.lucid_types_spec.specs.Declaration.{Definitions, parts_of}
+use Rattle.lucid_types_spec.specs.Limits.{body_of, cases_are_few, first_passed, limits, passed}
+use Rattle.lucid_types_spec.specs.Makes.{IsTyped, Makes}
+use Rattle.lucid_types_spec.specs.Makes as made
+use Rattle.lucid_types_laws.proofs.Lists.{map-set}
+use Rattle.lucid_types_laws.proofs.Programs.{typed_is_valid}
 use Rattle.lucid_types_limits.specs.Laws.{NewAlone, OnlyTheNew}
 use Rattle.lucid_types_limits.specs.NewPart.{array_passes, event_passes, fun_passes, handler_passes}
 use Rattle.lucid_types_limits.proofs.Passing.{funs_outs-last}

@@ -8,8 +8,8 @@ use Rattle.lucid_core.specs.OutCount.{funs_outs}
 use Rattle.lucid_core.specs.Parts.{CoreParts}
 use Rattle.lucid_parse_tree.specs.declared.tree.DeclKind.{DeclKind}
 use Rattle.lucid_parse_tree.specs.declared.tree.Tree.{Tree}
-use Rattle.lucid_types_rules.specs.Limits.{body_of, passed}
-use Rattle.lucid_types_rules.specs.Makes.{IsTyped}
+use Rattle.lucid_types_spec.specs.Limits.{body_of, passed}
+use Rattle.lucid_types_spec.specs.Makes.{IsTyped}
 use Rattle.lucid_types_limits.specs.NewPart.{array_passes, event_passes, fun_passes, handler_passes}
 
 -- The limit that any declaration passes which makes this behind what was made before. Memops and texts have no limit.

@@ -8,9 +8,9 @@ use Rattle.lucid_core.specs.declared.defs.HandlerDef.{HandlerDef}
 use Rattle.lucid_core.specs.OutCount.{body_outs, funs_outs}
 use Rattle.lucid_core.specs.Few.{arguments_are_few}
 use Rattle.lucid_parse_tree.specs.declared.tree.S.{S}
-use Rattle.lucid_types_rules.specs.declared.limit.What.{What}
-use Rattle.lucid_types_rules.specs.declared.limit.What.TheVariants as what
-use Rattle.lucid_types_rules.specs.Limits.{cases_are_few, first_passed}
+use Rattle.lucid_types_spec.specs.declared.limit.What.{What}
+use Rattle.lucid_types_spec.specs.declared.limit.What.TheVariants as what
+use Rattle.lucid_types_spec.specs.Limits.{cases_are_few, first_passed}
 use Rattle.lucid_types_limits.specs.declared.limits.Limits.{Limits}
 use Rattle.lucid_types_limits.specs.declared.tally.Tally.{Tally}
 

@@ -1,7 +1,7 @@
 // The cases of matches.
 ghost use Rattle.std.specs.Prelude.{◌≡◌};
 ghost use Rattle.std.specs.List.{list_all};
-ghost use Rattle.lucid_types_rules.specs.Limits.{cases_are_few as few_in};
+ghost use Rattle.lucid_types_spec.specs.Limits.{cases_are_few as few_in};
 ghost use Rattle.lucid_types_limits.specs.Cases.{few_in_choice, few_in_no};
 
 use lucid_base::Items;

@@ -1,7 +1,7 @@
 // The limits that a declaration can pass.
 ghost use Rattle.std.specs.Prelude.{◌≡◌, ◌∷◌, ◌++◌, IfOk, List, []};
 ghost use Rattle.lucid_core.specs.declared.defs.FunDef.{FunDef as Fun};
-ghost use Rattle.lucid_types_rules.specs.Limits.{first_passed};
+ghost use Rattle.lucid_types_spec.specs.Limits.{first_passed};
 ghost use Rattle.lucid_types_limits.specs.NewPart.{Knows, array_passes, event_passes, fun_passes, handler_passes, tally_limits};
 
 use crate::body::stmts;
@@ -10,7 +10,7 @@ use crate::tally::Tally;
 use lucid_base::Memory;
 use lucid_core::{EventDef, FunDef, HandlerDef};
 use lucid_parse_tree::S;
-use lucid_types_rules::What;
+use lucid_types_spec::What;
 use std::alloc::Global;
 
 /// What is carried from declaration to declaration while no limit is passed: the greatest number of outs on a path of each function so far.

@@ -4,7 +4,7 @@ use Rattle.std.proofs.lemmas.Grind.{common_steps, reverse_onto}
 use Rattle.std.proofs.lemmas.List.{reverse-append, reverse-reverse, drop-drop, length-drop, length-reverse}
 use Rattle.std.proofs.lemmas.Slice.Eq.{bytes_eq-Decides}
 use Rattle.std.specs.HashMap.{HashMap}
-use Rattle.lucid_types_rules.specs.Names.{Names, seen}
+use Rattle.lucid_types_spec.specs.Names.{Names, seen}
 use Rattle.lucid_types_scope.specs.Places.{place, names_of, newest_of, IsLinked, IsIndexed}
 use Rattle.lucid_types_scope.specs.declared.scope.Kept.{Kept}
 

@@ -2,7 +2,7 @@
 use Rattle.std.specs.Prelude.{◌≡◌, ℕ, List, [], ◌∷◌, Option, None, Some, bytes_eq, if◌then◌else◌, length, map, reverse}
 use Rattle.std.specs.HashMap.{HashMap, get}
 use Rattle.std.specs.Option.{unwrap_or}
-use Rattle.lucid_types_rules.specs.Names.{Names}
+use Rattle.lucid_types_spec.specs.Names.{Names}
 use Rattle.lucid_types_scope.specs.declared.scope.Kept.{Kept}
 
 -- The names as the rules see them.

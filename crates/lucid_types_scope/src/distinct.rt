@@ -3,16 +3,26 @@ ghost use Rattle.std.specs.Prelude.{◌≡◌, IfOk};
 ghost use Rattle.lucid_core.specs.Numbers.{are_distinct};
 
 use lucid_base::Memory;
+use lucid_seed::{Seed, Seeded};
 use std::alloc::Global;
 use std::collections::HashSet;
 
-/// Whether no number stands twice. The work is in proportion to the numbers.
+// What makes the hashers of a table of these numbers.
+fn seeded_by(numbers: &[u64]) -> Seeded {
+    let mut seed = Seed::new();
+    for number in numbers {
+        seed.add(&number.to_le_bytes());
+    }
+    seed.hashers()
+}
+
+/// Whether no number stands twice. They are the seed of their table, so that numbers which collide in it can't be chosen beforehand.
 #[tactic(auto, using(crate::proofs::Apart::one_more, crate::proofs::Apart::twice, crate::proofs::Apart::first_of))]
 pub fn are_distinct(alloc: Global, numbers: &[u64]) -> Result<bool, Memory>
     ensures { IfOk result (λ distinct. distinct ≡ are_distinct numbers.now) }
 {
     // The numbers from the last back to this place.
-    let mut seen: HashSet<u64> = HashSet::new(alloc);
+    let mut seen: HashSet<u64, Seeded> = HashSet::with_hasher(alloc, seeded_by(numbers));
     let mut left = numbers.len();
     'numbers: while left > 0 {
         left -= 1;

@@ -1,6 +1,6 @@
 // What is numbered on the way through a body.
 ghost use Rattle.std.specs.Prelude.{◌≡◌, IfOk, OnOk, length};
-ghost use Rattle.lucid_types_rules.specs.Block.{one_local};
+ghost use Rattle.lucid_types_spec.specs.Block.{one_local};
 ghost use Rattle.lucid_types_scope.specs.Numbered.{numbered_of};
 
 use crate::numbers::number;

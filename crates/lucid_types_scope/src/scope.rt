@@ -2,22 +2,24 @@
 ghost use Rattle.std.specs.Prelude.{◌≡◌, ◌∷◌, ◌-◌, ℕ, List, [], drop, length, if◌then◌else◌, IsSome, OnOk, OnErr};
 ghost use Rattle.std.specs.Option.{option_copied};
 ghost use Rattle.std.specs.Str.{bytes_eq};
-ghost use Rattle.lucid_types_rules.specs.Names.{seen};
+ghost use Rattle.lucid_types_spec.specs.Names.{seen};
 ghost use Rattle.lucid_types_scope.specs.Places.{newest_of};
 
 use indexmap::IndexMap;
 use lucid_base::{Id, Memory};
-use lucid_types_rules::{Entry, Named};
+use lucid_seed::Seeded;
+use lucid_types_spec::{Entry, Named};
 use std::alloc::Global;
 use std::marker::Model;
 
-/// The names in scope, which contracts see as the rules do: the newest first. A name is found at once, however many there are.
+/// The names in scope, which contracts see as the rules do: the newest first. The table of names is seeded by the text
+/// that they stand in, so that names which collide in it can't be chosen beforehand.
 #[derive(Drop)]
 pub struct Scope {
     alloc: Global,
     kept: Vec<Kept>,
     // For each name the place in `kept` of its newest entry, if one is left.
-    newest: IndexMap<Id, Option<usize>>,
+    newest: IndexMap<Id, Option<usize>, Seeded>,
 }
 
 // A name in scope, and the place of the entry of the same name that it hides.
@@ -28,7 +30,7 @@ struct Kept {
 }
 
 impl Model for Scope {
-    ghost use Rattle.lucid_types_rules.specs.Names.{Names};
+    ghost use Rattle.lucid_types_spec.specs.Names.{Names};
 
     ghost Value = { Names };
 
@@ -41,13 +43,13 @@ impl Model for Scope {
 
 impl Scope {
     /// No names.
-    pub fn new(alloc: Global) -> Scope
+    pub fn new(alloc: Global, seeded: Seeded) -> Scope
         ensures { result ≡ [] }
     {
         Scope {
             alloc,
             kept: Vec::new(alloc),
-            newest: IndexMap::new(alloc),
+            newest: IndexMap::with_hasher(alloc, seeded),
         }
     }
 
@@ -104,7 +106,7 @@ impl Scope {
 }
 
 // The place of the newest entry of this name.
-fn place_of(newest: &IndexMap<Id, Option<usize>>, name: &Id) -> Option<usize>
+fn place_of(newest: &IndexMap<Id, Option<usize>, Seeded>, name: &Id) -> Option<usize>
     ensures { result ≡ newest_of newest.now name.now }
 {
     match newest.get(name) {
@@ -114,7 +116,7 @@ fn place_of(newest: &IndexMap<Id, Option<usize>>, name: &Id) -> Option<usize>
 }
 
 // Once this entry has ended, the newest entry of its name, which has a place, is the one that it hid.
-fn uncover(newest: &mut IndexMap<Id, Option<usize>>, ended: Kept)
+fn uncover(newest: &mut IndexMap<Id, Option<usize>, Seeded>, ended: Kept)
     requires { IsSome (newest_of newest.old ended.named.name) }
     ensures { (name : List ℕ) → newest_of newest.new name ≡ if bytes_eq ended.named.name name then ended.hides else newest_of newest.old name }
 {

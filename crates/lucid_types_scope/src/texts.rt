@@ -1,21 +1,22 @@
 // The texts of prints.
 ghost use Rattle.std.specs.Prelude.{◌≡◌, ◌∷◌, ◌++◌, [], None, OnOk, bytes_eq, length, position};
-ghost use Rattle.lucid_types_rules.specs.Block.{form_number, one_form};
+ghost use Rattle.lucid_types_spec.specs.Block.{form_number, one_form};
 ghost use Rattle.lucid_types_scope.specs.Numbered.{IsNumbered};
 
 use crate::numbers::number;
 use indexmap::IndexMap;
 use lucid_base::{Id, Memory};
+use lucid_seed::Seeded;
 use std::alloc::Global;
 use std::marker::Model;
 
-/// The texts of a program so far, which contracts see as the list of their bytes in the order of their numbers. A text is found at
-/// once, however many there are.
+/// The texts of a program so far, which contracts see as the list of their bytes in the order of their numbers. Their table is
+/// seeded by the text of the program.
 #[derive(Drop)]
 pub struct Texts {
     texts: Vec<Id>,
     // For each text its place in `texts`.
-    places: IndexMap<Id, usize>,
+    places: IndexMap<Id, usize, Seeded>,
 }
 
 impl Model for Texts {
@@ -32,12 +33,12 @@ impl Model for Texts {
 
 impl Texts {
     /// No texts.
-    pub fn new(alloc: Global) -> Texts
+    pub fn new(alloc: Global, seeded: Seeded) -> Texts
         ensures { result ≡ [] }
     {
         Texts {
             texts: Vec::new(alloc),
-            places: IndexMap::new(alloc),
+            places: IndexMap::with_hasher(alloc, seeded),
         }
     }
 

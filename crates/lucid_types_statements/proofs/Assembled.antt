@@ -2,12 +2,12 @@
 use Rattle.std.proofs.Common.{◌≡◌, List, Option, None, Some, Result, Ok, Err, option_map, refl, sym, ap, subst}
 use Rattle.lucid_core.specs.Typing.{◌>>=◌}
 use Rattle.lucid_memop.proofs.Parts.{same_some}
-use Rattle.lucid_types_rules.specs.declared.body.Body.{Body}
-use Rattle.lucid_types_rules.specs.declared.scope.ValueType.{ValueType}
-use Rattle.lucid_types_rules.specs.Block.{Numbered}
-use Rattle.lucid_types_rules.specs.Names.{Names}
-use Rattle.lucid_types_function.specs.declared.part.Part.{Part}
-use Rattle.lucid_types_function.specs.Statement.{Taking, block, onto, or_empty, parts}
+use Rattle.lucid_types_spec.specs.declared.body.Body.{Body}
+use Rattle.lucid_types_spec.specs.declared.scope.ValueType.{ValueType}
+use Rattle.lucid_types_spec.specs.Block.{Numbered}
+use Rattle.lucid_types_spec.specs.Names.{Names}
+use Rattle.lucid_types_laws.specs.declared.part.Part.{Part}
+use Rattle.lucid_types_laws.specs.Statement.{Taking, block, onto, or_empty, parts}
 use Rattle.lucid_types_expressions.specs.declared.fault.Fault.{Fault}
 use Rattle.lucid_types_expressions.specs.declared.fault.Fault.TheVariants.{NoRule, Memory}
 use Rattle.lucid_types_expressions.specs.Gives.{Gives}

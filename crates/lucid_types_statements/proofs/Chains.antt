@@ -2,8 +2,8 @@
 use Rattle.std.proofs.Common.{◌≡◌, ℕ, List, [], ◌∷◌, ◌++◌, refl, ap}
 use Rattle.lucid_core.specs.declared.body.Stmt.TheVariants.{If}
 use Rattle.lucid_core.specs.Endings.{of_either}
-use Rattle.lucid_types_rules.specs.declared.body.Body.{Body}
-use Rattle.lucid_types_rules.specs.Block.{is_number, one}
+use Rattle.lucid_types_spec.specs.declared.body.Body.{Body}
+use Rattle.lucid_types_spec.specs.Block.{is_number, one}
 use Rattle.lucid_types_statements.specs.declared.arms.Arm.{Arm}
 use Rattle.lucid_types_statements.specs.Assembly.{chained}
 

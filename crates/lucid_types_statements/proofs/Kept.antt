@@ -4,13 +4,13 @@ use Rattle.std.proofs.lemmas.List.{drop-drop, length-drop}
 use Rattle.lucid_memop.proofs.Parts.{bound, same_some}
 use Rattle.lucid_parse_tree.specs.declared.tree.E.{E}
 use Rattle.lucid_parse_tree.specs.declared.tree.Ty.{Ty}
-use Rattle.lucid_types_rules.specs.declared.scope.Entry.TheVariants as entry
-use Rattle.lucid_types_rules.specs.declared.scope.Named.{Named}
-use Rattle.lucid_types_rules.specs.Block.{Numbered}
-use Rattle.lucid_types_rules.specs.Names.{Names, called}
-use Rattle.lucid_types_function.specs.declared.part.Part.{Part}
-use Rattle.lucid_types_function.specs.Reading.{core_of}
-use Rattle.lucid_types_function.specs.Statement.{Taken, declared, type_of}
+use Rattle.lucid_types_spec.specs.declared.scope.Entry.TheVariants as entry
+use Rattle.lucid_types_spec.specs.declared.scope.Named.{Named}
+use Rattle.lucid_types_spec.specs.Block.{Numbered}
+use Rattle.lucid_types_spec.specs.Names.{Names, called}
+use Rattle.lucid_types_laws.specs.declared.part.Part.{Part}
+use Rattle.lucid_types_laws.specs.Reading.{core_of}
+use Rattle.lucid_types_laws.specs.Statement.{Taken, declared, type_of}
 use Rattle.lucid_types_statements.specs.Kept.{Keeps}
 
 pub keeps_same : (s : Names) → Keeps s s

@@ -8,16 +8,16 @@ use Rattle.lucid_core.specs.Endings.{of_either}
 use Rattle.lucid_parse_tree.specs.declared.tree.E.{E}
 use Rattle.lucid_parse_tree.specs.declared.tree.S.{S}
 use Rattle.lucid_parse_tree.specs.declared.tree.S.TheVariants as form
-use Rattle.lucid_types_rules.specs.declared.body.Body.{Body}
-use Rattle.lucid_types_rules.specs.declared.scope.ValueType.{ValueType}
-use Rattle.lucid_types_rules.specs.Block.{Numbered, before, is_number, one, one_local}
-use Rattle.lucid_types_rules.specs.Names.{Names}
-use Rattle.lucid_types_function.specs.declared.part.Part.TheVariants.{Does}
-use Rattle.lucid_types_function.specs.Partial.{when}
-use Rattle.lucid_types_function.specs.Lead.{or_32}
-use Rattle.lucid_types_function.specs.Reading.{free, reading}
-use Rattle.lucid_types_function.specs.Statement.{Taking, block, cases, is_empty, last_arm, matched, stays, taking}
-use Rattle.lucid_types_function.proofs.StatementForms.{match_is, match_last_is}
+use Rattle.lucid_types_spec.specs.declared.body.Body.{Body}
+use Rattle.lucid_types_spec.specs.declared.scope.ValueType.{ValueType}
+use Rattle.lucid_types_spec.specs.Block.{Numbered, before, is_number, one, one_local}
+use Rattle.lucid_types_spec.specs.Names.{Names}
+use Rattle.lucid_types_laws.specs.declared.part.Part.TheVariants.{Does}
+use Rattle.lucid_types_laws.specs.Partial.{when}
+use Rattle.lucid_types_laws.specs.Lead.{or_32}
+use Rattle.lucid_types_laws.specs.Reading.{free, reading}
+use Rattle.lucid_types_laws.specs.Statement.{Taking, block, cases, is_empty, last_arm, matched, stays, taking}
+use Rattle.lucid_types_laws.proofs.StatementForms.{match_is, match_last_is}
 use Rattle.lucid_types_statements.specs.declared.arms.Arm.{Arm}
 use Rattle.lucid_types_statements.specs.Arms.{value_tested}
 use Rattle.lucid_types_statements.specs.Assembly.{chained}

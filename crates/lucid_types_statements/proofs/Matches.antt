@@ -4,15 +4,15 @@ use Rattle.lucid_core.specs.declared.body.Stmt.TheVariants.{Assign}
 use Rattle.lucid_parse_tree.specs.declared.tree.E.{E}
 use Rattle.lucid_parse_tree.specs.declared.tree.S.{S}
 use Rattle.lucid_parse_tree.specs.declared.tree.S.TheVariants as form
-use Rattle.lucid_types_rules.specs.declared.body.Body.{Body}
-use Rattle.lucid_types_rules.specs.declared.scope.ValueType.{ValueType}
-use Rattle.lucid_types_rules.specs.Block.{Numbered, before, one_local}
-use Rattle.lucid_types_rules.specs.Names.{Names}
-use Rattle.lucid_types_function.specs.declared.part.Part.{Part}
-use Rattle.lucid_types_function.specs.declared.part.Part.TheVariants.{Does}
-use Rattle.lucid_types_function.specs.Lead.{or_32}
-use Rattle.lucid_types_function.specs.Reading.{reading}
-use Rattle.lucid_types_function.specs.Statement.{Taken, last_arm, taking}
+use Rattle.lucid_types_spec.specs.declared.body.Body.{Body}
+use Rattle.lucid_types_spec.specs.declared.scope.ValueType.{ValueType}
+use Rattle.lucid_types_spec.specs.Block.{Numbered, before, one_local}
+use Rattle.lucid_types_spec.specs.Names.{Names}
+use Rattle.lucid_types_laws.specs.declared.part.Part.{Part}
+use Rattle.lucid_types_laws.specs.declared.part.Part.TheVariants.{Does}
+use Rattle.lucid_types_laws.specs.Lead.{or_32}
+use Rattle.lucid_types_laws.specs.Reading.{reading}
+use Rattle.lucid_types_laws.specs.Statement.{Taken, last_arm, taking}
 use Rattle.lucid_types_expressions.specs.declared.fault.Fault.{Fault}
 use Rattle.lucid_types_expressions.specs.declared.fault.Fault.TheVariants.{NoRule, Memory}
 use Rattle.lucid_types_expressions.specs.Gives.{Fails}

@@ -1,9 +1,9 @@
 -- Parts are put together from the back.
 use Rattle.std.proofs.Common.{◌≡◌, List, [], ◌∷◌, ◌++◌, Option, None, Some, refl, ap, ◌∙◌}
 use Rattle.lucid_core.specs.Typing.{◌>>=◌}
-use Rattle.lucid_types_rules.specs.declared.body.Body.{Body}
-use Rattle.lucid_types_function.specs.declared.part.Part.{Part}
-use Rattle.lucid_types_function.specs.Statement.{onto, put}
+use Rattle.lucid_types_spec.specs.declared.body.Body.{Body}
+use Rattle.lucid_types_laws.specs.declared.part.Part.{Part}
+use Rattle.lucid_types_laws.specs.Statement.{onto, put}
 
 pub onto_last : (ps : List Part) (p : Part) (o : Option Body) → onto (ps ++ p ∷ []) o ≡ (put p o >>= (λ b. onto ps (Some b)))
 onto_last [] p o = refl

@@ -3,12 +3,12 @@ use Rattle.std.specs.Prelude.{◌≡◌, ℕ, List, Option, Some, Result, Ok, Er
 use Rattle.lucid_core.specs.declared.body.Expr.{Expr}
 use Rattle.lucid_core.specs.Numbers.{are_distinct}
 use Rattle.lucid_parse_tree.specs.declared.tree.E.{E}
-use Rattle.lucid_types_rules.specs.Block.{Numbered, one_local}
-use Rattle.lucid_types_rules.specs.Names.{Names}
-use Rattle.lucid_types_function.specs.Lead.{or_32}
-use Rattle.lucid_types_function.specs.Partial.{when}
-use Rattle.lucid_types_function.specs.Reading.{free, reading}
-use Rattle.lucid_types_function.specs.Statement.{is_empty}
+use Rattle.lucid_types_spec.specs.Block.{Numbered, one_local}
+use Rattle.lucid_types_spec.specs.Names.{Names}
+use Rattle.lucid_types_laws.specs.Lead.{or_32}
+use Rattle.lucid_types_laws.specs.Partial.{when}
+use Rattle.lucid_types_laws.specs.Reading.{free, reading}
+use Rattle.lucid_types_laws.specs.Statement.{is_empty}
 use Rattle.lucid_types_expressions.specs.declared.fault.Fault.{Fault}
 use Rattle.lucid_types_expressions.specs.Gives.{Fails}
 use Rattle.lucid_types_statements.specs.declared.arms.Tested.{Tested}

@@ -2,8 +2,8 @@
 use Rattle.std.specs.Prelude.{◌≡◌, ℕ, List, [], ◌∷◌, Option, Some, Result, Ok, Err, reverse}
 use Rattle.lucid_core.specs.declared.body.Stmt.TheVariants.{If}
 use Rattle.lucid_core.specs.Endings.{of_either}
-use Rattle.lucid_types_rules.specs.declared.body.Body.{Body}
-use Rattle.lucid_types_rules.specs.Block.{is_number, one}
+use Rattle.lucid_types_spec.specs.declared.body.Body.{Body}
+use Rattle.lucid_types_spec.specs.Block.{is_number, one}
 use Rattle.lucid_types_expressions.specs.declared.fault.Fault.{Fault}
 use Rattle.lucid_types_expressions.specs.Gives.{Fails}
 use Rattle.lucid_types_statements.specs.declared.arms.Arm.{Arm}

@@ -1,9 +1,9 @@
 -- What calls on bodies answer.
 use Rattle.std.specs.Prelude.{◌≡◌, ℕ, Bool, ◌&&◌, nat_eq, Option, Some, Result, Ok, Err}
-use Rattle.lucid_types_rules.specs.Block.{Numbered}
-use Rattle.lucid_types_rules.specs.Names.{Names}
-use Rattle.lucid_types_function.specs.declared.part.Part.{Part}
-use Rattle.lucid_types_function.specs.Statement.{Taken}
+use Rattle.lucid_types_spec.specs.Block.{Numbered}
+use Rattle.lucid_types_spec.specs.Names.{Names}
+use Rattle.lucid_types_laws.specs.declared.part.Part.{Part}
+use Rattle.lucid_types_laws.specs.Statement.{Taken}
 use Rattle.lucid_types_expressions.specs.declared.fault.Fault.{Fault}
 use Rattle.lucid_types_expressions.specs.Gives.{Fails}
 

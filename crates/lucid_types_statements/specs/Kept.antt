@@ -1,6 +1,6 @@
 -- Names that a block adds to.
 use Rattle.std.specs.Prelude.{◌≡◌, ◌-◌, drop, length}
-use Rattle.lucid_types_rules.specs.Names.{Names}
+use Rattle.lucid_types_spec.specs.Names.{Names}
 
 -- The old names are those behind all that is new.
 abbrev pub Keeps : Names → Names → Type 0

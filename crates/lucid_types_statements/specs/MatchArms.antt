@@ -2,12 +2,12 @@
 use Rattle.std.specs.Prelude.{ℕ, ◌^◌, List, [], ◌∷◌, ◌++◌, Option, Some, map, nat_lt}
 use Rattle.lucid_core.specs.Typing.{◌>>=◌}
 use Rattle.lucid_parse_tree.specs.declared.tree.S.{S}
-use Rattle.lucid_types_rules.specs.declared.scope.ValueType.{ValueType}
-use Rattle.lucid_types_rules.specs.Block.{Numbered}
-use Rattle.lucid_types_rules.specs.Names.{Names}
-use Rattle.lucid_types_function.specs.declared.part.Part.{Part}
-use Rattle.lucid_types_function.specs.Partial.{when}
-use Rattle.lucid_types_function.specs.Statement.{Taking, block, taking}
+use Rattle.lucid_types_spec.specs.declared.scope.ValueType.{ValueType}
+use Rattle.lucid_types_spec.specs.Block.{Numbered}
+use Rattle.lucid_types_spec.specs.Names.{Names}
+use Rattle.lucid_types_laws.specs.declared.part.Part.{Part}
+use Rattle.lucid_types_laws.specs.Partial.{when}
+use Rattle.lucid_types_laws.specs.Statement.{Taking, block, taking}
 use Rattle.lucid_types_statements.specs.declared.arms.Arm.{Arm}
 
 abbrev pub cases_taken : List (ℕ × List S) → List (ℕ × List Taking)

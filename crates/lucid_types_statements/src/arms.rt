@@ -1,7 +1,7 @@
 // The arms of a `match`.
 ghost use Rattle.std.specs.Prelude.{◌≡◌, ◌∷◌, [], ◌<◌, IfOk, length, map};
 ghost use Rattle.lucid_core.specs.declared.body.Stmt.TheVariants as core;
-ghost use Rattle.lucid_types_rules.specs.Block.{before, is_number};
+ghost use Rattle.lucid_types_spec.specs.Block.{before, is_number};
 ghost use Rattle.lucid_types_statements.specs.Arms.{Begins};
 ghost use Rattle.lucid_types_statements.specs.Assembly.{chained};
 ghost use Rattle.lucid_types_scope.specs.Numbered.{numbered_of};
@@ -11,8 +11,8 @@ use lucid_base::{Bits, Boxed, CmpOp, Items, Memory, Width};
 use lucid_core::{Expr, Stmt};
 use lucid_parse_tree::{E, S};
 use lucid_types_expressions::{Fault, free, free_width};
-use lucid_types_rules::Body;
 use lucid_types_scope::{Numbering, Scope, are_distinct};
+use lucid_types_spec::Body;
 use std::alloc::Global;
 
 /// A number and what is done where it is met.

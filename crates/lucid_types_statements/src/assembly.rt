@@ -2,9 +2,9 @@
 ghost use Rattle.std.specs.Prelude.{◌≡◌, ◌++◌, None, Some, option_map, reverse, IfOk, OnOk};
 ghost use Rattle.lucid_core.specs.declared.body.Stmt.TheVariants as core;
 ghost use Rattle.lucid_core.specs.Endings.{of_either};
-ghost use Rattle.lucid_types_rules.specs.Block.{one};
-ghost use Rattle.lucid_types_function.specs.declared.part.Part.TheVariants.{Does};
-ghost use Rattle.lucid_types_function.specs.Statement.{chosen, onto, or_empty, put};
+ghost use Rattle.lucid_types_spec.specs.Block.{one};
+ghost use Rattle.lucid_types_laws.specs.declared.part.Part.TheVariants.{Does};
+ghost use Rattle.lucid_types_laws.specs.Statement.{chosen, onto, or_empty, put};
 ghost use Rattle.lucid_types_expressions.specs.Gives.{Gives};
 ghost use Rattle.lucid_types_statements.specs.Assembly.{GivesRest, GivesSome, rest_of};
 
@@ -12,8 +12,8 @@ use crate::simple::one;
 use lucid_base::{Items, Memory};
 use lucid_core::{Ending, Expr, Stmt};
 use lucid_types_expressions::Fault;
-use lucid_types_function::Part;
-use lucid_types_rules::Body;
+use lucid_types_laws::Part;
+use lucid_types_spec::Body;
 use std::alloc::Global;
 
 /// What stands behind a statement: its steps, the last first.

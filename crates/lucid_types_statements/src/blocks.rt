@@ -1,9 +1,9 @@
 // Statements and blocks. The names of a block end with it; locals and texts stay.
 ghost use Rattle.std.specs.Prelude.{◌≡◌, ◌∷◌, [], map, option_map, IfOk, OnOk};
 ghost use Rattle.lucid_core.specs.declared.body.Stmt.TheVariants as core;
-ghost use Rattle.lucid_types_rules.specs.Block.{before};
+ghost use Rattle.lucid_types_spec.specs.Block.{before};
 ghost use Rattle.lucid_types_statements.specs.Assembly.{chained};
-ghost use Rattle.lucid_types_function.specs.Statement.{body_of, choosing, chosen, declared, last_arm, other, other_of, parts, taking};
+ghost use Rattle.lucid_types_laws.specs.Statement.{body_of, choosing, chosen, declared, last_arm, other, other_of, parts, taking};
 ghost use Rattle.lucid_types_statements.specs.MatchArms.{arms_of, cases_taken};
 ghost use Rattle.lucid_types_scope.specs.Numbered.{numbered_of};
 ghost use Rattle.lucid_types_statements.specs.Bodies.{Leaves, Takes};
@@ -16,9 +16,9 @@ use lucid_base::{Id, Items, Memory, Width};
 use lucid_core::{Ending, Expr};
 use lucid_parse_tree::{C, E, No, S, Ty};
 use lucid_types_expressions::{Fault, expression};
-use lucid_types_function::Part;
-use lucid_types_rules::{Body, ValueType};
+use lucid_types_laws::Part;
 use lucid_types_scope::{Numbering, Scope};
+use lucid_types_spec::{Body, ValueType};
 use std::alloc::Global;
 
 #[cycle(block)]

@@ -1,20 +1,20 @@
 // What a `generate` sends.
 ghost use Rattle.std.specs.Prelude.{◌≡◌, IfOk, map};
 ghost use Rattle.std.specs.Option.{option_copied};
-ghost use Rattle.lucid_types_rules.specs.Names.{seen};
-ghost use Rattle.lucid_types_rules.specs.Sends.{sent};
-ghost use Rattle.lucid_types_rules.specs.Types.{ints};
-ghost use Rattle.lucid_types_function.specs.Reading.{reading};
-ghost use Rattle.lucid_types_function.specs.Sending.{delayed, event_at, located, named_group, sending_of};
+ghost use Rattle.lucid_types_spec.specs.Names.{seen};
+ghost use Rattle.lucid_types_spec.specs.Sends.{sent};
+ghost use Rattle.lucid_types_spec.specs.Types.{ints};
+ghost use Rattle.lucid_types_laws.specs.Reading.{reading};
+ghost use Rattle.lucid_types_laws.specs.Sending.{delayed, event_at, located, named_group, sending_of};
 ghost use Rattle.lucid_types_expressions.specs.Gives.{Gives};
 
 use lucid_base::{Id, Items, Memory, Width};
 use lucid_core::Stmt;
 use lucid_parse_tree::{E, V};
 use lucid_types_expressions::{Fault, bare, free, given};
-use lucid_types_function::Arguments;
-use lucid_types_rules::{Destination, Entry, Param, Sending, ValueType};
+use lucid_types_laws::Arguments;
 use lucid_types_scope::Scope;
+use lucid_types_spec::{Destination, Entry, Param, Sending, ValueType};
 use std::alloc::Global;
 
 /// What is sent, and where to. NoRule where the tree has none.

@@ -1,9 +1,9 @@
 // Statements without blocks.
 ghost use Rattle.std.specs.Prelude.{◌≡◌, IfOk};
-ghost use Rattle.lucid_types_rules.specs.Block.{Numbered, one};
+ghost use Rattle.lucid_types_spec.specs.Block.{Numbered, one};
 ghost use Rattle.lucid_core.specs.declared.ending.Ending.TheVariants.{Never};
-ghost use Rattle.lucid_types_function.specs.declared.part.Part.TheVariants.{Does};
-ghost use Rattle.lucid_types_function.specs.Statement.{assigned, call_dropped, declared, generated, printed, returned, touch_dropped};
+ghost use Rattle.lucid_types_laws.specs.declared.part.Part.TheVariants.{Does};
+ghost use Rattle.lucid_types_laws.specs.Statement.{assigned, call_dropped, declared, generated, printed, returned, touch_dropped};
 ghost use Rattle.lucid_types_expressions.specs.Gives.{Gives};
 ghost use Rattle.lucid_types_scope.specs.Numbered.{numbered_of};
 ghost use Rattle.lucid_types_statements.specs.Bodies.{Leaves, Takes};
@@ -15,9 +15,9 @@ use lucid_base::{Boxed, Id, Items, Memory};
 use lucid_core::{Ending, Expr, Stmt};
 use lucid_parse_tree::{A, E, Ty, V};
 use lucid_types_expressions::{Fault, all_free, call, expression, touch};
-use lucid_types_function::Part;
-use lucid_types_rules::{Body, Entry, Named, ValueType};
+use lucid_types_laws::Part;
 use lucid_types_scope::{Numbering, Scope};
+use lucid_types_spec::{Body, Entry, Named, ValueType};
 use std::alloc::Global;
 
 /// A body of one statement.

@@ -1,11 +1,11 @@
 // Written types.
 ghost use Rattle.std.specs.Prelude.{◌≡◌};
-ghost use Rattle.lucid_types_rules.specs.Types.{width_of};
-ghost use Rattle.lucid_types_function.specs.Statement.{type_of};
+ghost use Rattle.lucid_types_spec.specs.Types.{width_of};
+ghost use Rattle.lucid_types_laws.specs.Statement.{type_of};
 
 use lucid_base::Width;
 use lucid_parse_tree::Ty;
-use lucid_types_rules::ValueType;
+use lucid_types_spec::ValueType;
 
 /// What a written type is. None where its width is none.
 pub fn type_of(t: Ty) -> Option<ValueType>

@@ -5,7 +5,7 @@ ghost use Rattle.lucid_gen.specs.Limits.{limits_text};
 ghost use Rattle.lucid_gen.specs.Program.{program_text};
 ghost use Rattle.lucid_gen.specs.Scene.{scene_text};
 ghost use Rattle.lucid_log_tally.specs.Bench.{bench_line};
-ghost use Rattle.lucid_net_log.specs.Log.{log};
+ghost use Rattle.lucid_net_spec.specs.Log.{log};
 ghost use Rattle.lucid_top_fit.specs.Passes.{PassesRun, passes_view};
 ghost use Rattle.lucid_top_words.specs.declared.refusal.Refusal.TheVariants as refusal;
 ghost use Rattle.lucid_top_words.specs.Files.{texts_in};

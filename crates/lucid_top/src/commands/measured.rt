@@ -1,6 +1,6 @@
 // A target and what passes make of its program, of which the counts keep their limits; and the places that a file gives to its nodes.
 ghost use Rattle.std.specs.Prelude.{◌≡◌, ◌<◌, IfOk, length};
-ghost use Rattle.lucid_pass_form.specs.Replace.{MayReplace};
+ghost use Rattle.lucid_pass_spec.specs.Replace.{MayReplace};
 ghost use Rattle.lucid_top_fit.specs.Fit.{RunsOn, made_view, normal_of};
 ghost use Rattle.lucid_top_fit.specs.Passes.{PassesRun, passes_view};
 ghost use Rattle.lucid_top_words.specs.Files.{texts_in};

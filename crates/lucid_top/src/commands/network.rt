@@ -2,7 +2,7 @@
 ghost use Rattle.std.specs.Prelude.{◌≡◌, IfOk, Ok, Some};
 ghost use Rattle.lucid_net.specs.Seen.{IsStart};
 ghost use Rattle.lucid_net.specs.Wanting.{MayStop};
-ghost use Rattle.lucid_net_log.specs.Log.{log};
+ghost use Rattle.lucid_net_spec.specs.Log.{log};
 ghost use Rattle.lucid_top_words.specs.Writing.{Performs};
 ghost use Rattle.lucid_top.specs.Held.{ReadyKeeps, ready_view};
 ghost use Rattle.lucid_top.specs.Pipes.{network_of, sights_of};

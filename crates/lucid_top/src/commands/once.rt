@@ -10,7 +10,8 @@ ghost use Rattle.lucid_top_words.specs.Writing.{Performs};
 
 use crate::commands::text_at;
 use lucid_base::{Args, Event, Outs};
-use lucid_core::{Cells, Core, EventDef, run_whole};
+use lucid_core::{Cells, Core, EventDef};
+use lucid_core_run::run_whole;
 use lucid_io::{Sink, WriteFault};
 use lucid_log::{put_block, put_cells};
 use lucid_top_program::accepted;

@@ -1,7 +1,7 @@
 // `run whole P L T`: a network over time, whose switches run each event whole. The log is written block by block.
 ghost use Rattle.std.specs.Prelude.{◌≡◌, ◌<◌, IfOk, length};
 ghost use Rattle.lucid_net.specs.Writes.{Writes};
-ghost use Rattle.lucid_net_log.specs.Log.{log, whole};
+ghost use Rattle.lucid_net_spec.specs.Log.{log, whole};
 ghost use Rattle.lucid_top_words.specs.Files.{texts_in};
 ghost use Rattle.lucid_top_words.specs.Outcome.{Prepares};
 ghost use Rattle.lucid_top_words.specs.Words.{word_at};

@@ -1,5 +1,5 @@
 use Rattle.std.proofs.Common.{◌≡◌, drop, [], length}
-use Rattle.lucid_conf_json.specs.View.{items_view}
+use Rattle.serde_json.specs.View.{items_view}
 use Rattle.lucid_audit.specs.PlanFile.{pairs_from}
 use Rattle.lucid_audit.proofs.plan_file.each_pair.Given as goal
 

@@ -1,6 +1,6 @@
 use Rattle.std.proofs.Common.{◌≡◌, drop, []}
 use Rattle.std.specs.List.{All}
-use Rattle.lucid_conf_json.specs.View.{items_view}
+use Rattle.serde_json.specs.View.{items_view}
 use Rattle.lucid_conf.specs.declared.key.Key.TheVariants.{Events}
 use Rattle.lucid_conf.specs.Items.{event}
 use Rattle.lucid_conf.specs.Reading.{each}

@@ -1,5 +1,5 @@
 use Rattle.std.proofs.Common.{◌≡◌, drop}
-use Rattle.lucid_conf_json.specs.View.{view, items_view}
+use Rattle.serde_json.specs.View.{view, items_view}
 use Rattle.lucid_conf.specs.Fields.{args_from, args_of}
 use Rattle.lucid_conf.proofs.items.args_of.Given as goal
 

@@ -1,4 +1,4 @@
-use Rattle.lucid_conf_json.specs.View.{view}
+use Rattle.serde_json.specs.View.{view}
 use Rattle.lucid_conf.specs.Tables.{limits_read}
 use Rattle.lucid_conf.proofs.Answered.{answered}
 use Rattle.lucid_conf.proofs.limits.limits_of.Goals as goal

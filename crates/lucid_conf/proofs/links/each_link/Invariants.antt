@@ -1,6 +1,6 @@
 use Rattle.std.proofs.Common.{◌≡◌, drop, []}
 use Rattle.std.specs.List.{All, AllPairs}
-use Rattle.lucid_conf_json.specs.View.{items_view}
+use Rattle.serde_json.specs.View.{items_view}
 use Rattle.lucid_conf.specs.declared.key.Key.TheVariants.{Links}
 use Rattle.lucid_conf.specs.Items.{link}
 use Rattle.lucid_conf.specs.Reading.{each}

@@ -1,13 +1,8 @@
-use Rattle.std.proofs.Common.{◌≡◌, drop}
-use Rattle.json.specs.Value.{members_view}
-use Rattle.serde_json.specs.Data.{no_members}
-use Rattle.lucid_conf_json.specs.Keys.{every_name}
-use Rattle.lucid_conf_json.specs.View.{data_members}
-use Rattle.lucid_conf.specs.Keys.{is_known}
+use Rattle.std.proofs.Common.{◌≡◌}
+use Rattle.serde_json.specs.View.{members_view}
 use Rattle.lucid_conf.specs.Reading.{all_known}
 use Rattle.lucid_conf.proofs.reading.all_known.Given as goal
 
--- what is left decides what the whole decides
-abbrev pub invariant-loop-member : goal.invariant-loop-member
-invariant-loop-member l =
-    every_name (is_known l.keys) (members_view (drop l.member-index l.members)) ≡ all_known l.keys (data_members (members_view l.members) no_members)
+abbrev pub invariant-loop-key : goal.invariant-loop-key
+invariant-loop-key l = (goal.iterator-loop-key).can_next l.key-iterator × (goal.iterator-loop-key).is_finite l.key-iterator
+    × (all_known l.keys (members_view l.key-iterator) ≡ all_known l.keys (members_view l.members.entries))

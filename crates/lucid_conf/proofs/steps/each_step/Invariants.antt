@@ -1,6 +1,6 @@
 use Rattle.std.proofs.Common.{◌≡◌, drop, []}
 use Rattle.std.specs.List.{All}
-use Rattle.lucid_conf_json.specs.View.{items_view}
+use Rattle.serde_json.specs.View.{items_view}
 use Rattle.lucid_conf.specs.declared.key.Key.TheVariants.{Steps}
 use Rattle.lucid_conf.specs.Reading.{each}
 use Rattle.lucid_conf.specs.Kept.{IsStep}

@@ -1,9 +1,9 @@
 use Rattle.std.proofs.Common.{rules, ◌≡◌, ◌++◌, ℕ, [], List, length, subst}
 use Rattle.std.proofs.lemmas.Result.{IfOk-weaker}
 use Rattle.lucid_core.specs.declared.defs.HandlerDef.{HandlerDef}
-use Rattle.lucid_effects_order.specs.Order.{bodies, fun_bodies, handler_bodies}
+use Rattle.lucid_effects_spec.specs.Order.{bodies, fun_bodies, handler_bodies}
 use Rattle.lucid_effects.specs.First.{IsFirst}
-use Rattle.lucid_effects_schemes.specs.Schemes.{schemes_of}
+use Rattle.lucid_effects_spec.specs.Schemes.{schemes_of}
 use Rattle.lucid_effects.proofs.Spent.{of_all, of_funs}
 use Rattle.lucid_effects.proofs.check.check_all.Goals as goal
 

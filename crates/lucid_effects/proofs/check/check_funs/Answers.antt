@@ -1,7 +1,7 @@
 use Rattle.std.proofs.Common.{rules, ◌≡◌, ◌+◌, ◌++◌, ◌∷◌, [], Some, sym, ap, ◌∙◌}
 use Rattle.std.specs.Prelude.{slice_get}
 use Rattle.std.proofs.lemmas.Option.{slice_get-get_or}
-use Rattle.lucid_effects_schemes.specs.Laws.{steps_a_node}
+use Rattle.lucid_effects_spec.specs.SchemeLaws.{steps_a_node}
 use Rattle.lucid_effects.proofs.Spent.{fun_spent, funs_spent}
 use Rattle.lucid_effects.proofs.Turns.{fun_turn, judges_same}
 use Rattle.lucid_effects.proofs.check.check_funs.Goals as goal

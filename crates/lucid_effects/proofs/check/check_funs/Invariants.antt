@@ -1,11 +1,11 @@
 use Rattle.std.proofs.Common.{◌≡◌, ◌+◌, ◌*◌, ◌≤◌, length, take, []}
 use Rattle.lucid_core.specs.Parts.{CoreParts}
 use Rattle.lucid_core.specs.Valid.{IsSound}
-use Rattle.lucid_effects_order.specs.Order.{fun_bodies}
-use Rattle.lucid_effects_order.specs.Size.{fun_nodes}
-use Rattle.lucid_effects_schemes.specs.Laws.{steps_a_node}
+use Rattle.lucid_effects_spec.specs.Order.{fun_bodies}
+use Rattle.lucid_effects_spec.specs.Size.{fun_nodes}
+use Rattle.lucid_effects_spec.specs.SchemeLaws.{steps_a_node}
 use Rattle.lucid_effects.specs.First.{IsFirst}
-use Rattle.lucid_effects_schemes.specs.Schemes.{schemes_of}
+use Rattle.lucid_effects_spec.specs.Schemes.{schemes_of}
 use Rattle.lucid_effects.proofs.check.check_funs.Given as goal
 
 abbrev pub invariant-loop-f : goal.invariant-loop-f

@@ -3,10 +3,10 @@ use Rattle.std.specs.Prelude.{slice_get}
 use Rattle.std.proofs.Math.Seq.{take-append_seam, take-length}
 use Rattle.std.proofs.lemmas.Option.{slice_get-get_or}
 use Rattle.lucid_core.specs.declared.defs.HandlerDef.{HandlerDef}
-use Rattle.lucid_effects_order.specs.Order.{handler_bodies}
+use Rattle.lucid_effects_spec.specs.Order.{handler_bodies}
 use Rattle.lucid_effects.specs.First.{IsFirst}
-use Rattle.lucid_effects_schemes.specs.Schemes.{handler_schemes}
-use Rattle.lucid_effects_schemes.specs.Laws.{steps_a_node}
+use Rattle.lucid_effects_spec.specs.Schemes.{handler_schemes}
+use Rattle.lucid_effects_spec.specs.SchemeLaws.{steps_a_node}
 use Rattle.lucid_effects.proofs.Spent.{handler_spent, handlers_spent}
 use Rattle.lucid_effects.proofs.Turns.{handler_turn, judges_same}
 use Rattle.lucid_effects.proofs.check.check_handlers.Goals as goal

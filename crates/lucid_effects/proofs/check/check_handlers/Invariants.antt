@@ -2,11 +2,11 @@ use Rattle.std.proofs.Common.{◌≡◌, ◌++◌, List, take, ◌+◌, ◌*◌,
 use Rattle.lucid_core.specs.declared.defs.FunDef.{FunDef}
 use Rattle.lucid_core.specs.Parts.{CoreParts}
 use Rattle.lucid_core.specs.Valid.{IsSound}
-use Rattle.lucid_effects_order.specs.Size.{handler_nodes}
-use Rattle.lucid_effects_schemes.specs.Laws.{steps_a_node}
-use Rattle.lucid_effects_order.specs.Order.{Body, handler_bodies}
+use Rattle.lucid_effects_spec.specs.Size.{handler_nodes}
+use Rattle.lucid_effects_spec.specs.SchemeLaws.{steps_a_node}
+use Rattle.lucid_effects_spec.specs.Order.{Body, handler_bodies}
 use Rattle.lucid_effects.specs.First.{IsFirst}
-use Rattle.lucid_effects_schemes.specs.Schemes.{handler_schemes, schemes_of}
+use Rattle.lucid_effects_spec.specs.Schemes.{handler_schemes, schemes_of}
 use Rattle.lucid_effects.proofs.check.check_handlers.Given as goal
 
 abbrev pub invariant-loop-h : goal.invariant-loop-h

@@ -1,9 +1,9 @@
 use Rattle.std.proofs.Common.{rules, ◌≡◌, List, sym, subst}
-use Rattle.lucid_effects_order.specs.Order.{bodies}
-use Rattle.lucid_effects_schemes.specs.declared.scheme.Scheme.{Scheme}
-use Rattle.lucid_effects_schemes.specs.Principal.{ArePrincipal}
-use Rattle.lucid_effects_schemes.specs.Schemes.{all_schemes}
-use Rattle.lucid_effects_schemes.proofs.AllPrincipal.{all_principal}
+use Rattle.lucid_effects_spec.specs.Order.{bodies}
+use Rattle.lucid_effects_spec.specs.declared.scheme.Scheme.{Scheme}
+use Rattle.lucid_effects_spec.specs.Principal.{ArePrincipal}
+use Rattle.lucid_effects_spec.specs.Schemes.{all_schemes}
+use Rattle.lucid_effects_spec.proofs.AllPrincipal.{all_principal}
 use Rattle.lucid_effects.proofs.check.check_order.Goals as goal
 
 pub returns-clause-principal : goal.returns-clause-principal

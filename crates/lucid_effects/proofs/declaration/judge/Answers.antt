@@ -1,9 +1,9 @@
 use Rattle.std.proofs.Common.{◌≡◌, ◌∷◌, [], ◌++◌, true, false, sym, subst, ap, ◌∙◌, Option}
-use Rattle.lucid_effects_order.specs.Order.{Body}
+use Rattle.lucid_effects_spec.specs.Order.{Body}
 use Rattle.lucid_effects.specs.declared.first.Refused.{Refused}
-use Rattle.lucid_effects_schemes.specs.declared.scheme.Scheme.{Scheme}
+use Rattle.lucid_effects_spec.specs.declared.scheme.Scheme.{Scheme}
 use Rattle.lucid_effects.specs.First.{IsFirst, comes_first}
-use Rattle.lucid_effects_schemes.specs.Schemes.{scheme_of}
+use Rattle.lucid_effects_spec.specs.Schemes.{scheme_of}
 use Rattle.lucid_effects.proofs.Judged.{Told, judged, passed_over}
 use Rattle.lucid_effects.proofs.declaration.judge.Goals as goal
 use Rattle.lucid_effects.proofs.declaration.judge.Goals.{then-is_earlier+in_ok-cycle, else-is_earlier}

@@ -2,9 +2,9 @@
 use Rattle.std.proofs.Common.{rules, ◌≡◌, ◌+◌, ◌≤◌, map, option_map, false, true}
 use Rattle.lucid_core.specs.declared.body.Stmt.TheVariants as s
 use Rattle.lucid_core.specs.declared.body.Touch.{out-Touch}
-use Rattle.lucid_effects_order.specs.Evaluation.{optional, sequence}
+use Rattle.lucid_effects_spec.specs.Evaluation.{optional, sequence}
 use Rattle.lucid_effects.specs.Goes.{walked}
-use Rattle.lucid_effects_schemes.specs.Schemes.{body_found, expr_found, finds, given_found}
+use Rattle.lucid_effects_spec.specs.Schemes.{body_found, expr_found, finds, given_found}
 use Rattle.lucid_effects.proofs.Rising.{bin_left, branch_left, cmp_left, delay_left, expr_left, get_left, given_left, index_left, inlined_left, multi_left, sent_left, stmt_left, target_left, test_left}
 use Rattle.lucid_effects.proofs.walk.+walk.Goals as goal
 

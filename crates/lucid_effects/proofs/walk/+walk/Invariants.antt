@@ -1,8 +1,8 @@
 -- What a loop has walked and what is left make the whole.
 use Rattle.std.proofs.Common.{◌≡◌, drop, map}
-use Rattle.lucid_effects_order.specs.Evaluation.{sequence}
+use Rattle.lucid_effects_spec.specs.Evaluation.{sequence}
 use Rattle.lucid_effects.specs.Goes.{walked}
-use Rattle.lucid_effects_schemes.specs.Schemes.{finds, expr_found, given_found, body_found}
+use Rattle.lucid_effects_spec.specs.Schemes.{finds, expr_found, given_found, body_found}
 use Rattle.lucid_effects.proofs.walk.+walk.Given as goal
 
 abbrev pub invariant-exprs-loop-e : goal.invariant-exprs-loop-e

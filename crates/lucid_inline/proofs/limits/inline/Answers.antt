@@ -1,7 +1,7 @@
 use Rattle.std.proofs.Common.{◌≡◌, sym, subst}
 use Rattle.lucid_core.specs.Parts.{CoreParts}
-use Rattle.lucid_inline_form.specs.Flat.{flat_of}
-use Rattle.lucid_effects_order.specs.Order.{IsAccepted}
+use Rattle.lucid_inline_spec.specs.Flat.{flat_of}
+use Rattle.lucid_effects_spec.specs.Order.{IsAccepted}
 use Rattle.lucid_inline.proofs.Accepted.{flat_is_accepted}
 use Rattle.lucid_inline.proofs.limits.inline.Goals as goal
 

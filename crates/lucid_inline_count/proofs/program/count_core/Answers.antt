@@ -1,7 +1,7 @@
 use Rattle.std.proofs.Common.{◌≡◌, ap₂, rules}
 use Rattle.std.proofs.lemmas.Result.{IfOk-weaker}
 use Rattle.lucid_inline_count.specs.Bodies.{funs_found, handlers_found}
-use Rattle.lucid_inline_form.specs.Counts.{handler_lengths, handler_sizes}
+use Rattle.lucid_inline_spec.specs.Counts.{handler_lengths, handler_sizes}
 use Rattle.lucid_inline_count.proofs.LawOfCounts.{lengths_agree, sizes_agree}
 use Rattle.lucid_inline_count.proofs.Summing.{sum_of_capped}
 use Rattle.lucid_inline_count.proofs.program.count_core.Goals as goal

@@ -4,12 +4,13 @@ use Rattle.lucid_io.specs.Contents.{SameHeld}
 use Rattle.lucid_io.specs.Counts.{SameCounts}
 use Rattle.lucid_io.proofs.reading.take_rest.Given as goal
 
--- What was taken so far is what the begun file gave, no more than a byte past the limit, and each step took a byte of it.
+-- What was taken so far is what the begun file gave, no more than a byte past the limit, and each read took a byte of it.
 abbrev pub invariant-fill : goal.invariant-fill
 invariant-fill g l = record {
   within : length l.bytes.items ≤ l.limit + 1;
   given : g.F.Files.given l.files ≡ length l.bytes.items;
-  reads : l.steps ≤ l.fn.steps + length l.bytes.items;
+  reads : g.F.Files.reads l.files ≤ g.F.Files.reads l.fn.files + length l.bytes.items;
+  untried : (name : List ℕ) → g.F.Files.tried l.files name → g.F.Files.tried l.fn.files name;
   begun : (name : List ℕ) → g.F.Files.begun l.fn.files name → g.F.Files.begun l.files name;
   no_other : (name : List ℕ) → g.F.Files.begun l.files name → g.F.Files.begun l.fn.files name;
   so_far : Consumes (g.F.Files.left l.fn.files) (g.F.Files.left l.files) l.bytes.items;

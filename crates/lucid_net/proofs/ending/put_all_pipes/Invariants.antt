@@ -1,6 +1,6 @@
 use Rattle.std.proofs.Common.{drop, map}
 use Rattle.lucid_io.specs.Puts.{Leaves}
-use Rattle.lucid_net_log.specs.Log.{all_cells}
+use Rattle.lucid_net_spec.specs.Log.{all_cells}
 use Rattle.lucid_net.specs.Rows.{held}
 use Rattle.lucid_net.proofs.ending.put_all_pipes.Given as goal
 

@@ -2,7 +2,7 @@ use Rattle.std.proofs.Common.{◌≡◌, ◌++◌, List, map, rules, refl, sym, 
 use Rattle.std.proofs.lemmas.Result.{on_err_weaker, on_ok_weaker}
 use Rattle.lucid_io.proofs.Leaves.{Leaves-after, Leaves-whole, PutsAll-last, PutsPart-at, PutsPart-last, on_err}
 use Rattle.lucid_log.specs.Ending.{ending_text}
-use Rattle.lucid_net_log.specs.Log.{all_cells}
+use Rattle.lucid_net_spec.specs.Log.{all_cells}
 use Rattle.lucid_pipe.specs.Pipe.{PipeParts}
 use Rattle.lucid_net.specs.Pipes.{piped_of}
 use Rattle.lucid_net.specs.Rows.{held}

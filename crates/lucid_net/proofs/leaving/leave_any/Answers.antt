@@ -1,5 +1,5 @@
 use Rattle.std.proofs.Common.{Option, sym, subst}
-use Rattle.lucid_net_flight.specs.Runs.{text_by}
+use Rattle.lucid_net_laws.specs.Runs.{text_by}
 use Rattle.lucid_pipe.specs.declared.passed.Passed.{Passed}
 use Rattle.lucid_net.specs.Leaving.{gone_run}
 use Rattle.lucid_net.specs.Sent.{net_of}

@@ -1,9 +1,9 @@
 use Rattle.std.proofs.Common.{◌≡◌, Option, None, rules, ap, sym, ◌∙◌}
 use Rattle.std.specs.List.{find}
-use Rattle.lucid_net_flight.specs.Flying.{packet_for}
-use Rattle.lucid_net_pass.specs.Rows.{rows_in}
-use Rattle.lucid_net_pass.specs.Stages.{stages_of}
-use Rattle.lucid_pipe_stream.specs.Moves.{entered_by}
+use Rattle.lucid_net_laws.specs.Flying.{packet_for}
+use Rattle.lucid_net_laws.specs.Rows.{rows_in}
+use Rattle.lucid_net_laws.specs.PipeStages.{stages_of}
+use Rattle.lucid_pipe_laws.specs.Moves.{entered_by}
 use Rattle.lucid_queue.specs.Waiting.{is_ready}
 use Rattle.lucid_queue.specs.declared.pending.Pending.{Pending}
 use Rattle.lucid_net.proofs.Went.{entered_none}

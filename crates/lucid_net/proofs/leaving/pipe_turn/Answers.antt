@@ -1,6 +1,6 @@
 use Rattle.std.proofs.Common.{Option, subst, IfSome}
-use Rattle.lucid_net_log.specs.Ways.{Run}
-use Rattle.lucid_net_pass.specs.Rows.{rows_in}
+use Rattle.lucid_net_spec.specs.Ways.{Run}
+use Rattle.lucid_net_laws.specs.Rows.{rows_in}
 use Rattle.lucid_queue.specs.Waiting.{is_ready}
 use Rattle.lucid_net.specs.Leaving.{KeptAfter, left}
 use Rattle.lucid_net.proofs.Leaver.{kept_popped, moved_free}

@@ -1,7 +1,7 @@
 use Rattle.std.proofs.Common.{Option, rules, ap, sym, ◌∙◌}
 use Rattle.std.specs.Option.{option_map}
-use Rattle.lucid_net_pass.specs.Rows.{Rows, rows_in}
-use Rattle.lucid_net_pass.specs.Stages.{run_of_packet}
+use Rattle.lucid_net_laws.specs.Rows.{Rows, rows_in}
+use Rattle.lucid_net_laws.specs.PipeStages.{run_of_packet}
 use Rattle.lucid_pipe.specs.Packets.{Packet}
 use Rattle.lucid_net.proofs.Went.{stays, stuck_none, went}
 use Rattle.lucid_net.proofs.moving.move_at.Goals as goal

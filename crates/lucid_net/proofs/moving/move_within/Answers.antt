@@ -1,5 +1,5 @@
 use Rattle.std.proofs.Common.{Option, rules, ap, sym, ◌∙◌}
-use Rattle.lucid_net_pass.specs.Rows.{Rows, rows_in}
+use Rattle.lucid_net_laws.specs.Rows.{Rows, rows_in}
 use Rattle.lucid_pipe.specs.Packets.{Packet}
 use Rattle.lucid_pipe.specs.Pipe.{packet_at}
 use Rattle.lucid_net.proofs.Went.{none_there, stays, stuck_none, went_within}

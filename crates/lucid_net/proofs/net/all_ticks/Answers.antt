@@ -1,7 +1,7 @@
 use Rattle.std.proofs.Common.{◌+◌, ◌-◌, ◌<◌, ℕ, List, Err, refl, ◌∙◌, subst}
-use Rattle.lucid_net_flight.specs.Runs.{late_text}
-use Rattle.lucid_net_log.proofs.Telling.{pieces-next}
-use Rattle.lucid_net_log.specs.Pieces.{pieces}
+use Rattle.lucid_net_laws.specs.Runs.{late_text}
+use Rattle.lucid_net_spec.proofs.Telling.{pieces-next}
+use Rattle.lucid_net_spec.specs.Pieces.{pieces}
 use Rattle.lucid_net.specs.Seen.{lag, network}
 use Rattle.lucid_net.specs.Writes.{Writes}
 use Rattle.lucid_net.proofs.Running.{tick_piece, ticking_first, ticking_next}

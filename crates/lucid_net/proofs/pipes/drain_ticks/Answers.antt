@@ -1,8 +1,8 @@
 use Rattle.std.proofs.Common.{◌+◌, ◌-◌, ◌≤◌, ℕ, refl, sym, ◌∙◌, subst, arith}
 use Rattle.lucid_io.proofs.Leaves.{Leaves-after, PutsPart-at, on_err}
-use Rattle.lucid_net_flight.specs.Runs.{late_text}
-use Rattle.lucid_net_log.proofs.Telling.{pieces-next}
-use Rattle.lucid_net_log.specs.Pieces.{pieces}
+use Rattle.lucid_net_laws.specs.Runs.{late_text}
+use Rattle.lucid_net_spec.proofs.Telling.{pieces-next}
+use Rattle.lucid_net_spec.specs.Pieces.{pieces}
 use Rattle.lucid_tables.specs.Placed.{PlacedParts}
 use Rattle.lucid_net.specs.Pipes.{IsDrained, piped_of}
 use Rattle.lucid_net.specs.Sent.{net_of}

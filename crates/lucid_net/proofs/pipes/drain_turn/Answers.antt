@@ -1,9 +1,9 @@
 use Rattle.std.proofs.Common.{◌+◌, ◌^◌, ◌<◌, ℕ, Option, length, set, sym, subst, arith}
 use Rattle.lucid_io.proofs.Leaves.{on_err}
 use Rattle.lucid_io.specs.Puts.{PutsAll, PutsPart}
-use Rattle.lucid_net_flight.specs.Runs.{made_by, text_by}
-use Rattle.lucid_net_log.specs.Ways.{Run}
-use Rattle.lucid_net_pass.specs.Rows.{rows_in}
+use Rattle.lucid_net_laws.specs.Runs.{made_by, text_by}
+use Rattle.lucid_net_spec.specs.Ways.{Run}
+use Rattle.lucid_net_laws.specs.Rows.{rows_in}
 use Rattle.lucid_net.specs.Leaving.{left}
 use Rattle.lucid_net.specs.Pipes.{IsDrained, piped_of}
 use Rattle.lucid_net.specs.Sent.{net_of}

@@ -1,7 +1,7 @@
 use Rattle.std.proofs.Common.{Option, ◌∙◌, ap, subst}
-use Rattle.lucid_net_flight.specs.Runs.{made_by, text_by}
-use Rattle.lucid_net_log.specs.Ways.{Run}
-use Rattle.lucid_net_pass.specs.Rows.{rows_in}
+use Rattle.lucid_net_laws.specs.Runs.{made_by, text_by}
+use Rattle.lucid_net_spec.specs.Ways.{Run}
+use Rattle.lucid_net_laws.specs.Rows.{rows_in}
 use Rattle.lucid_net.specs.Pipes.{piped_of}
 use Rattle.lucid_net.specs.Sent.{net_of}
 use Rattle.lucid_net.specs.Writes.{Writes}

@@ -1,7 +1,7 @@
 use Rattle.std.proofs.Common.{◌+◌, ◌-◌, ◌≡◌, ℕ, List, Err, rules, refl, subst, arith}
-use Rattle.lucid_net_log.proofs.Telling.{pieces-next}
-use Rattle.lucid_net_log.specs.Log.{turns}
-use Rattle.lucid_net_log.specs.Pieces.{pieces, turn_text}
+use Rattle.lucid_net_spec.proofs.Telling.{pieces-next}
+use Rattle.lucid_net_spec.specs.Log.{turns}
+use Rattle.lucid_net_spec.specs.Pieces.{pieces, turn_text}
 use Rattle.lucid_net.specs.Kept.{IsKept}
 use Rattle.lucid_net.specs.Sent.{net_of}
 use Rattle.lucid_net.specs.Stands.{state_of}

@@ -1,5 +1,5 @@
 use Rattle.std.proofs.Common.{◌+◌, List, ℕ, refl, sym, ◌∙◌, ap, subst}
-use Rattle.lucid_net_log.specs.Pieces.{untold}
+use Rattle.lucid_net_spec.specs.Pieces.{untold}
 use Rattle.lucid_queue.specs.declared.pending.Pending.{Pending}
 use Rattle.lucid_net.specs.Kept.{IsKept}
 use Rattle.lucid_net.specs.Sent.{net_of}

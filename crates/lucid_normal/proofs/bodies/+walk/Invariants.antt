@@ -4,7 +4,7 @@ use Rattle.std.proofs.Common.{◌≡◌, ◌+◌, ◌*◌, ◌++◌, max, drop, 
 use Rattle.lucid_normal.specs.Given.{given_codes}
 use Rattle.lucid_normal_steps.specs.Added.{added}
 use Rattle.lucid_normal_steps.specs.Notes.{before}
-use Rattle.lucid_normal_form.specs.Translate.{each_made, expr_code, given_made, operands, seq, stmt_code}
+use Rattle.lucid_normal_spec.specs.Translate.{each_made, expr_code, given_made, operands, seq, stmt_code}
 use Rattle.lucid_normal.proofs.bodies.+walk.Given as goal
 
 abbrev pub decreases-expr : goal.decreases-expr

@@ -1,5 +1,5 @@
 use Rattle.std.proofs.Common.{◌≡◌, ◌++◌, drop}
-use Rattle.lucid_normal_form.specs.Program.{codes_of}
+use Rattle.lucid_normal_spec.specs.Program.{codes_of}
 use Rattle.lucid_normal.proofs.handlers.build.Given as goal
 
 -- what is built and what is left make the whole

@@ -1,6 +1,6 @@
 use Rattle.std.proofs.Common.{rules, ◌≡◌, [], ◌∷◌, ◌++◌, ◌+◌, ◌∙◌, drop, sym, ap, arith, refl}
 use Rattle.std.proofs.lemmas.List.{append-nil, append_assoc, drop_all}
-use Rattle.lucid_normal_form.specs.Program.{held_from}
+use Rattle.lucid_normal_spec.specs.Program.{held_from}
 use Rattle.lucid_normal.proofs.Fields.{held_next, held_end}
 use Rattle.lucid_normal.proofs.handlers.parameters.Goals as goal
 

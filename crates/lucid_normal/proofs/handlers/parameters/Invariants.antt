@@ -1,5 +1,5 @@
 use Rattle.std.proofs.Common.{◌≡◌, ◌++◌, drop}
-use Rattle.lucid_normal_form.specs.Program.{held_from}
+use Rattle.lucid_normal_spec.specs.Program.{held_from}
 use Rattle.lucid_normal.proofs.handlers.parameters.Given as goal
 
 -- what was gone over and what is left make the whole

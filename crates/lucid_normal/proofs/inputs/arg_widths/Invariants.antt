@@ -1,5 +1,5 @@
 use Rattle.std.proofs.Common.{◌≡◌, drop, fold}
-use Rattle.lucid_normal_form.specs.Program.{arg_widths, widest}
+use Rattle.lucid_normal_spec.specs.Program.{arg_widths, widest}
 use Rattle.lucid_normal.proofs.inputs.arg_widths.Given as goal
 
 -- what is left makes the whole

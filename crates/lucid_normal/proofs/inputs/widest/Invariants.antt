@@ -1,5 +1,5 @@
 use Rattle.std.proofs.Common.{◌≡◌, ◌++◌, drop}
-use Rattle.lucid_normal_form.specs.Program.{widest}
+use Rattle.lucid_normal_spec.specs.Program.{widest}
 use Rattle.lucid_normal.proofs.inputs.widest.Given as goal
 
 -- what was gone over and what is left make the whole

@@ -1,6 +1,6 @@
 use Rattle.std.proofs.Common.{◌≡◌, drop}
 use Rattle.lucid_normal_steps.specs.Notes.{before}
-use Rattle.lucid_normal_form.specs.Translate.{holding}
+use Rattle.lucid_normal_spec.specs.Translate.{holding}
 use Rattle.lucid_normal_steps.proofs.calls.hold_all.Given as goal
 
 -- what is left is held behind what was gone over; and what is noted leads back

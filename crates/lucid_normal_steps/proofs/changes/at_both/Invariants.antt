@@ -1,6 +1,6 @@
 use Rattle.std.proofs.Common.{◌≡◌, ◌++◌, ℕ, Option, None, drop, map, slice_index_or}
 use Rattle.lucid_normal_steps.specs.declared.changes.Change.{Change}
-use Rattle.lucid_normal_form.specs.declared.env.Typed.{Typed}
+use Rattle.lucid_normal_spec.specs.declared.env.Typed.{Typed}
 use Rattle.lucid_normal_steps.proofs.changes.at_both.Given as goal
 
 -- what was gone over and what is left make the whole

@@ -1,5 +1,5 @@
 use Rattle.std.proofs.Common.{refl}
-use Rattle.lucid_parse_grammar.specs.Lexemes.{lexemes_of}
+use Rattle.lucid_parse_spec.specs.Lexemes.{lexemes_of}
 use Rattle.lucid_parse.proofs.Programs.{one_tree, tokens_rise, finds, faults}
 use Rattle.lucid_parse.proofs.program.parse.Goals as goal
 

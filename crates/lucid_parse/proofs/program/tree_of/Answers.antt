@@ -1,6 +1,6 @@
 use Rattle.std.proofs.Common.{◌≡◌, ◌+◌, ◌<◌, ◌-◌, length, sym, subst, ◌∙◌, arith}
 use Rattle.std.proofs.lemmas.List.{length-map}
-use Rattle.lucid_parse_grammar.specs.Lexemes.{lexeme_of, lexemes_of}
+use Rattle.lucid_parse_spec.specs.Lexemes.{lexeme_of, lexemes_of}
 use Rattle.lucid_parse.specs.Program.{IsFault, line_of, last_of}
 use Rattle.lucid_parse_expression.specs.Tokens.{said}
 use Rattle.lucid_parse.proofs.Programs.{goes_on, shorter, stops_here}

@@ -1,5 +1,5 @@
 use Rattle.std.proofs.Common.{◌≡◌, ◌-◌, ◌≤◌, length, drop}
-use Rattle.lucid_parse_grammar.specs.Lexemes.{lexemes_of}
+use Rattle.lucid_parse_spec.specs.Lexemes.{lexemes_of}
 use Rattle.lucid_parse_expression.specs.Tokens.{said}
 use Rattle.lucid_parse.specs.Program.{Progress, Rising, line_at}
 use Rattle.lucid_parse.proofs.program.tree_of.Given as goal

@@ -1,7 +1,7 @@
 use Rattle.std.proofs.Common.{◌≡◌, ◌+◌, ◌-◌, ◌*◌}
 use Rattle.lucid_parse_expression.specs.Tokens.{said}
-use Rattle.lucid_parse_grammar.specs.Reader.{repeat}
-use Rattle.lucid_parse_grammar.specs.ReadStatement.{before_brace, one_case, statements, cases, inner_at}
+use Rattle.lucid_parse_spec.specs.Reader.{repeat}
+use Rattle.lucid_parse_spec.specs.ReadStatement.{before_brace, one_case, statements, cases, inner_at}
 use Rattle.lucid_parse.proofs.statement.+statement.Given as goal
 
 -- within one depth the functions call one another downwards, and a statement goes one deeper

@@ -1,7 +1,7 @@
 use Rattle.std.proofs.Common.{arith, rules}
 use Rattle.std.proofs.lemmas.Grind.{common_steps}
 use Rattle.lucid_parse_expression.specs.Tokens.{said}
-use Rattle.lucid_parse_grammar.specs.Reader.{after_comma, repeat}
+use Rattle.lucid_parse_spec.specs.Reader.{after_comma, repeat}
 use Rattle.lucid_parse_expression.proofs.Turns.{one_more}
 use Rattle.lucid_parse_expression.proofs.commas.separated.Goals as goal
 

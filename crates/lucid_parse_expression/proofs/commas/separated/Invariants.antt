@@ -1,6 +1,6 @@
 use Rattle.std.proofs.Common.{◌≡◌, ◌-◌}
 use Rattle.lucid_parse_expression.specs.Tokens.{said}
-use Rattle.lucid_parse_grammar.specs.Reader.{after_comma, repeat, separated}
+use Rattle.lucid_parse_spec.specs.Reader.{after_comma, repeat, separated}
 use Rattle.lucid_parse_expression.specs.Reads.{ReadsAll}
 use Rattle.lucid_parse_expression.proofs.commas.separated.Given as goal
 

@@ -1,8 +1,8 @@
 use Rattle.std.proofs.Common.{◌<◌, ◌-◌, arith, rules}
 use Rattle.std.proofs.lemmas.Grind.{common_steps}
 use Rattle.lucid_parse_expression.specs.Tokens.{said}
-use Rattle.lucid_parse_grammar.specs.Reader.{after_comma, repeat}
-use Rattle.lucid_parse_grammar.specs.ReadExpression.{climb, expression_at}
+use Rattle.lucid_parse_spec.specs.Reader.{after_comma, repeat}
+use Rattle.lucid_parse_spec.specs.ReadExpression.{climb, expression_at}
 use Rattle.lucid_parse_expression.proofs.Turns.{one_more, deeper}
 use Rattle.lucid_parse_expression.proofs.expressions.+expression.Goals as goal
 

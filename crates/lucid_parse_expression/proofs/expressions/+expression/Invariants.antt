@@ -1,7 +1,7 @@
 use Rattle.std.proofs.Common.{◌≡◌, ◌+◌, ◌-◌, ◌*◌}
 use Rattle.lucid_parse_expression.specs.Tokens.{said}
-use Rattle.lucid_parse_grammar.specs.Reader.{after_comma, repeat, separated}
-use Rattle.lucid_parse_grammar.specs.ReadExpression.{climb, expression_at}
+use Rattle.lucid_parse_spec.specs.Reader.{after_comma, repeat, separated}
+use Rattle.lucid_parse_spec.specs.ReadExpression.{climb, expression_at}
 use Rattle.lucid_parse_expression.proofs.expressions.+expression.Given as goal
 
 -- within one depth the functions call one another downwards, and an expression goes one deeper

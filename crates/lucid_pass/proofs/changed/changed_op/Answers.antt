@@ -2,7 +2,7 @@ use Rattle.std.proofs.Common.{◌≡◌, ◌∙◌, ap, ap₂, List}
 use Rattle.lucid_code.specs.declared.op.Act.{Act}
 use Rattle.lucid_code.specs.declared.op.Literal.{Literal}
 use Rattle.lucid_code.specs.Uses.{with_operands}
-use Rattle.lucid_pass_form.specs.Looks.{looked}
+use Rattle.lucid_pass_spec.specs.Looks.{looked}
 use Rattle.lucid_pass.specs.Putting.{finish_of, put_of, standing}
 use Rattle.lucid_pass.proofs.changed.changed_op.Goals as goal
 

@@ -1,7 +1,7 @@
 use Rattle.std.proofs.Common.{◌∙◌, sym, ap, true}
 use Rattle.std.specs.Option.{option_map_or}
 use Rattle.lucid_code.specs.declared.op.Op.{Op}
-use Rattle.lucid_pass_form.specs.Looks.{includes}
+use Rattle.lucid_pass_spec.specs.Looks.{includes}
 use Rattle.lucid_pass.proofs.Places.{writer_is}
 use Rattle.lucid_pass.proofs.covering.is_under.Goals as goal
 

@@ -1,8 +1,8 @@
 use Rattle.std.proofs.Common.{◌≡◌, ◌∙◌, ap, ap₂, subst, length, map, List, Bool, Option}
 use Rattle.std.specs.List.{filter}
 use Rattle.lucid_code.specs.declared.op.Op.{Op}
-use Rattle.lucid_pass_form.specs.declared.direct.Test.{Test}
-use Rattle.lucid_pass_form.specs.Direct.{direct_op}
+use Rattle.lucid_pass_spec.specs.declared.direct.Test.{Test}
+use Rattle.lucid_pass_spec.specs.Direct.{direct_op}
 use Rattle.lucid_pass.specs.Testing.{direct_by, ReadMarks, is_still_needed}
 use Rattle.lucid_pass.proofs.Testings.{direct_is}
 use Rattle.lucid_pass.proofs.direct.direct_ops.Goals as goal

@@ -1,5 +1,5 @@
 use Rattle.std.proofs.Common.{◌≡◌, drop}
-use Rattle.lucid_pass_form.specs.Looks.{includes}
+use Rattle.lucid_pass_spec.specs.Looks.{includes}
 use Rattle.lucid_pass.proofs.guards.includes.Given as goal
 
 abbrev pub invariant-loop-at : goal.invariant-loop-at

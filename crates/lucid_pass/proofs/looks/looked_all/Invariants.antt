@@ -1,5 +1,5 @@
 use Rattle.std.proofs.Common.{◌≡◌, map, take}
-use Rattle.lucid_pass_form.specs.Looks.{looked}
+use Rattle.lucid_pass_spec.specs.Looks.{looked}
 use Rattle.lucid_pass.specs.Putting.{put_of, standing}
 use Rattle.lucid_pass.proofs.looks.looked_all.Given as goal
 

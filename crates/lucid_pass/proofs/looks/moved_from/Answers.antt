@@ -1,6 +1,6 @@
 use Rattle.std.proofs.Common.{◌∙◌, sym, ap}
 use Rattle.std.specs.Option.{option_and_then}
-use Rattle.lucid_pass_form.specs.Looks.{seen}
+use Rattle.lucid_pass_spec.specs.Looks.{seen}
 use Rattle.lucid_pass.specs.Putting.{standing}
 use Rattle.lucid_pass.proofs.Places.{writer_is}
 use Rattle.lucid_pass.proofs.looks.moved_from.Goals as goal

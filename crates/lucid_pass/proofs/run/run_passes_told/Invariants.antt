@@ -1,6 +1,6 @@
 use Rattle.std.proofs.Common.{◌≡◌, ℕ, List, length}
 use Rattle.lucid_code.specs.Parts.{CodeParts}
-use Rattle.lucid_pass_form.specs.Replace.{Rewrite}
+use Rattle.lucid_pass_spec.specs.Replace.{Rewrite}
 use Rattle.lucid_pass.proofs.Running.{Ran}
 use Rattle.lucid_pass.proofs.run.run_passes_told.Given as goal
 

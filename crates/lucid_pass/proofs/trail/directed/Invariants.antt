@@ -1,5 +1,5 @@
 use Rattle.std.proofs.Common.{◌≡◌, map, take}
-use Rattle.lucid_pass_form.specs.Direct.{direct_op}
+use Rattle.lucid_pass_spec.specs.Direct.{direct_op}
 use Rattle.lucid_pass.specs.Testing.{direct_by}
 use Rattle.lucid_pass.specs.Trail.{TrailBefore}
 use Rattle.lucid_pass.proofs.trail.directed.Given as goal

@@ -1,8 +1,9 @@
-use Rattle.std.proofs.Common.{◌≡◌, ◌<◌, ◌+◌, [], None, Ok, length, map, rules}
+use Rattle.std.proofs.Common.{◌≡◌, ◌<◌, ◌+◌, ◌∙◌, ℕ, [], None, Ok, ap, sym, length, map, rules}
 use Rattle.std.specs.Prelude.{All, IsErrOf, List}
 use Rattle.std.specs.List.{sum_by}
 use Rattle.lucid_size.specs.declared.error.SizeError.TheVariants.{TooBig}
 use Rattle.lucid_size.specs.declared.step.Instance.{Instance}
+use Rattle.lucid_size.specs.declared.template.Template.{Template}
 use Rattle.lucid_lex.specs.Reading.{joined}
 use Rattle.lucid_size.specs.Suffix.{underscores}
 use Rattle.lucid_size.specs.Parts.{body_steps, names_of, outside_from}
@@ -13,6 +14,19 @@ use Rattle.lucid_size.specs.Widths.{widths_in}
 use Rattle.lucid_size.specs.Templates.{templates}
 use Rattle.lucid_size.proofs.Least.{expands, too_big}
 use Rattle.lucid_size.proofs.expansion.written_out.Goals as goal
+
+pub parts_stand-requires-clause-bodies : goal.parts_stand-requires-clause-bodies
+parts_stand-requires-clause-bodies c =
+    let text = c.args.text.now in
+    let ts = c.args.tokens.now in
+    let xs = c.in_ok-templates.templates.items in
+    let names = c.in_ok-names.names in
+    let names_are : names ≡ names_of text ts xs = search rules in
+    let bodies_are : c.in_ok-parts.parts.bodies.items ≡ map (body_steps text names ts) xs = search rules in
+    let xs_are : c.as_slice-4.result.now ≡ xs = search rules in
+    let bs_are : c.as_slice-6.result.now ≡ c.in_ok-parts.parts.bodies.items = search rules in
+    bs_are ∙ bodies_are ∙ ap (λ (ns : List (List ℕ)). map (body_steps text ns ts) xs) names_are
+    ∙ ap (λ (ys : List Template). map (body_steps text (names_of text ts ys) ts) ys) (sym xs_are)
 
 pub returns-clause-ok : goal.returns-clause-ok
 returns-clause-ok c =

@@ -1,11 +1,11 @@
 use Rattle.std.proofs.Common.{◌≡◌, ◌<◌, ℕ, List, [], Ok, ap, arith, codes, refl, sym}
 use Rattle.std.specs.Fmt.{digits}
 use Rattle.lucid_lex.specs.Reading.{Reads}
-use Rattle.lucid_effects_order.specs.Order.{IsAccepted}
+use Rattle.lucid_effects_spec.specs.Order.{IsAccepted}
 use Rattle.lucid_parse.specs.Program.{IsTreeOf}
-use Rattle.lucid_types_rules.specs.Declaration.{parts_of, start}
-use Rattle.lucid_types_rules.specs.Makes.{IsTyped}
-use Rattle.lucid_types_rules.specs.Makes.Makes.{done}
+use Rattle.lucid_types_spec.specs.Declaration.{parts_of, start}
+use Rattle.lucid_types_spec.specs.Makes.{IsTyped}
+use Rattle.lucid_types_spec.specs.Makes.Makes.{done}
 use Rattle.lucid_parse_tree.specs.declared.tree.Tree.{Tree}
 use Rattle.lucid_size.specs.Expansion.{ExpandsTo}
 use Rattle.lucid_top.specs.Check.{counts_line}

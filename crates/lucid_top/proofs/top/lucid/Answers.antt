@@ -19,6 +19,19 @@ pub returns-clause-placed : goal.returns-clause-placed
 returns-clause-placed g c = λ names texts hold placement text holds a audit quiet unmet is.
     wrote-of g.W.Sink.written g.W.Sink.faults c.args.out.now c.call.new.out c.call.result _ (laws.placed-clause c.call.ensures.ended names texts hold placement text holds a audit quiet unmet is)
 
+pub returns-clause-snapped : goal.returns-clause-snapped
+returns-clause-snapped g c = λ names texts hold a f word steps number quiet unmet is.
+    wrote-of g.W.Sink.written g.W.Sink.faults c.args.out.now c.call.new.out c.call.result _ (laws.snapped-clause c.call.ensures.ended names texts hold a f word steps number quiet unmet is)
+
+pub returns-clause-shown_drive : goal.returns-clause-shown_drive
+returns-clause-shown_drive g c = laws.shown_drive-clause c.call.ensures.ended
+
+pub returns-clause-shown_placed : goal.returns-clause-shown_placed
+returns-clause-shown_placed g c = laws.shown_placed-clause c.call.ensures.ended
+
+pub returns-clause-shown_bench : goal.returns-clause-shown_bench
+returns-clause-shown_bench g c = laws.shown_bench-clause c.call.ensures.ended
+
 pub returns-clause-shown : goal.returns-clause-shown
 returns-clause-shown g c = laws.shown-clause c.call.ensures.ended
 

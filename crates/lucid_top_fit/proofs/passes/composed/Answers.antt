@@ -1,5 +1,5 @@
 use Rattle.std.proofs.Common.{◌∙◌, inr, ap, length, refl, rules}
-use Rattle.lucid_normal_form.specs.Program.{translate}
+use Rattle.lucid_normal_spec.specs.Program.{translate}
 use Rattle.lucid_top_fit.specs.declared.passes.Composition.{Composition}
 use Rattle.lucid_top_fit.specs.Fit.{IsComposed, RunsOn, made_view}
 use Rattle.lucid_top_fit.specs.Passes.{passes_view}

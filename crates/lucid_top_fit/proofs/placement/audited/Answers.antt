@@ -1,6 +1,6 @@
 use Rattle.std.proofs.Common.{◌∙◌, ap, sym, subst}
 use Rattle.lucid_code.specs.Parts as code
-use Rattle.lucid_normal_form.specs.Stands.{StandsFor}
+use Rattle.lucid_normal_spec.specs.Stands.{StandsFor}
 use Rattle.lucid_top_words.specs.Outcome.{Declines}
 use Rattle.lucid_top_fit.specs.Placing.{IsAudited}
 use Rattle.lucid_top_fit.proofs.Places.{audited-is, not-audited, stages-audited}

@@ -1,15 +1,30 @@
-use Rattle.std.proofs.Common.{rules}
-use Rattle.lucid_top_words.proofs.Reading.{SoFar-more, SoFar-not, SoFar-end, files-next, files-none}
+use Rattle.std.proofs.Common.{◌≡◌, [], List, length, ap, arith, rules}
+use Rattle.lucid_top_words.specs.declared.command.NamedFile.{NamedFile}
+use Rattle.lucid_top_words.proofs.Reading.{SoFar-more, SoFar-not, SoFar-end, TriesOnly-not, TriesOnly-one, files-next, files-none, is_one_of}
 use Rattle.lucid_top_words.proofs.files.read_files.Goals as goal
 
-pub returns-in_err-read_next : goal.returns-in_err-read_next
-returns-in_err-read_next g c =
-    SoFar-not _ _ c.in_err-read_next.field-0.0 _ c.loop-file.invariant (files-next c.args.named.now c.loop-file.file-index _ c.loop-file-test.true (search rules))
+pub returns-in_err-read_next-clause-reads : goal.returns-in_err-read_next-clause-reads
+returns-in_err-read_next-clause-reads g c =
+    SoFar-not _ _ c.in_err-read_next.field-0.0 _ c.loop-file.invariant.so_far (files-next c.args.named.now c.loop-file.file-index _ c.loop-file-test.true (search rules))
     c.in_err-read_next.ensures.not (search rules)
 
-pub loop-file-preserved : goal.loop-file-preserved
-loop-file-preserved g c =
-    SoFar-more _ _ c.loop-file.invariant (files-next c.args.named.now c.loop-file.file-index _ c.loop-file-test.true (search rules)) c.in_ok-read_next.ensures.whole
+pub returns-in_err-read_next-clause-tries : goal.returns-in_err-read_next-clause-tries
+returns-in_err-read_next-clause-tries g c =
+    TriesOnly-not _ _ _ _ _ _ c.in_err-read_next.ensures.not (is_one_of c.args.named.now c.loop-file.file-index _ c.loop-file-test.true (search rules)) c.loop-file.invariant.tries c.read_next.ensures.tries
 
-pub returns : goal.returns
-returns g c = SoFar-end c.loop-file.invariant (files-none c.args.named.now c.loop-file.file-index c.loop-file-test.false)
+pub returns-in_err-read_next-clause-none : goal.returns-in_err-read_next-clause-none
+returns-in_err-read_next-clause-none g c = λ empty.
+    let none : length c.args.named.now ≡ 0 = ap length empty in
+    absurd (omega (arith, none, c.loop-file-test.true))
+
+pub loop-file-preserved : goal.loop-file-preserved
+loop-file-preserved g c = record {
+  so_far = SoFar-more _ _ c.loop-file.invariant.so_far (files-next c.args.named.now c.loop-file.file-index _ c.loop-file-test.true (search rules)) c.in_ok-read_next.ensures.whole;
+  tries = TriesOnly-one _ _ _ _ _ _ _ _ c.in_ok-read_next.ensures.whole (is_one_of c.args.named.now c.loop-file.file-index _ c.loop-file-test.true (search rules)) c.loop-file.invariant.tries c.read_next.ensures.tries;
+  none = λ empty.
+      let none : length c.args.named.now ≡ 0 = ap length empty in
+      absurd (omega (arith, none, c.loop-file-test.true));
+}
+
+pub returns-clause-reads : goal.returns-clause-reads
+returns-clause-reads g c = SoFar-end c.loop-file.invariant.so_far (files-none c.args.named.now c.loop-file.file-index c.loop-file-test.false)

@@ -1,9 +1,9 @@
 -- Each declaration is read behind those before; the end has read all.
 use Rattle.std.proofs.Common.{rules, ◌≡◌, ◌<◌, ◌≤◌, ◌∙◌, ◌+◌, List, ℕ, ap, get_or, length, subst, sym}
 use Rattle.lucid_parse_tree.specs.declared.tree.Decl.{Decl}
-use Rattle.lucid_types_rules.specs.Declaration.{parts_of}
-use Rattle.lucid_types_rules.specs.Makes.{IsTyped}
-use Rattle.lucid_types_function.specs.Declaration.{declaration}
+use Rattle.lucid_types_spec.specs.Declaration.{parts_of}
+use Rattle.lucid_types_spec.specs.Makes.{IsTyped}
+use Rattle.lucid_types_laws.specs.Declaration.{declaration}
 use Rattle.lucid_types_declarations.specs.Known.{made_of}
 use Rattle.lucid_types.proofs.Reading.{all_read, read_on, refused_here}
 use Rattle.lucid_types.proofs.program.elaborate.Goals as goal

@@ -1,6 +1,6 @@
 -- The widths so far, and those that are left.
 use Rattle.std.proofs.Common.{◌≡◌, ◌++◌, drop}
-use Rattle.lucid_types_rules.specs.Types.{cell_widths}
+use Rattle.lucid_types_spec.specs.Types.{cell_widths}
 use Rattle.lucid_types_declarations.proofs.parameters.cell_widths.Given as goal
 
 abbrev pub invariant-loop-param : goal.invariant-loop-param

@@ -1,6 +1,6 @@
 -- What is left of the parameters decides.
 use Rattle.std.proofs.Common.{◌≡◌, drop}
-use Rattle.lucid_types_function.specs.Declaration.{int_params}
+use Rattle.lucid_types_laws.specs.Declaration.{int_params}
 use Rattle.lucid_types_declarations.specs.Parameters.{with_widths}
 use Rattle.lucid_types_declarations.proofs.parameters.int_params.Given as goal
 

@@ -1,6 +1,6 @@
 -- What is left of the parameters decides; the names so far keep those before.
 use Rattle.std.proofs.Common.{◌≡◌, drop}
-use Rattle.lucid_types_function.specs.Declaration.{parameters}
+use Rattle.lucid_types_laws.specs.Declaration.{parameters}
 use Rattle.lucid_types_statements.specs.Kept.{Keeps}
 use Rattle.lucid_types_declarations.specs.Parameters.{with_params}
 use Rattle.lucid_types_declarations.proofs.parameters.parameters.Given as goal

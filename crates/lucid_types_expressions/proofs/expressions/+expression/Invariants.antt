@@ -1,7 +1,7 @@
 -- Measures: four times the depth of the tree, and a rank among the functions. Invariants: what is left decides.
 use Rattle.std.proofs.Common.{◌≡◌, ◌≤◌, ◌+◌, ◌*◌, max, length, drop, map}
 use Rattle.lucid_parse_tree.specs.declared.tree.A.TheViews.{size-E}
-use Rattle.lucid_types_function.specs.Reading.{all_free, given_all, reading}
+use Rattle.lucid_types_laws.specs.Reading.{all_free, given_all, reading}
 use Rattle.lucid_types_expressions.specs.Forms.{behind, with_front}
 use Rattle.lucid_types_expressions.proofs.expressions.+expression.Given as goal
 

@@ -1,6 +1,6 @@
 use Rattle.std.proofs.Common.{◌≡◌, ◌+◌, ◌*◌, take, true}
 use Rattle.std.specs.List.{list_all}
-use Rattle.lucid_types_rules.specs.Limits.{cases_are_few}
+use Rattle.lucid_types_spec.specs.Limits.{cases_are_few}
 use Rattle.lucid_types_limits.proofs.cases.+cases.Given as goal
 
 abbrev pub decreases-statement_is_few : goal.decreases-statement_is_few

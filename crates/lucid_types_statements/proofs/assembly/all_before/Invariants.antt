@@ -1,6 +1,6 @@
 -- What is left of the parts decides.
 use Rattle.std.proofs.Common.{◌≡◌, Some, length}
-use Rattle.lucid_types_function.specs.Statement.{onto}
+use Rattle.lucid_types_laws.specs.Statement.{onto}
 use Rattle.lucid_types_statements.specs.Assembly.{rest_of}
 use Rattle.lucid_types_statements.proofs.assembly.all_before.Given as goal
 

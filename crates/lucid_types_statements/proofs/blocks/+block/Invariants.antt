@@ -1,7 +1,7 @@
 -- What is left of the statements, or of the cases, decides; the names so far keep those of the block. Measures: four times the depth of
 -- the tree, and a rank among the functions.
 use Rattle.std.proofs.Common.{◌≡◌, ◌+◌, ◌*◌, drop, map}
-use Rattle.lucid_types_function.specs.Statement.{parts, taking}
+use Rattle.lucid_types_laws.specs.Statement.{parts, taking}
 use Rattle.lucid_types_scope.specs.Numbered.{numbered_of}
 use Rattle.lucid_types_statements.specs.MatchArms.{arms_of, cases_taken, with_arms, with_parts}
 use Rattle.lucid_types_statements.specs.Kept.{Keeps}

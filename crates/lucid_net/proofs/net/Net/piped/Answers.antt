@@ -1,7 +1,7 @@
 use Rattle.std.proofs.Common.{◌≡◌, ◌≤◌, ◌^◌, length, List, [], rules, ap, ◌∙◌, arith}
 use Rattle.lucid_conf.specs.declared.scene.FileEvent.{FileEvent}
 use Rattle.lucid_core.specs.declared.defs.EventDef.{EventDef}
-use Rattle.lucid_net_log.specs.Log.{file_events, put_all, whole}
+use Rattle.lucid_net_spec.specs.Log.{file_events, put_all, whole}
 use Rattle.lucid_net.proofs.Ended.{piped_start}
 use Rattle.lucid_net.proofs.Ready.{ready_placed}
 use Rattle.lucid_net.proofs.net.Net.piped.Goals as goal

@@ -1,8 +1,8 @@
 use Rattle.std.proofs.Common.{refl, subst, List, ℕ}
 use Rattle.lucid_io.proofs.Leaves.{Leaves-whole, Leaves-after}
-use Rattle.lucid_net_flight.specs.Runs.{late_text}
-use Rattle.lucid_net_log.specs.Log.{log}
-use Rattle.lucid_net_log.specs.Pieces.{pieces}
+use Rattle.lucid_net_laws.specs.Runs.{late_text}
+use Rattle.lucid_net_spec.specs.Log.{log}
+use Rattle.lucid_net_spec.specs.Pieces.{pieces}
 use Rattle.lucid_net.specs.Seen.{lag, last_text, network}
 use Rattle.lucid_net.specs.Writes.{Writes}
 use Rattle.lucid_net.proofs.Running.{log_is, same_last}

@@ -10,7 +10,7 @@ returns-clause-shows g c =
     let is : net ≡ c.args.self.now = c.self.view_is in
     subst (λ (s : Seen). ShowsAll (g.V.Watch.seen c.args.watch.now) (g.V.Watch.seen c.show.new.watch) (sights (network s) s.placed s.at)) is
     (subst (ShowsAll (g.V.Watch.seen c.args.watch.now) (g.V.Watch.seen c.show.new.watch))
-    (shown_is c.self.inside.world c.self.inside.machines c.self.inside.at (c.self.invariant.is (ap (λ (s : Seen). s.failed) is ∙ c.requires))) c.show.ensures.shows)
+    (shown_is c.self.inside.world c.self.inside.machines c.self.inside.at c.self.invariant.within (c.self.invariant.is (ap (λ (s : Seen). s.failed) is ∙ c.requires))) c.show.ensures.shows)
 
 pub returns-clause-still : goal.returns-clause-still
 returns-clause-still g c none = c.show.ensures.still (ap (λ (s : Seen). s.placed) c.self.view_is ∙ none)

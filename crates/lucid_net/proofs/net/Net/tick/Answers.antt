@@ -1,5 +1,5 @@
 use Rattle.std.proofs.Common.{◌≡◌, ◌≢◌, Result, Err, None, subst}
-use Rattle.lucid_net_flight.specs.Runs.{late_text}
+use Rattle.lucid_net_laws.specs.Runs.{late_text}
 use Rattle.lucid_net.specs.Seen.{Seen, lag, network}
 use Rattle.lucid_net.specs.Wanting.{SomeMade}
 use Rattle.lucid_net.specs.Writes.{Writes}

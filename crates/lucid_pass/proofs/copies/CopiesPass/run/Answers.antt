@@ -3,9 +3,9 @@ use Rattle.std.specs.List.{list_all}
 use Rattle.lucid_base.specs.Saturating.{saturating_sum}
 use Rattle.lucid_code.specs.declared.op.Op.{Op}
 use Rattle.lucid_code.specs.Parts.{made_of}
-use Rattle.lucid_pass_form.specs.Looks.{copies, changed}
-use Rattle.lucid_pass_form.specs.Replace.{MayReplace}
-use Rattle.lucid_pass_form.proofs.Looking.{copies_replaces}
+use Rattle.lucid_pass_spec.specs.Looks.{copies, changed}
+use Rattle.lucid_pass_spec.specs.Replace.{MayReplace}
+use Rattle.lucid_pass_spec.proofs.Looking.{copies_replaces}
 use Rattle.lucid_pass.specs.declared.looks.Looks.TheVariants.{Copied}
 use Rattle.lucid_pass.specs.Marks.{writes_below}
 use Rattle.lucid_pass.specs.Putting.{change_of}

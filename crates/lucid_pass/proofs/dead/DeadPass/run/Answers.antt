@@ -2,9 +2,9 @@ use Rattle.std.proofs.Common.{◌≡◌, ◌∙◌, sym, ap, ap₂, subst, lengt
 use Rattle.std.specs.List.{list_all}
 use Rattle.lucid_code.specs.declared.op.Op.{Op}
 use Rattle.lucid_code.specs.Parts.{made_of}
-use Rattle.lucid_pass_form.specs.Dead.{live}
-use Rattle.lucid_pass_form.specs.Replace.{MayReplace}
-use Rattle.lucid_pass_form.proofs.Gone.{dead_replaces}
+use Rattle.lucid_pass_spec.specs.Dead.{live}
+use Rattle.lucid_pass_spec.specs.Replace.{MayReplace}
+use Rattle.lucid_pass_spec.proofs.Gone.{dead_replaces}
 use Rattle.lucid_pass.specs.Marks.{writes_below}
 use Rattle.lucid_pass.proofs.Backs.{all_below}
 use Rattle.lucid_pass.proofs.dead.DeadPass.run.Goals as goal

@@ -3,9 +3,9 @@ use Rattle.std.specs.List.{list_all}
 use Rattle.lucid_base.specs.Saturating.{saturating_sum}
 use Rattle.lucid_code.specs.declared.op.Op.{Op}
 use Rattle.lucid_code.specs.Parts.{made_of}
-use Rattle.lucid_pass_form.specs.Direct.{direct, direct_ops}
-use Rattle.lucid_pass_form.specs.Replace.{MayReplace}
-use Rattle.lucid_pass_form.proofs.DirectRuns.{direct_replaces}
+use Rattle.lucid_pass_spec.specs.Direct.{direct, direct_ops}
+use Rattle.lucid_pass_spec.specs.Replace.{MayReplace}
+use Rattle.lucid_pass_spec.proofs.DirectRuns.{direct_replaces}
 use Rattle.lucid_pass.specs.Marks.{writes_below}
 use Rattle.lucid_pass.proofs.Backs.{all_below}
 use Rattle.lucid_pass.proofs.direct.DirectPass.run.Goals as goal

@@ -1,7 +1,7 @@
 use Rattle.std.proofs.Common.{◌≡◌, List, Ok, Result, ap, subst, rules}
 use Rattle.lucid_io.specs.Puts.{PutsAll, PutsPart}
 use Rattle.lucid_log_tally.specs.Bench.{bench_line}
-use Rattle.lucid_net_log.specs.Log.{log}
+use Rattle.lucid_net_spec.specs.Log.{log}
 use Rattle.lucid_pipe.specs.declared.sight.Sight.{Sight}
 use Rattle.lucid_top_words.specs.declared.refusal.Refusal.{Refusal}
 use Rattle.lucid_top_words.specs.declared.refusal.Refusal.TheVariants as refusal

@@ -1,8 +1,8 @@
 use Rattle.std.proofs.Common.{◌≡◌, List, inr, Ok, Err, Result, subst, rules}
 use Rattle.lucid_net.specs.Wanting.{MayStop}
 use Rattle.lucid_net.specs.Writes.{Writes}
-use Rattle.lucid_net_log.specs.Log.{log}
-use Rattle.lucid_net_log.specs.Ways.{Network}
+use Rattle.lucid_net_spec.specs.Log.{log}
+use Rattle.lucid_net_spec.specs.Ways.{Network}
 use Rattle.lucid_pipe.specs.declared.sight.Sight.{Sight}
 use Rattle.lucid_top_words.specs.declared.refusal.Refusal.{Refusal}
 use Rattle.lucid_top_words.specs.Outcome.{Outcome}

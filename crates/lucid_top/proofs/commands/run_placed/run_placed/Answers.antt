@@ -1,5 +1,5 @@
 use Rattle.std.proofs.Common.{◌≡◌, Ok, Result, List, rules}
-use Rattle.lucid_net_log.specs.Log.{log}
+use Rattle.lucid_net_spec.specs.Log.{log}
 use Rattle.lucid_pipe.specs.declared.sight.Sight.{Sight}
 use Rattle.lucid_top_fit.specs.Passes.{passes_view}
 use Rattle.lucid_top_words.specs.declared.refusal.Refusal.{Refusal}

@@ -3,7 +3,7 @@ use Rattle.lucid_io.proofs.Leaves.{Leaves-whole}
 use Rattle.lucid_net.specs.Writes.{Writes}
 use Rattle.lucid_net.specs.declared.error.NetError.{NetError}
 use Rattle.lucid_net.specs.declared.error.NetError.TheVariants as net
-use Rattle.lucid_net_log.specs.Log.{log, whole}
+use Rattle.lucid_net_spec.specs.Log.{log, whole}
 use Rattle.lucid_top.proofs.commands.run_whole.put.Goals as goal
 
 pub returns-in_err-net : goal.returns-in_err-net

@@ -1,5 +1,5 @@
 use Rattle.std.proofs.Common.{Ok, Err, rules}
-use Rattle.lucid_net_log.specs.Log.{log, whole}
+use Rattle.lucid_net_spec.specs.Log.{log, whole}
 use Rattle.lucid_top_words.specs.Files.{texts_in}
 use Rattle.lucid_top_words.specs.Outcome.{IsTheAnswer}
 use Rattle.lucid_top_words.specs.Words.{word_at}

@@ -1,5 +1,5 @@
 use Rattle.std.proofs.Common.{◌≡◌, ℕ, List, Ok, rules}
-use Rattle.lucid_net_log.specs.Log.{log, whole}
+use Rattle.lucid_net_spec.specs.Log.{log, whole}
 use Rattle.lucid_top_program.specs.Settings.{IsScenario}
 use Rattle.lucid_top_words.specs.Outcome.{Outcome}
 use Rattle.lucid_top_words.proofs.Parts.{Prepares-err, Prepares-ok, one-text}

@@ -1,7 +1,7 @@
 -- What stands at the place of the name.
 use Rattle.std.proofs.Common.{◌∙◌, Some, ap, sym, arith}
 use Rattle.std.proofs.lemmas.Grind.{common_steps}
-use Rattle.lucid_types_rules.specs.Names.{seen}
+use Rattle.lucid_types_spec.specs.Names.{seen}
 use Rattle.lucid_types_scope.proofs.Places.{place_within, found_there, not_found}
 use Rattle.lucid_types_scope.specs.declared.scope.Kept.{Kept}
 use Rattle.lucid_types_scope.proofs.scope.Scope.find.Goals as goal

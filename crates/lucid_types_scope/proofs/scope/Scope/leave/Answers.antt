@@ -1,6 +1,6 @@
 -- One name less.
 use Rattle.std.proofs.Common.{◌∙◌, ◌<◌, ◌-◌, ℕ, ap, drop, length, subst}
-use Rattle.lucid_types_rules.specs.Names.{Names}
+use Rattle.lucid_types_spec.specs.Names.{Names}
 use Rattle.lucid_types_scope.proofs.Places.{one_less}
 use Rattle.lucid_types_scope.proofs.scope.Scope.leave.Goals as goal
 

@@ -1,4 +1,0 @@
-pub mod EveryKey
-mod Looks
-mod Numbers
-mod Spelled

@@ -1,0 +1,6 @@
+use Rattle.std.proofs.Common.{◌≡◌, true}
+use Rattle.lucid_constraints.specs.Cover.{GlobalsHeld}
+use Rattle.lucid_constraints.proofs.cover.globals_held.Given as goal
+
+abbrev pub invariant-loop-n : goal.invariant-loop-n
+invariant-loop-n l = l.all ≡ true → GlobalsHeld l.theirs l.from l.ours l.to l.n

@@ -1,5 +1,0 @@
-use Rattle.std.proofs.Common.{length}
-use Rattle.lucid_core.proofs.rooms.without_items.Given as goal
-
-abbrev pub decreases-loop : goal.decreases-loop
-decreases-loop l = length l.left

@@ -1,0 +1,60 @@
+// Scratch lists of a run, kept from one run to the next, so that they are allocated once.
+ghost use Rattle.std.specs.Prelude.{◌≡◌, []};
+
+use crate::draft::Draft;
+use crate::run::Write;
+use lucid_base::{Bits, Items};
+use std::alloc::Global;
+
+/// Scratch lists for the locals of a handler, for the cells that it writes and for what it sends. A caller that runs many events keeps one.
+/// Each run begins by clearing them.
+#[derive(Drop)]
+pub struct Scratch {
+    pub(crate) locals: Items<Bits>,
+    pub(crate) writes: Vec<Write>,
+    pub(crate) outs: Vec<Draft>,
+}
+
+impl Scratch {
+    /// Returns empty lists. Allocates nothing.
+    pub fn new(alloc: Global) -> Scratch
+        ensures locals { result.locals ≡ [] }
+        ensures writes { result.writes.items ≡ [] }
+        ensures outs { result.outs.items ≡ [] }
+    {
+        Scratch {
+            locals: Items::new(alloc),
+            writes: Vec::new(alloc),
+            outs: Vec::new(alloc),
+        }
+    }
+
+    /// Returns the lists emptied, with their memory.
+    pub(crate) fn emptied(self) -> Scratch
+        ensures locals { result.locals ≡ [] }
+        ensures writes { result.writes.items ≡ [] }
+        ensures outs { result.outs.items ≡ [] }
+    {
+        let Scratch {
+            locals,
+            mut writes,
+            mut outs,
+        } = self;
+        writes.clear();
+        outs.clear();
+        Scratch {
+            locals: without_items(locals),
+            writes,
+            outs,
+        }
+    }
+}
+
+/// Returns the list emptied, with its memory.
+fn without_items(items: Items<Bits>) -> Items<Bits>
+    ensures { result ≡ [] }
+{
+    let mut left = items;
+    while let Some(_) = left.pop() {}
+    left
+}

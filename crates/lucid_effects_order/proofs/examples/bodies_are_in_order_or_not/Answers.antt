@@ -1,5 +1,0 @@
-use Rattle.lucid_effects_order.proofs.OrderProofs.{order_examples}
-use Rattle.lucid_effects_order.proofs.examples.bodies_are_in_order_or_not.Goals as goal
-
-pub returns : goal.returns
-returns c = order_examples

@@ -1,5 +1,0 @@
-use Rattle.lucid_effects_order.proofs.PathProofs.{path_examples}
-use Rattle.lucid_effects_order.proofs.examples.paths_are_as_worked_by_hand.Goals as goal
-
-pub returns : goal.returns
-returns c = path_examples

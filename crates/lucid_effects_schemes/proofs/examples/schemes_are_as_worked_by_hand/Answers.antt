@@ -1,5 +1,0 @@
-use Rattle.lucid_effects_schemes.proofs.ExampleProofs.{scheme_examples}
-use Rattle.lucid_effects_schemes.proofs.examples.schemes_are_as_worked_by_hand.Goals as goal
-
-pub returns : goal.returns
-returns c = scheme_examples

@@ -1,5 +1,0 @@
-use Rattle.lucid_effects_schemes.proofs.Costs.{walks_are_short}
-use Rattle.lucid_effects_schemes.proofs.laws.walks_are_short.Goals as goal
-
-pub returns : goal.returns
-returns c = walks_are_short c.args.core.now c.arrays-valid.ensures.valid.sound

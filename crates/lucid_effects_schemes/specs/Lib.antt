@@ -1,4 +1,0 @@
-pub mod Examples
-pub mod Laws
-pub mod Principal
-pub mod Schemes

@@ -1,6 +1,0 @@
-// Examples of schemes: computed from the definitions, so nothing runs.
-ghost use Rattle.lucid_effects_schemes.specs.Examples.{SchemeExamples};
-
-fn schemes_are_as_worked_by_hand()
-    ensures { SchemeExamples }
-{}

@@ -1,0 +1,13 @@
+pub mod Cycle
+pub mod Ends
+pub mod Evaluation
+pub mod Examples
+pub mod Laws
+pub mod Order
+pub mod Paths
+pub mod Principal
+pub mod Refused
+pub mod SchemeExamples
+pub mod SchemeLaws
+pub mod Schemes
+pub mod Size

@@ -1,0 +1,25 @@
+-- Where the code puts a body in, as the definition has it, and what a group becomes.
+use Rattle.std.specs.Prelude.{ℕ, List, Bool, Option, map}
+use Rattle.std.specs.List.{enumerate_from}
+use Rattle.lucid_core.specs.declared.body.Expr.{Expr}
+use Rattle.lucid_core.specs.declared.body.Stmt.{Stmt}
+use Rattle.lucid_core.specs.declared.body.Expr.TheOpen.{Stmt-F}
+use Rattle.lucid_core.specs.declared.body.Expr.TheViews.{roll-Expr, roll-Stmt}
+use Rattle.lucid_inline_spec.specs.Flat as f
+use Rattle.lucid_inline_spec.specs.Flat.{Flattened, PutIn, put_in, puts_of, to_member}
+use Rattle.lucid_inline.specs.declared.site.Site.{Site}
+
+abbrev pub place : Site → f.Site
+place site = record { arrays = site.arrays.now; first = site.first; funs = puts_of site.funs.now }
+
+-- A call of this function, with these arrays and arguments, behind these locals.
+abbrev pub called : Option PutIn → List ℕ → List Expr → List ℕ → Flattened Expr
+called f arrays args ws = let made = put_in f arrays args ws in record { value = roll-Expr made.value; locals = made.locals }
+
+-- An assignment of each to the next local, from b on.
+abbrev pub assigned : ℕ → List Expr → List Stmt
+assigned b xs = map (λ g. roll-Stmt (Stmt-F.Assign g.0 g.1)) (enumerate_from b xs)
+
+-- An event to each member.
+abbrev pub sent : ℕ → ℕ → ℕ → Bool → List ℕ → List Stmt
+sent event b n delayed members = map (λ m. roll-Stmt (to_member event b n delayed m)) members

@@ -1,0 +1,298 @@
+// Bodies with their calls put in: a function a form. How much deeper parts may stand in one another, `left` says.
+ghost use Rattle.std.specs.Prelude.{◌≡◌, IfOk, OnOk, map, option_map, slice_get};
+ghost use Rattle.lucid_core.specs.declared.body.Expr.TheViews.{roll-Expr};
+ghost use Rattle.lucid_inline_spec.specs.Flat.{block as block_of, both, each, flat_expr, flat_stmt, flat_touch, optional as optional_of};
+ghost use Rattle.lucid_inline_spec.specs.Flat.{put_in, puts_of};
+ghost use Rattle.lucid_inline.specs.Numbers.{FewBoth, FewExpr, FewExprs, FewOptional, FewStmts, FewTouch};
+ghost use Rattle.lucid_inline.specs.Sites.{called, place};
+
+use crate::group::{group, numbered};
+use crate::single::{assigning, branching, dropping, returning, saying, sending};
+use crate::site::{Site, array_at, arrays_at, earlier, number};
+use lucid_base::{ArrayName, Boxed, Items, Memory, Width};
+use lucid_core::{Expr, Stmt, Touch, below};
+
+/// An expression of the body, behind these locals of the handler.
+#[cycle(flatten)]
+fn expr(site: Site, left: u32, locals: &mut Items<Width>, e: &Expr) -> Result<Expr, Memory>
+    requires { FewExpr (flat_expr e.now (place site) locals.now) }
+    ensures value { IfOk result (λ x. x ≡ (flat_expr e.now (place site.entry) locals.old).value) }
+    ensures locals { OnOk result (locals.new ≡ (flat_expr e.now (place site.entry) locals.old).locals) }
+{
+    let left = below(left, 1)?;
+    match e {
+        Expr::Fixed(n) => Ok(Expr::Fixed(*n)),
+        Expr::Local(i) => Ok(Expr::Local(site.first + *i)),
+        Expr::Now => Ok(Expr::Now),
+        Expr::Me => Ok(Expr::Me),
+        Expr::Un(op, a) => {
+            let a = boxed(site, left, locals, a.get())?;
+            Ok(Expr::Un(*op, a))
+        }
+        Expr::Bin(op, a, b) => {
+            let a = boxed(site, left, locals, a.get())?;
+            let b = boxed(site, left, locals, b.get())?;
+            Ok(Expr::Bin(*op, a, b))
+        }
+        Expr::Cmp(op, a, b) => {
+            let a = boxed(site, left, locals, a.get())?;
+            let b = boxed(site, left, locals, b.get())?;
+            Ok(Expr::Cmp(*op, a, b))
+        }
+        Expr::Cast(width, a) => {
+            let a = boxed(site, left, locals, a.get())?;
+            Ok(Expr::Cast(*width, a))
+        }
+        Expr::Hash(width, xs) => {
+            let xs = exprs(site, left, locals, xs.as_slice())?;
+            Ok(Expr::Hash(*width, Items::from_vec(xs)))
+        }
+        Expr::Array(t) => {
+            let t = touch(site, left, locals, t.get())?;
+            Ok(Expr::Array(t))
+        }
+        Expr::Fun(k, names, args) => {
+            let args = exprs(site, left, locals, args.as_slice())?;
+            let arrays = arrays_at(site.alloc, site.arrays, names.as_slice())?;
+            put(site, left, locals, *k, arrays.as_slice(), args)
+        }
+        Expr::Inlined(_, _) => Ok(Expr::Inlined(Items::new(site.alloc), Items::new(site.alloc))),
+    }
+}
+
+/// An operand. It is a function of its own, so that `expr` holds no expression on the stack, where it stands as often as these are deep.
+#[cycle(flatten)]
+#[inline(never)]
+fn boxed(site: Site, left: u32, locals: &mut Items<Width>, e: &Expr) -> Result<Boxed<Expr>, Memory>
+    requires { FewExpr (flat_expr e.now (place site) locals.now) }
+    ensures value { IfOk result (λ x. x ≡ (flat_expr e.now (place site.entry) locals.old).value) }
+    ensures locals { OnOk result (locals.new ≡ (flat_expr e.now (place site.entry) locals.old).locals) }
+{
+    let x = expr(site, left, locals, e)?;
+    Ok(Boxed::new(site.alloc, x)?)
+}
+
+#[cycle(flatten)]
+#[inline(never)]
+fn touch(
+    site: Site,
+    left: u32,
+    locals: &mut Items<Width>,
+    t: &Touch,
+) -> Result<Boxed<Touch>, Memory>
+    requires { FewTouch (flat_touch t.now (place site) locals.now) }
+    ensures value { IfOk result (λ x. x ≡ (flat_touch t.now (place site.entry) locals.old).value) }
+    ensures locals { OnOk result (locals.new ≡ (flat_touch t.now (place site.entry) locals.old).locals) }
+{
+    let index = expr(site, left, locals, &t.index)?;
+    let get_arg = expr(site, left, locals, &t.get_arg)?;
+    let set_arg = expr(site, left, locals, &t.set_arg)?;
+    let made = Touch {
+        array: ArrayName::Global(array_at(site.arrays, t.array)),
+        index,
+        get: t.get,
+        get_arg,
+        set: t.set,
+        set_arg,
+        answers: t.answers,
+    };
+    Ok(Boxed::new(site.alloc, made)?)
+}
+
+#[cycle(flatten)]
+#[inline(never)]
+fn exprs(site: Site, left: u32, locals: &mut Items<Width>, es: &[Expr]) -> Result<Vec<Expr>, Memory>
+    requires { FewExprs (each (map flat_expr es.now) (place site) locals.now) }
+    ensures value { IfOk result (λ xs. xs.items ≡ (each (map flat_expr es.now) (place site.entry) locals.old).value) }
+    ensures locals { OnOk result (locals.new ≡ (each (map flat_expr es.now) (place site.entry) locals.old).locals) }
+{
+    let mut xs = Vec::new(site.alloc);
+    for e in es {
+        xs.push(expr(site, left, locals, e)?)?;
+    }
+    Ok(xs)
+}
+
+/// An operand that may be left out.
+#[cycle(flatten)]
+#[inline(never)]
+fn optional(
+    site: Site,
+    left: u32,
+    locals: &mut Items<Width>,
+    e: &Option<Expr>,
+) -> Result<Option<Expr>, Memory>
+    requires { FewOptional (optional_of (option_map flat_expr e.now) (place site) locals.now) }
+    ensures value { IfOk result (λ x. x ≡ (optional_of (option_map flat_expr e.now) (place site.entry) locals.old).value) }
+    ensures locals { OnOk result (locals.new ≡ (optional_of (option_map flat_expr e.now) (place site.entry) locals.old).locals) }
+{
+    match e {
+        None => Ok(None),
+        Some(e) => {
+            let x = expr(site, left, locals, e)?;
+            Ok(Some(x))
+        }
+    }
+}
+
+/// A delay and a target, the delay first where the test holds.
+#[cycle(flatten)]
+#[inline(never)]
+fn delay_and_target(
+    site: Site,
+    left: u32,
+    locals: &mut Items<Width>,
+    delay: &Option<Expr>,
+    to: &Option<Expr>,
+    delay_first: bool,
+) -> Result<(Option<Expr>, Option<Expr>), Memory>
+    requires { FewBoth (both delay_first (optional_of (option_map flat_expr delay.now)) (optional_of (option_map flat_expr to.now)) (place site) locals.now) }
+    ensures value { IfOk result (λ x. x ≡ (both delay_first
+        (optional_of (option_map flat_expr delay.now)) (optional_of (option_map flat_expr to.now)) (place site.entry) locals.old).value) }
+    ensures locals { OnOk result (locals.new ≡ (both delay_first
+        (optional_of (option_map flat_expr delay.now)) (optional_of (option_map flat_expr to.now)) (place site.entry) locals.old).locals) }
+{
+    if delay_first {
+        let delay = optional(site, left, locals, delay)?;
+        let to = optional(site, left, locals, to)?;
+        Ok((delay, to))
+    } else {
+        let to = optional(site, left, locals, to)?;
+        let delay = optional(site, left, locals, delay)?;
+        Ok((delay, to))
+    }
+}
+
+/// Statements of the body, behind these locals of the handler.
+#[cycle(flatten)]
+pub fn block(
+    site: Site,
+    left: u32,
+    locals: &mut Items<Width>,
+    stmts: &[Stmt],
+) -> Result<Items<Stmt>, Memory>
+    requires { FewStmts (block_of (map flat_stmt stmts.now) (place site) locals.now) }
+    ensures value { IfOk result (λ ss. ss ≡ (block_of (map flat_stmt stmts.now) (place site.entry) locals.old).value) }
+    ensures locals { OnOk result (locals.new ≡ (block_of (map flat_stmt stmts.now) (place site.entry) locals.old).locals) }
+{
+    let mut ss = Items::new(site.alloc);
+    for s in stmts {
+        ss.append(stmt(site, left, locals, s)?)?;
+    }
+    Ok(ss)
+}
+
+#[cycle(flatten)]
+#[inline(never)]
+fn stmt(site: Site, left: u32, locals: &mut Items<Width>, s: &Stmt) -> Result<Items<Stmt>, Memory>
+    requires { FewStmts (flat_stmt s.now (place site) locals.now) }
+    ensures value { IfOk result (λ ss. ss ≡ (flat_stmt s.now (place site.entry) locals.old).value) }
+    ensures locals { OnOk result (locals.new ≡ (flat_stmt s.now (place site.entry) locals.old).locals) }
+{
+    let left = below(left, 1)?;
+    match s {
+        Stmt::Assign(i, e) => {
+            let e = expr(site, left, locals, e)?;
+            assigning(site.alloc, site.first + *i, e)
+        }
+        Stmt::Drop(e) => {
+            let e = expr(site, left, locals, e)?;
+            dropping(site.alloc, e)
+        }
+        Stmt::If(e, yes, no) => {
+            let left = below(left, 1)?;
+            let e = expr(site, left, locals, e)?;
+            let yes = block(site, left, locals, yes.as_slice())?;
+            let no = block(site, left, locals, no.as_slice())?;
+            branching(site.alloc, e, yes, no)
+        }
+        Stmt::Gen {
+            event,
+            args,
+            delay,
+            to,
+            delay_first,
+        } => {
+            let args = exprs(site, left, locals, args.as_slice())?;
+            let given = delay_and_target(site, left, locals, delay, to, *delay_first)?;
+            let args = Items::from_vec(args);
+            sending(site.alloc, *event, args, given, *delay_first)
+        }
+        Stmt::Multi {
+            event,
+            args,
+            delay,
+            members,
+        } => match delay {
+            None => {
+                let held = exprs(site, left, locals, args.as_slice())?;
+                group(
+                    site.alloc,
+                    locals,
+                    *event,
+                    held,
+                    args.len(),
+                    false,
+                    members.as_slice(),
+                )
+            }
+            Some(delay) => {
+                let mut held = exprs(site, left, locals, args.as_slice())?;
+                let last = expr(site, left, locals, delay)?;
+                held.push(last)?;
+                group(
+                    site.alloc,
+                    locals,
+                    *event,
+                    held,
+                    args.len(),
+                    true,
+                    members.as_slice(),
+                )
+            }
+        },
+        Stmt::Say { form, args } => {
+            let args = exprs(site, left, locals, args.as_slice())?;
+            saying(site.alloc, *form, Items::from_vec(args))
+        }
+        Stmt::Return(e) => {
+            let e = optional(site, left, locals, e)?;
+            returning(site.alloc, e)
+        }
+    }
+}
+
+/// A call of function `k` with these arrays and arguments.
+#[cycle(flatten)]
+#[inline(never)]
+fn put(
+    site: Site,
+    left: u32,
+    locals: &mut Items<Width>,
+    k: u32,
+    arrays: &[u32],
+    args: Vec<Expr>,
+) -> Result<Expr, Memory>
+    requires { FewExpr (called (slice_get (puts_of site.funs.now) k) arrays.now args.items locals.now) }
+    ensures value { IfOk result (λ x. x
+        ≡ roll-Expr (put_in (slice_get (puts_of site.entry.funs.now) k) arrays.now args.items locals.old).value) }
+    ensures locals { OnOk result (locals.new
+        ≡ (put_in (slice_get (puts_of site.entry.funs.now) k) arrays.now args.items locals.old).locals) }
+{
+    let first = number(locals.len());
+    let given = numbered(site.alloc, first, args)?;
+    match earlier(site.funs, k) {
+        None => Ok(Expr::Inlined(given, Items::new(site.alloc))),
+        Some((funs, f)) => {
+            locals.append(Items::from_slice(site.alloc, f.locals.as_slice())?)?;
+            let inner = Site {
+                arrays,
+                first,
+                funs,
+                ..site
+            };
+            let body = block(inner, left, locals, f.body.as_slice())?;
+            Ok(Expr::Inlined(given, body))
+        }
+    }
+}

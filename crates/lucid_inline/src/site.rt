@@ -1,0 +1,64 @@
+// Where a body is put in.
+ghost use Rattle.std.specs.Prelude.{◌≡◌, ◌≤◌, IfOk, IfSome, map, slice_get, take};
+ghost use Rattle.std.specs.Option.{option_map};
+ghost use Rattle.lucid_core.specs.Computations.{array_of};
+ghost use Rattle.lucid_inline.specs.Numbers.{most};
+
+use lucid_base::{ArrayName, Items, Memory};
+use lucid_core::FunDef;
+use std::alloc::Global;
+
+/// Where a body is put in: the arrays that its array parameters stand for, the number of its first local, and the functions before it.
+#[derive(Clone, Copy)]
+pub struct Site<'a> {
+    pub alloc: Global,
+    pub arrays: &'a [u32],
+    pub first: u32,
+    pub funs: &'a [FunDef],
+}
+
+/// A number of locals as the number of the next one.
+pub fn number(n: usize) -> u32
+    requires { n ≤ most }
+    ensures { result ≡ n }
+{
+    n as u32
+}
+
+/// Function `k` with the functions before it, where it is there.
+#[inline(never)]
+pub fn earlier(funs: &[FunDef], k: u32) -> Option<(&[FunDef], &FunDef)>
+    ensures fun { option_map (λ x. x.1.now) result ≡ slice_get funs.now k }
+    ensures before { IfSome result (λ x. x.0.now ≡ take k funs.now) }
+{
+    if (k as usize) < funs.len() {
+        Some((&funs[..k as usize], &funs[k as usize]))
+    } else {
+        None
+    }
+}
+
+/// What names of arrays stand for, where array parameters stand for these.
+#[inline(never)]
+pub fn arrays_at(alloc: Global, arrays: &[u32], names: &[ArrayName]) -> Result<Items<u32>, Memory>
+    ensures { IfOk result (λ found. found ≡ map (array_of arrays.now) names.now) }
+{
+    let mut found = Items::new(alloc);
+    for name in names {
+        found.push(array_at(arrays, *name))?;
+    }
+    Ok(found)
+}
+
+/// What a name stands for.
+pub fn array_at(arrays: &[u32], name: ArrayName) -> u32
+    ensures { result ≡ array_of arrays.now name }
+{
+    match name {
+        ArrayName::Global(a) => a,
+        ArrayName::Param(i) => match arrays.get(i as usize) {
+            None => 0,
+            Some(a) => *a,
+        },
+    }
+}

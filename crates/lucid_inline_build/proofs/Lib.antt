@@ -1,4 +1,0 @@
-pub mod Puts
-mod Fewer
-mod SmallCores
-mod Sizes

@@ -1,7 +1,0 @@
-use Rattle.std.proofs.Common.{arith}
-use Rattle.std.proofs.lemmas.Grind.{common_steps}
-use Rattle.lucid_inline_build.proofs.Puts.{one_more}
-use Rattle.lucid_inline_build.proofs.group.numbered.Goals as goal
-
-pub loop-arg-preserved : goal.loop-arg-preserved
-loop-arg-preserved c = grind (arith, common_steps, one_more)

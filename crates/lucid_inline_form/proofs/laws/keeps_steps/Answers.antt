@@ -1,5 +1,0 @@
-use Rattle.lucid_inline_form.proofs.Steps as steps
-use Rattle.lucid_inline_form.proofs.laws.keeps_steps.Goals as goal
-
-pub returns : goal.returns
-returns c = steps.flat_steps c.args.core.now c.arrays-valid.ensures.valid

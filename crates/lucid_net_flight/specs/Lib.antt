@@ -1,9 +1,0 @@
-pub mod Behind
-pub mod Draining
-pub mod Entering
-pub mod Few
-pub mod Fitting
-pub mod Flying
-pub mod Runs
-pub mod Stages
-pub mod Whole

@@ -1,0 +1,12 @@
+pub mod Behind
+pub mod Does
+pub mod Draining
+pub mod Entering
+pub mod Few
+pub mod Fitting
+pub mod Flying
+pub mod PipeStages
+pub mod Rows
+pub mod Runs
+pub mod Stages
+pub mod Whole

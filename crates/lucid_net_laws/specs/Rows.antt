@@ -1,0 +1,32 @@
+-- A pipe by its rows: at each stage the cells of the stage, and the packet that is there.
+use Rattle.std.specs.Prelude.{ℕ, List, map}
+use Rattle.lucid_base.specs.Cells.{zero_cells}
+use Rattle.lucid_pipe.specs.Packets.{Packet}
+use Rattle.lucid_pipe.specs.Pipe.{PipeParts}
+use Rattle.lucid_pipe.specs.Rows.{by_array, owns, pipe_rows, steps_of}
+use Rattle.lucid_pipe_laws.specs.Rows.{Row, Steps}
+use Rattle.lucid_tables.specs.Placed.{PlacedParts}
+
+abbrev pub Cells : Type 0
+Cells = List (List ℕ)
+
+abbrev pub Rows : Type 0
+Rows = List (Row Cells Packet)
+
+-- What a stage of the code makes of its cells and a packet; the cells of each stage, all 0; the cells by array, of those by stage; and the rows of a
+-- pipe. They don't unfold, so that what is said of networks by them stays as short as it is.
+unfoldable pub step_of : PlacedParts → Steps Cells Packet
+step_of placed = steps_of placed.code placed.stages
+
+unfoldable pub first_cells : PlacedParts → List Cells
+first_cells placed = owns placed.stages (zero_cells placed.code.arrays)
+
+unfoldable pub cells_of : PlacedParts → List Cells → Cells
+cells_of placed cs = by_array placed.code.arrays placed.stages cs
+
+unfoldable pub rows_in : PipeParts → Rows
+rows_in pipe = pipe_rows pipe
+
+-- The pipe of these rows.
+abbrev pub with_rows : PlacedParts → Rows → PipeParts
+with_rows placed rows = record { placed = placed; cells = cells_of placed (map (λ r. r.cells) rows); slots = map (λ r. r.slot) rows }

@@ -1,5 +1,0 @@
-use Rattle.lucid_net_log.proofs.Numbers.{by_number}
-use Rattle.lucid_net_log.proofs.laws.turns_go_by_number.Goals as goal
-
-pub returns : goal.returns
-returns c = by_number

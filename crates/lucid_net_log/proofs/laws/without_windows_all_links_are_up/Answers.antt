@@ -1,5 +1,0 @@
-use Rattle.lucid_net_log.proofs.Windows.{no_windows}
-use Rattle.lucid_net_log.proofs.laws.without_windows_all_links_are_up.Goals as goal
-
-pub returns : goal.returns
-returns c = no_windows

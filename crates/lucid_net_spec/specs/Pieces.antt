@@ -1,0 +1,21 @@
+-- Texts, piece after piece.
+use Rattle.std.specs.Prelude.{ℕ, zero, suc, ◌+◌, List, [], ◌++◌}
+use Rattle.lucid_net_spec.specs.Log.{State, ticks, turn, turns}
+use Rattle.lucid_net_spec.specs.Ways.{Network}
+
+-- `count` pieces from this number on.
+abbrev pub pieces : (ℕ → List ℕ) → ℕ → ℕ → List ℕ
+pieces piece from zero = []
+pieces piece from (suc count) = piece from ++ pieces piece (from + 1) count
+
+-- The state with nothing written.
+abbrev pub untold : State → State
+untold now = record { cells = now.cells; pending = now.pending; text = []; entered = now.entered; lost = now.lost }
+
+-- What the turn of a switch writes, of those of a tick that begin at this state.
+abbrev pub turn_text : Network → ℕ → State → ℕ → List ℕ
+turn_text net tick now switch = (turn net tick switch (untold (turns net tick switch now))).text
+
+-- What a tick writes.
+abbrev pub tick_text : Network → ℕ → List ℕ
+tick_text net tick = (turns net tick net.scene.switches (untold (ticks net tick))).text

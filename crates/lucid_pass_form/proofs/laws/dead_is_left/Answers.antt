@@ -1,5 +1,0 @@
-use Rattle.lucid_pass_form.proofs.Left.{dead_is_left}
-use Rattle.lucid_pass_form.proofs.laws.dead_is_left.Goals as goal
-
-pub returns : goal.returns
-returns c = dead_is_left c.args.code.now c.ops-valid.ensures.valid

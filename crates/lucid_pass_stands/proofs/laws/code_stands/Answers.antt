@@ -1,5 +1,0 @@
-use Rattle.lucid_pass_stands.proofs.Composed.{code_stands}
-use Rattle.lucid_pass_stands.proofs.laws.code_stands.Goals as goal
-
-pub returns : goal.returns
-returns c = code_stands c.args.core.now c.keeps_steps.ensures c.flat_is_valid.ensures

@@ -1,0 +1,68 @@
+// What seeds a table, and the hashers that it then has.
+ghost use Rattle.std.specs.Prelude.{◌≡◌};
+ghost use Rattle.std.specs.Hash.DefaultHasher.{initial};
+ghost use Rattle.lucid_seed.specs.Started.{started, with_part};
+
+use std::hash::{BuildHasher, DefaultHasher, Hasher};
+
+/// What a table is seeded by, taken in part after part.
+#[derive(Clone, Copy)]
+pub struct Seed {
+    pub parts: DefaultHasher,
+}
+
+impl Seed {
+    /// Before the first part.
+    pub fn new() -> Seed
+        ensures { result.parts ≡ initial }
+    {
+        Seed {
+            parts: DefaultHasher::new(),
+        }
+    }
+
+    /// Takes in one part more, and where it ends.
+    pub fn add(&mut self, bytes: &[u8])
+        ensures { self.new.parts ≡ with_part self.old.parts bytes.now }
+    {
+        self.parts.write(bytes);
+        self.parts.write(&[255]);
+    }
+
+    /// What makes the hashers of a table with this seed.
+    pub fn hashers(&self) -> Seeded
+        ensures { result.start ≡ started self.now.parts }
+    {
+        let seed = self.parts.finish();
+        let mut start = DefaultHasher::new();
+        start.write(&seed.to_le_bytes());
+        Seeded { start }
+    }
+}
+
+/// Makes hashers that have all taken in one seed.
+#[derive(Clone, Copy)]
+pub struct Seeded {
+    pub start: DefaultHasher,
+}
+
+impl Seeded {
+    /// Seeded by this text.
+    pub fn by(text: &[u8]) -> Seeded
+        ensures { result.start ≡ started (with_part initial text.now) }
+    {
+        let mut seed = Seed::new();
+        seed.add(text);
+        seed.hashers()
+    }
+}
+
+impl BuildHasher for Seeded {
+    type Hasher = DefaultHasher;
+
+    ghost build_hasher = { λ s. s.start };
+
+    fn build_hasher(&self) -> DefaultHasher {
+        self.start
+    }
+}

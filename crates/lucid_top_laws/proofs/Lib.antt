@@ -1,0 +1,8 @@
+mod Declares
+mod Empty
+mod Entering
+pub mod Moving
+pub mod Packets
+mod Programs
+pub mod Rooms
+mod Settings

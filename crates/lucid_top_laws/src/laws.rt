@@ -1,0 +1,89 @@
+// One packet through the stages, end to end. Nothing runs.
+ghost use Rattle.std.specs.Prelude.{◌≡◌, ◌<◌, ◌^◌, All};
+ghost use Rattle.lucid_effects_spec.specs.Order.{IsAccepted};
+ghost use Rattle.lucid_normal_spec.specs.Stands.{StandsFor};
+ghost use Rattle.lucid_core.specs.Parts.{CoreParts};
+ghost use Rattle.lucid_top_laws.specs.Moves.{MovesRunWhole};
+ghost use Rattle.lucid_top_laws.specs.Packet.{AuditsRunWhole, FitsRunWhole, RunsWhole};
+ghost use Rattle.lucid_top_laws.specs.Room.{OursKeepNodes, RefusedForRoom};
+
+use lucid_core::{Core, HandlerDef};
+use lucid_inline_spec::{flat_is_valid, keeps_order};
+use lucid_layout::stuck_for_room;
+use lucid_merge::{guards_contradict, products_act, products_name};
+use lucid_pass::lists_keep_the_laws;
+use lucid_pass_laws::code_stands;
+use lucid_pass_spec::passes_keep_nodes;
+use lucid_pipe::moves_are_passes;
+use lucid_tables::Placed;
+
+/// A law: of an accepted program that first fit places, behind whatever passes, one packet through all stages leaves the cells and sends what
+/// the handler does that runs whole.
+pub fn fits_run_whole(core: &Core)
+    ensures { IsAccepted core.now → FitsRunWhole core.now }
+{
+    code_stands(core);
+    flat_is_valid(core);
+    keeps_order(core);
+    lists_keep_the_laws();
+    products_act();
+    products_name();
+    guards_contradict();
+    events_have_32_bits(core.handlers());
+}
+
+/// A law: so it is with places that a file gives, where the audit accepts them.
+pub fn audits_run_whole(core: &Core)
+    ensures { IsAccepted core.now → AuditsRunWhole core.now }
+{
+    code_stands(core);
+    flat_is_valid(core);
+    keeps_order(core);
+    lists_keep_the_laws();
+    products_act();
+    products_name();
+    guards_contradict();
+    events_have_32_bits(core.handlers());
+}
+
+/// A law: first fit refuses a node of an accepted program only where a limit is exceeded, if the passes keep each node behind what it reads;
+/// and the four passes of the program do.
+pub fn refused_for_room(core: &Core)
+    ensures room { IsAccepted core.now → RefusedForRoom core.now }
+    ensures ours { OursKeepNodes }
+{
+    flat_is_valid(core);
+    keeps_order(core);
+    lists_keep_the_laws();
+    passes_keep_nodes();
+    stuck_for_room();
+    events_have_32_bits(core.handlers());
+}
+
+/// A law: so it is in all placed code that stands for a program, whoever placed it.
+pub fn placements_run_whole(placed: &Placed)
+    ensures { (core : CoreParts) → StandsFor placed.now.code core → RunsWhole placed.now core }
+{
+    let _code = placed.code();
+}
+
+/// A law, serializability: on a pipeline of placed code that stands for a program, packets may move in any order. Cells and outs are those of the
+/// entered events run whole, one after another, in the order of entry.
+pub fn moves_run_whole(placed: &Placed)
+    ensures { (core : CoreParts) → StandsFor placed.now.code core → placed.now.code.arrays ≡ core.arrays → MovesRunWhole placed.now core }
+{
+    placements_run_whole(placed);
+    moves_are_passes(placed);
+}
+
+fn events_have_32_bits(handlers: &[HandlerDef])
+    ensures { All (λ h. h.event < 2 ^ 32) handlers.now }
+{
+    for handler in handlers {
+        has_32_bits(handler.event);
+    }
+}
+
+fn has_32_bits(n: u32)
+    ensures { n < 2 ^ 32 }
+{}

@@ -1,0 +1,13 @@
+// The theorems above the single crates, each on a function that does nothing: serializability (specs/Moves.antt), one packet through the stages
+// (specs/Packet.antt), refusals of first fit (specs/Room.antt), and calls that were worked by hand from the bytes of their files to the text that is
+// written (specs/Calls.antt).
+// No crate depends on this one. docs/THEOREMS.md cites it, so a change of its definitions changes what the project claims.
+#![tactic(auto)]
+
+mod laws;
+mod worked;
+
+pub use laws::{
+    audits_run_whole, fits_run_whole, moves_run_whole, placements_run_whole, refused_for_room,
+};
+pub use worked::{once_is_answered, run_whole_is_answered, run_with_an_event_is_answered};

@@ -1,0 +1,56 @@
+// Calls that were worked by hand. Nothing runs.
+ghost use Rattle.std.specs.Prelude.{[], Ok, codes};
+ghost use Rattle.lucid_top.specs.Answer.{Answers};
+ghost use Rattle.lucid_top_laws.specs.Calls.{once, run_whole};
+
+use lucid_base::Span;
+use lucid_lex::{Kind, Sign, Token, Word};
+use lucid_size::plain_text_stays;
+
+/// The tokens of `event e();`.
+const TOKENS: [Token; 5] = [
+    Token {
+        kind: Kind::Word(Word::Event),
+        span: Span { start: 0, end: 5 },
+    },
+    Token {
+        kind: Kind::Name,
+        span: Span { start: 6, end: 7 },
+    },
+    Token {
+        kind: Kind::Sign(Sign::OpenParen),
+        span: Span { start: 7, end: 8 },
+    },
+    Token {
+        kind: Kind::Sign(Sign::CloseParen),
+        span: Span { start: 8, end: 9 },
+    },
+    Token {
+        kind: Kind::Sign(Sign::Semicolon),
+        span: Span { start: 9, end: 10 },
+    },
+];
+
+/// `once` of the program `event e();` and its event is answered with the block of this event, which has no handler and so sends nothing.
+pub fn once_is_answered()
+    ensures { Answers (once (codes "event e();") (codes "e")) (Ok (codes "[0] s0 e()\n")) }
+{
+    plain_text_stays(b"event e();", &TOKENS);
+}
+
+/// `run whole` of an empty program, in a scenario of one tick, is answered with a line of zeros.
+pub fn run_whole_is_answered()
+    ensures { Answers (run_whole [] (codes "{}") (codes "{\"stop\":1}")) (Ok (codes "entered 0 lost 0 pending 0\n")) }
+{
+    plain_text_stays(b"", &[]);
+}
+
+/// `run whole` of the program `event e();`, in a scenario in which its event comes once, is answered with the block of this event and the
+/// line that counts it.
+pub fn run_with_an_event_is_answered()
+    ensures { Answers (run_whole (codes "event e();") (codes "{}")
+        (codes "{\"stop\":1,\"events\":[{\"at\":0,\"switch\":0,\"name\":\"e\",\"args\":[]}]}"))
+        (Ok (codes "[0] s0 e()\nentered 1 lost 0 pending 0\n")) }
+{
+    plain_text_stays(b"event e();", &TOKENS);
+}

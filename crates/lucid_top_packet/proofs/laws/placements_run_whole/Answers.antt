@@ -1,5 +1,0 @@
-use Rattle.lucid_top_packet.proofs.Packets.{runs_whole}
-use Rattle.lucid_top_packet.proofs.laws.placements_run_whole.Goals as goal
-
-pub returns : goal.returns
-returns c core stands = runs_whole c.args.placed.now core c.code-code.ensures.pass stands

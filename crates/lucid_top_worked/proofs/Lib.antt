@@ -1,5 +1,0 @@
-mod Declares
-mod Empty
-mod Entering
-mod Programs
-mod Settings

@@ -1,7 +1,0 @@
--- Both ways.
-use Rattle.lucid_types_function.proofs.Complete as complete
-use Rattle.lucid_types_function.proofs.Sound as sound
-use Rattle.lucid_types_function.proofs.laws.expressions_are_computed.Goals as goal
-
-pub returns : goal.returns
-returns c = λ s t x core. (sound.typed x s t core, complete.typed)

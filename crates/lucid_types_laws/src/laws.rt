@@ -1,0 +1,22 @@
+// The laws of the typing function. Each is a function that does nothing and ensures it.
+ghost use Rattle.lucid_types_laws.specs.Laws.{ComputesBlocks, ComputesDeclarations, ComputesExpressions, DecidesPrograms};
+
+/// The function of expressions gives exactly what the rules derive.
+pub fn expressions_are_computed()
+    ensures { ComputesExpressions }
+{}
+
+/// So does the function of blocks.
+pub fn blocks_are_computed()
+    ensures { ComputesBlocks }
+{}
+
+/// So does the function of declarations.
+pub fn declarations_are_computed()
+    ensures { ComputesDeclarations }
+{}
+
+/// A tree has a core exactly where the rules derive it, and otherwise the first declaration that is refused is told.
+pub fn programs_are_decided()
+    ensures { DecidesPrograms }
+{}

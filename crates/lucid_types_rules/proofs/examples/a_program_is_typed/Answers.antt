@@ -1,5 +1,0 @@
-use Rattle.lucid_types_rules.proofs.ExampleProofs.{worked_is_typed}
-use Rattle.lucid_types_rules.proofs.examples.a_program_is_typed.Goals as goal
-
-pub returns : goal.returns
-returns c = worked_is_typed

@@ -1,7 +1,0 @@
-use Rattle.lucid_types_rules.proofs.RefusedDeclarations.{refused_declarations}
-use Rattle.lucid_types_rules.proofs.RefusedExpressions.{refused_expressions}
-use Rattle.lucid_types_rules.proofs.RefusedStatements.{refused_statements}
-use Rattle.lucid_types_rules.proofs.examples.what_breaks_a_rule_is_refused.Goals as goal
-
-pub returns : goal.returns
-returns c = record { expressions = refused_expressions; statements = refused_statements; declarations = refused_declarations }
