@@ -1,0 +1,32 @@
+"""`python3 -m lucid_model WORDS`: answers as the program `lucid` does, by its streams and its exit code. Not verified."""
+import os
+import sys
+
+from .answers import answer
+
+
+def read_file(name: bytes) -> bytes:
+    """Returns the bytes of a file."""
+    with open(name, 'rb') as file:
+        return file.read()
+
+
+def main() -> int:
+    """Answers the words of the command line."""
+    status, out, err = answer([os.fsencode(word) for word in sys.argv[1:]], read_file)
+    try:
+        sys.stdout.buffer.write(out)
+        sys.stdout.buffer.flush()
+    except (OSError, ValueError):
+        os.dup2(os.open(os.devnull, os.O_WRONLY), 1)
+        status, err = 10, b'write fault\n'
+    try:
+        sys.stderr.buffer.write(err)
+        sys.stderr.buffer.flush()
+    except (OSError, ValueError):
+        pass
+    return status
+
+
+if __name__ == '__main__':
+    sys.exit(main())

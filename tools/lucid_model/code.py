@@ -1,0 +1,99 @@
+"""Code: operations with guards over fields. What a packet carries is fields; an operation acts where its guard holds."""
+from dataclasses import dataclass, field
+from typing import List, NamedTuple, Optional, Tuple
+
+from .core import BINARY, COMPARE, ArrayDef, Core, MemAlu, hash_of, low, unary
+
+
+class Operand(NamedTuple):
+    """A number, or the number of a field."""
+
+    is_field: bool
+    value: int
+
+
+class Literal(NamedTuple):
+    """A field equals a value, or does not."""
+
+    field: int
+    equal: bool
+    value: int
+
+
+@dataclass
+class Op:
+    """An operation: `kind` is un, bin, cast, hash, move, touch, gen or say, and `to` is the field that it writes.
+
+    `number` is that of an array, an event or a text. The operands of an event are its arguments, its delay, and then its target
+    if it is `targeted`. `at` is the place in the text that it comes from, and `via` the calls through which.
+    """
+
+    guard: Tuple[Literal, ...]
+    level: int
+    kind: str
+    operands: Tuple[Operand, ...]
+    to: Optional[int]
+    at: int
+    via: Tuple[int, ...] = ()
+    sign: str = ''
+    amount: int = 0
+    width: int = 0
+    number: int = 0
+    slot: int = 0
+    get: Optional[MemAlu] = None
+    set: Optional[MemAlu] = None
+    targeted: bool = False
+
+    def reads(self) -> List[int]:
+        """Returns the fields that it reads, in its guard and in its operands."""
+        return [x.field for x in self.guard] + [x.value for x in self.operands if x.is_field]
+
+    def only_writes(self) -> bool:
+        """Whether it does nothing but write a field."""
+        return self.kind not in ('touch', 'gen', 'say')
+
+    def key(self) -> int:
+        """Returns its key: a call of an array comes behind what stands before the call."""
+        return 2 * self.number + 1 if self.kind == 'touch' else 2 * self.level
+
+    def result(self, values: List[int], to_width: int) -> int:
+        """Computes what it writes from the values of its operands; each operator takes the low bits of its own width."""
+        if self.kind == 'un':
+            return unary(self.sign, self.amount, low(values[0], self.width), self.width)
+        if self.kind == 'bin' and self.sign in COMPARE:
+            return int(COMPARE[self.sign](low(values[0], self.width), low(values[1], self.width)))
+        if self.kind == 'bin':
+            return BINARY[self.sign](low(values[0], self.width), low(values[1], self.width), self.width)
+        return hash_of(to_width, values) if self.kind == 'hash' else low(values[0], to_width)
+
+
+@dataclass
+class Code:
+    """The widths of the fields, how many of them are inputs (event, tick, switch and arguments), and the operations."""
+
+    core: Core
+    widths: List[int]
+    inputs: int
+    ops: List[Op] = field(default_factory=list)
+
+    def arrays(self) -> List[ArrayDef]:
+        """Returns the declared arrays."""
+        return self.core.arrays
+
+    def bits(self) -> int:
+        """Returns what a packet carries: the inputs, and each field that some operation reads or writes."""
+        used = set(range(self.inputs))
+        for op in self.ops:
+            used.update(op.reads())
+            used.update([] if op.to is None else [op.to])
+        return sum(self.widths[k] for k in used)
+
+    def calls(self, array: int) -> List[int]:
+        """Returns the operations that call an array."""
+        return [i for i, op in enumerate(self.ops) if op.kind == 'touch' and op.number == array]
+
+
+def contradicts(guard: Tuple[Literal, ...]) -> bool:
+    """Whether the literals of a guard never hold together."""
+    return any(a.field == b.field and (a.equal and b.equal and a.value != b.value or a.equal != b.equal and a.value == b.value)
+               for a in guard for b in guard)

@@ -1,0 +1,88 @@
+"""The whole step: one event runs its handler to its end (docs/LANGUAGE.md, What a program means)."""
+from dataclasses import dataclass
+from typing import Dict, List, Optional, Tuple
+
+from . import core
+
+Cells = List[List[int]]
+
+
+@dataclass
+class Out:
+    """An event that is sent, with its delay and its target, or a text that is said, which has none of these."""
+
+    number: int
+    args: List[int]
+    delay: Optional[int] = None
+    to: Optional[int] = None
+
+
+def empty_cells(c: core.Core) -> Cells:
+    """Returns the cells of all arrays, which begin as 0."""
+    return [[0] * a.size for a in c.arrays]
+
+
+class Run:
+    """The run of a handler: statements in order, operands and arguments from left to right."""
+
+    def __init__(self, c: core.Core, cells: Cells, now: int, me: int) -> None:
+        self.core, self.cells = c, cells
+        self.inputs = {'now': now % 2 ** 32, 'me': me}
+        self.outs: List[Out] = []
+
+    def value(self, x: core.Expr, arrays: List[int], held: Dict[int, int]) -> Optional[int]:
+        """Evaluates an expression; both sides of `&&` and `||` are evaluated, and no expression can fault."""
+        if isinstance(x, core.Fixed):
+            return x.value
+        if isinstance(x, core.Local):
+            return held[x.number]
+        if isinstance(x, core.Input):
+            return self.inputs[x.name]
+        parts = [self.value(y, arrays, held) for y in core.children(x)]
+        if isinstance(x, core.Un):
+            return core.unary(x.op, x.amount, parts[0], x.width)
+        if isinstance(x, core.Bin):
+            return int(core.COMPARE[x.op](*parts)) if x.op in core.COMPARE else core.BINARY[x.op](*parts, x.width)
+        if isinstance(x, core.Cast):
+            return core.low(parts[0], x.width)
+        if isinstance(x, core.Hash):
+            return core.hash_of(x.width, parts)
+        if isinstance(x, core.Touch):
+            cells = self.cells[x.array.number if x.array.declared else arrays[x.array.number]]
+            i = parts[0] % len(cells)
+            old = cells[i]
+            cells[i] = x.set.apply(old, parts[2])
+            return x.get.apply(old, parts[1]) if x.answers else None
+        given = [a.number if a.declared else arrays[a.number] for a in x.arrays]
+        return self.block(self.core.funs[x.number].body, given, dict(enumerate(parts)))[1]
+
+    def block(self, stmts: List[core.Stmt], arrays: List[int], held: Dict[int, int]) -> Tuple[bool, Optional[int]]:
+        """Runs statements; says whether they returned, and with which value."""
+        for s in stmts:
+            parts = [self.value(x, arrays, held) for x in core.children(s)]
+            if isinstance(s, core.Assign):
+                held[s.local] = parts[0]
+            elif isinstance(s, core.If):
+                returned, answer = self.block(s.yes if parts[0] else s.no, arrays, held)
+                if returned:
+                    return True, answer
+            elif isinstance(s, core.Return):
+                return True, parts[0] if parts else None
+            elif isinstance(s, core.Say):
+                self.outs.append(Out(s.form, parts))
+            elif isinstance(s, core.Gen):
+                args, behind = parts[:len(s.args)], parts[len(s.args):]
+                if s.to is not None and not s.delay_first:
+                    behind.reverse()
+                delay = behind[0] if s.delay is not None else 0
+                for to in s.members or [behind[-1] if s.to is not None else None]:
+                    self.outs.append(Out(s.event, args, delay, to))
+        return False, None
+
+
+def run_whole(c: core.Core, cells: Cells, now: int, me: int, event: int, args: List[int]) -> List[Out]:
+    """Runs an event's handler whole on cells; an event without a handler changes nothing."""
+    run = Run(c, cells, now, me)
+    if c.events[event].handler is not None:
+        run.block(c.handlers[c.events[event].handler].body, [], dict(enumerate(args)))
+    return run.outs

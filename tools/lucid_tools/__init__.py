@@ -1,0 +1,1 @@
+"""Shared code of the tools beside this folder: the forms of everything that `lucid` reads and prints. Standard library only."""

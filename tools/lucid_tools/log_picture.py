@@ -1,0 +1,358 @@
+"""The picture of a log: time goes down. Each event has a bar for as long as it is in the pipeline, a thin tail for as long as what it sends is
+on its way back to the first stage, and a dashed line for as long as it waited. Arrows are computed (network.py), not guessed.
+
+Few switches have a wide column each, with the texts beside the bars. If that is wider than WIDEST, each switch has a narrow lane, and
+each event a row of its own with its text at the right."""
+import bisect
+import math
+from dataclasses import dataclass, field
+from typing import Dict, List, Optional, Set, Tuple
+
+from .files import Limits, Scene
+from .network import Trace
+from .printed import Block, Said, Sent
+from .svg import LETTER, SMALL, Colours, Picture, width_of
+
+WIDEST = 1200
+# The texts of lanes, the lanes themselves, and the gap in which headings are repeated.
+LANES, GAP, HEADINGS = 620, 34, 800
+
+
+@dataclass
+class Choice:
+    """Which events are drawn."""
+
+    switches: Optional[Set[int]] = None
+    ticks: Optional[Tuple[int, int]] = None
+    without: Set[str] = field(default_factory=set)
+
+    def has(self, block: Block) -> bool:
+        return ((self.switches is None or block.switch in self.switches) and (self.ticks is None or self.ticks[0] <= block.at <= self.ticks[1])
+                and block.name not in self.without)
+
+
+@dataclass
+class Drawn:
+    """An event that is drawn: its number in the log, its notes as text and class, and where it stands."""
+
+    number: int
+    block: Block
+    notes: List[Tuple[str, str]]
+    leaves: int
+    sends: bool
+    slot: int = 0
+    x: float = 0
+    y: float = 0
+
+
+def plural(count: int, word: str) -> str:
+    return f"{count} {word}{'' if count == 1 else 's'}"
+
+
+class LogPicture:
+    """Draws one log."""
+
+    def __init__(self, trace: Trace, limits: Limits, scene: Scene, choice: Choice) -> None:
+        self.trace, self.limits, self.scene = trace, limits, scene
+        self.stay, self.back = limits.stages, limits.stages + limits.recirc
+        self.picture, self.colours = Picture(), Colours()
+        numbers = [it for it, block in enumerate(trace.log.blocks) if choice.has(block)]
+        self.shown = {number: self.drawn_of(number) for number in numbers}
+        if choice.switches is None:
+            seen = {trace.log.blocks[it].switch for it in numbers} | {it.switch for it in trace.log.cells}
+            self.switches = sorted(seen if choice.ticks is None and not choice.without else {trace.log.blocks[it].switch for it in numbers})
+        else:
+            self.switches = sorted(it for it in choice.switches if it < scene.switches)
+        self.is_part = len(self.shown) < len(trace.log.blocks)
+        # Shown in columns, unless that is too wide.
+        self.is_wide = True
+        self.set_slots()
+        self.set_columns()
+        if self.texts_end > WIDEST:
+            self.is_wide = False
+            self.set_lanes()
+
+    def drawn_of(self, number: int) -> Drawn:
+        """An event with the lines that are written below it."""
+        block = self.trace.log.blocks[number]
+        ways = {it.out: it for it in self.trace.ways[number]}
+        notes: List[Tuple[str, str]] = []
+        entry = self.trace.entries[number]
+        if entry.ready < block.at:
+            notes.append((f"waited {plural(block.at - entry.ready, 'tick')}", "small grey"))
+        for index, out in enumerate(block.outs):
+            if isinstance(out, Said):
+                notes.append((f'"{out.text}"', "small grey"))
+                continue
+            way, name = ways[index], f"{out.name}({','.join(map(str, out.args))})"
+            if out.lost:
+                notes.append((f"lost at {way.leaves}: {name} to {way.target}", "small red"))
+            elif (number, index) not in self.trace.receiver:
+                notes.append((f"pending: {name}{'' if out.to is None else f' to {way.target}'}, ready at {way.ready}", "small grey"))
+        return Drawn(number, block, notes, block.at + self.stay, any(isinstance(it, Sent) for it in block.outs))
+
+    def title(self, it: Drawn) -> str:
+        """The tooltip of an event: its whole block."""
+        entry = self.trace.entries[it.number]
+        lines = [f"[{it.block.at}] s{it.block.switch} {it.block.label()}"]
+        if entry.way:
+            lines.append(f"sent at {self.trace.log.blocks[entry.way.sender].at} by s{self.trace.log.blocks[entry.way.sender].switch}, ready at {entry.ready}")
+        else:
+            lines.append(f"event {entry.file} of the scenario, ready at {entry.ready}")
+        return "\n".join(lines + [text for text, _ in it.notes])
+
+    # Places -----------------------------------------------------------------------------------------------------------------------
+
+    def set_slots(self) -> None:
+        """Bars of one switch that overlap stand side by side, and so do those that touch if the first sends something."""
+        self.slots: Dict[int, int] = {it: 0 for it in self.switches}
+        free: Dict[int, List[float]] = {it: [] for it in self.switches}
+        for it in self.shown.values():
+            ends = free[it.block.switch]
+            until = it.block.at + (self.back + 0.5 if it.sends else self.stay)
+            it.slot = next((k for k, end in enumerate(ends) if end <= it.block.at), len(ends))
+            ends[it.slot:it.slot + 1] = [until]
+            self.slots[it.block.switch] = max(self.slots[it.block.switch], len(ends))
+
+    def cells_of(self, switch: int) -> List[str]:
+        """The first cells of a switch at the end, and how many more there are."""
+        found = [it.label() for it in self.trace.log.cells if it.switch == switch]
+        return found[:10] + ([f"and {len(found) - 10} more"] if len(found) > 10 else [])
+
+    def tick_width(self) -> float:
+        return LETTER * max([4] + [len(str(it.block.at)) for it in self.shown.values()]) + 28
+
+    def set_columns(self) -> None:
+        wide = {switch: max([60.0] + [width_of(it, SMALL) for it in self.cells_of(switch)]) for switch in self.switches}
+        loops = {self.shown[r].block.switch for (s, _), r in self.trace.receiver.items()
+                 if r in self.shown and s in self.shown and self.shown[r].block.switch == self.shown[s].block.switch}
+        for it in self.shown.values():
+            switch = it.block.switch
+            wide[switch] = max([wide[switch], width_of(it.block.label())] + [8 + width_of(text, SMALL) for text, _ in it.notes])
+        x = self.tick_width()
+        self.column: Dict[int, float] = {}
+        self.pitch = 12.0
+        for switch in self.switches:
+            x += 34 if switch in loops else 14
+            self.column[switch] = x
+            x += self.slots[switch] * self.pitch + wide[switch] + 24
+        self.texts_end = x
+
+    def set_lanes(self) -> None:
+        all_slots = sum(max(1, it) for it in self.slots.values())
+        self.pitch = max(2.0, min(9.0, (LANES - 8 * len(self.switches)) / max(1, all_slots)))
+        x = self.tick_width() + 10
+        for switch in self.switches:
+            self.column[switch] = x
+            x += max(15.0, max(1, self.slots[switch]) * self.pitch + 6)
+        self.texts = x + 14
+
+    def text_x(self, it: Drawn) -> float:
+        return self.column[it.block.switch] + self.slots[it.block.switch] * self.pitch + 4 if self.is_wide else self.texts
+
+    def set_axis(self) -> None:
+        """Places of all ticks at which something enters or leaves, from the top on, with room for texts and for repeated headings."""
+        ticks: Set[int] = set()
+        entering: Dict[int, List[Drawn]] = {}
+        for it in self.shown.values():
+            ticks |= {it.block.at, it.leaves} | ({it.block.at + self.back} if it.sends else set())
+            entering.setdefault(it.block.at, []).append(it)
+        self.points = sorted(ticks)
+        self.spots: List[float] = []
+        self.headings: List[float] = []
+        y, heading, last, row = 100.0, 100.0 + HEADINGS, None, 0.0
+        below: Dict[int, float] = {}
+        for tick in self.points:
+            if last is not None:
+                y += max(5.0, min(2.5 * (tick - last), 30.0))
+            last = tick
+            for it in entering.get(tick, []):
+                y = max(y, row + 13, below.get(it.block.switch if self.is_wide else 0, 0))
+            if tick in entering and y > heading:
+                y = max([y] + list(below.values())) + GAP
+                self.headings.append(y - GAP / 2 - 6)
+                heading = y + HEADINGS
+            self.spots.append(y)
+            row = y if tick in entering else row
+            for it in entering.get(tick, []):
+                if self.is_wide:
+                    it.y = y
+                    below[it.block.switch] = y + 5 + 14 * (1 + len(it.notes))
+                else:
+                    it.y = max(y, below.get(0, 0))
+                    below[0] = it.y + 14 + 13 * len(it.notes)
+                it.x = self.column[it.block.switch] + self.pitch * it.slot
+            if not self.is_wide and tick in entering:
+                y = max(y, entering[tick][-1].y)
+        self.foot = max([y + 14] + [it for it in below.values()]) + 10
+
+    def y_at(self, tick: float) -> float:
+        """Where a tick stands on the axis; between two places in proportion."""
+        at = bisect.bisect_left(self.points, tick)
+        if at == len(self.points):
+            return self.spots[-1] if self.spots else 100.0
+        if self.points[at] == tick or at == 0:
+            return self.spots[at] if self.points[at] == tick else max(88.0, self.spots[0] - min(12.0, self.points[0] - tick))
+        before, after = self.points[at - 1], self.points[at]
+        return self.spots[at - 1] + (self.spots[at] - self.spots[at - 1]) * (tick - before) / (after - before)
+
+    # Drawing ----------------------------------------------------------------------------------------------------------------------
+
+    def bar_width(self) -> float:
+        return 6.0 if self.is_wide else max(1.5, self.pitch - 3)
+
+    def middle(self, it: Drawn) -> float:
+        return it.x + self.bar_width() / 2
+
+    def leave_y(self, it: Drawn) -> float:
+        """Where the ways of what an event sent begin: below the text of another event that enters there at that tick."""
+        tick = it.block.at + self.back
+        y = max(self.y_at(tick), self.bar_end(it))
+        taken = any(other.block.at == tick and other.block.switch == it.block.switch for other in self.at_tick.get(tick, []))
+        return y + 8 if taken and self.is_wide else y
+
+    def bar_end(self, it: Drawn) -> float:
+        return max(self.y_at(it.leaves), it.y + 2)
+
+    def arrow_head(self, x: float, y: float, dx: float, dy: float, shade: str) -> None:
+        size = math.hypot(dx, dy)
+        if size == 0:
+            return
+        dx, dy = dx / size, dy / size
+        points = [(x, y), (x - 8 * dx + 3.5 * dy, y - 8 * dy - 3.5 * dx), (x - 8 * dx - 3.5 * dy, y - 8 * dy + 3.5 * dx)]
+        self.picture.path(3, "M" + " L".join(f"{a:.1f} {b:.1f}" for a, b in points) + " z", f'fill="{shade}"')
+
+    def draw_arrow(self, sender: Drawn, it: Drawn, sent: Sent) -> None:
+        """An arrow from the end of a sender's tail to the event that it sent."""
+        picture, shade = self.picture, self.colours.of(it.block.name)
+        x, x2, y2 = self.middle(sender), self.middle(it), it.y
+        here = it.block.switch == sender.block.switch
+        y = min(self.leave_y(sender), y2) if here else self.leave_y(sender)
+        title = f"{it.block.label()}: s{sender.block.switch}, left at {sender.block.at + self.back + sent.delay}, to s{it.block.switch}, entered at {it.block.at}"
+        look = f'fill="none" stroke="{shade}" stroke-width="1.3" opacity="{0.75 if self.is_wide else 0.5}"'
+        if here and y2 - y > 12:
+            bend = 26 if self.is_wide else 12
+            picture.path(1, f"M{x:.1f} {y:.1f} C{x - bend:.1f} {y + 6:.1f} {x2 - bend:.1f} {y2 - 6:.1f} {x2 - 5:.1f} {y2:.1f}", look, title)
+            self.arrow_head(x2 - 4, y2, 1, 0.4, shade)
+            return
+        if not here and x2 < x and self.is_wide:
+            x2 = self.text_x(it) + 2 + width_of(it.block.label())
+        elif x2 != x:
+            x2 += 5 if x2 < x else -5
+        else:
+            y2 -= 5
+        if y2 > y or x2 != x:
+            picture.line(1, x, y, x2, y2, look, title)
+            self.arrow_head(x2, y2, x2 - x, y2 - y, shade)
+
+    def draw_event(self, it: Drawn) -> None:
+        picture, entry, shade = self.picture, self.trace.entries[it.number], self.colours.of(it.block.name)
+        wide, end, title = self.bar_width(), self.bar_end(it), self.title(it)
+        picture.box(2, it.x, it.y, wide, end - it.y, f'fill="{shade}" opacity="0.45"', title)
+        if self.colours.is_striped(it.block.name):
+            picture.line(2, self.middle(it), it.y, self.middle(it), end, 'stroke="#fff" stroke-width="1.5" stroke-dasharray="3 3"')
+        if entry.ready < it.block.at:
+            picture.line(1, it.x - 2, self.y_at(entry.ready), it.x - 2, it.y, f'stroke="{shade}" stroke-width="1" stroke-dasharray="2 3"',
+                         f"{it.block.label()} waited from {entry.ready} to {it.block.at}")
+        if it.sends and self.leave_y(it) > end:
+            picture.line(2, self.middle(it), end, self.middle(it), self.leave_y(it), f'stroke="{shade}" stroke-width="1.3"')
+        lost = [text for text, kind in it.notes if kind == "small red"]
+        if lost:
+            picture.cross(3, self.middle(it), self.leave_y(it), "\n".join(lost))
+        if entry.way:
+            picture.dot(3, self.middle(it), it.y, 4 if self.is_wide else 3, f'fill="{shade}"', title)
+        else:
+            picture.box(3, self.middle(it) - 4, it.y - 4, 8, 8, f'fill="#fff" stroke="{shade}" stroke-width="2"', title)
+        self.write_event(it, title)
+
+    def write_event(self, it: Drawn, title: str) -> None:
+        picture, x = self.picture, self.text_x(it)
+        if self.is_wide:
+            picture.write_over(x, it.y + 4, it.block.label(), title=title)
+            for at, (text, kind) in enumerate(it.notes):
+                picture.write_over(x + 8, it.y + 18 + 14 * at, text, kind)
+            return
+        picture.line(1, self.middle(it) + 6, it.y, x - 4, it.y, 'stroke="#ddd" stroke-width="0.8"')
+        label = f"s{it.block.switch} {it.block.label()}"
+        picture.write(4, x, it.y + 4, label, title=title)
+        way = self.trace.entries[it.number].way
+        if way:
+            sender = self.trace.log.blocks[way.sender]
+            picture.write(4, x + width_of(label) + 8, it.y + 4, f"← s{sender.switch} of {sender.at}", "small grey")
+        for at, (text, kind) in enumerate(it.notes):
+            picture.write(4, x + 12, it.y + 17 + 13 * at, text, kind)
+
+    def draw_headings(self, y: float) -> None:
+        picture = self.picture
+        right = self.texts_end if self.is_wide else self.texts - 8
+        if y > 100:
+            picture.box(3, 0, y - 13, right, 18, 'fill="#fff" opacity="0.85"')
+        picture.write(4, 20, y, "tick", "small grey")
+        for switch in self.switches:
+            if self.is_wide:
+                picture.write(4, self.column[switch], y, f"switch {switch}", "big")
+            else:
+                picture.write(4, self.column[switch], y, str(switch), "small bold", title=f"switch {switch}")
+
+    def draw_legend(self) -> None:
+        picture = self.picture
+        picture.box(4, 20, 12, 8, 8, 'fill="#fff" stroke="#555" stroke-width="2"')
+        picture.write(4, 34, 20, "from the scenario", "small")
+        picture.dot(4, 170, 16, 4, 'fill="#555"')
+        picture.write(4, 180, 20, "sent", "small")
+        picture.cross(4, 226, 16)
+        picture.write(4, 236, 20, "lost", "small")
+        picture.box(4, 280, 11, 6, 11, 'fill="#555" opacity="0.45"')
+        text = f"in the pipeline, {plural(self.limits.stages, 'stage')}"
+        text += f", and {plural(self.limits.recirc, 'tick')} back" if self.limits.recirc else ""
+        picture.write_all(4, 292, 20, text, "small")
+        picture.write_all(4, 20, 38, "time goes down, not to scale; bars side by side are in one pipeline; dashed: waits; colours go by name", "small grey")
+
+    def draw_end(self) -> None:
+        """The cells at the end, and the last line of the log."""
+        picture, y = self.picture, self.foot
+        if self.is_wide:
+            for switch in self.switches:
+                for at, text in enumerate(self.cells_of(switch)):
+                    picture.write(4, self.column[switch], y + 18 + 14 * at, text, "small")
+        else:
+            lines = [f"s{switch} {text}" for switch in self.switches for text in self.cells_of(switch)]
+            for at, text in enumerate(lines):
+                picture.write(4, 20 + 290 * (at % 4), y + 18 + 14 * (at // 4), text, "small")
+        entered, lost, pending = self.trace.log.end or (0, 0, 0)
+        y = picture.foot + 18
+        picture.write(4, 20, y, f"entered {entered} lost {lost} pending {pending}")
+        if self.is_part:
+            picture.write(4, 20, y + 16, f"{len(self.shown)} of these are shown", "small grey")
+
+    def draw(self) -> str:
+        """The whole picture."""
+        picture = self.picture
+        self.draw_legend()
+        if not self.shown:
+            picture.write(4, 20, 66, "no event is shown")
+            self.foot = 66.0
+            self.draw_end()
+            return picture.text()
+        self.set_axis()
+        self.at_tick: Dict[int, List[Drawn]] = {}
+        for it in self.shown.values():
+            self.at_tick.setdefault(it.block.at, []).append(it)
+        right = self.texts_end - 10 if self.is_wide else self.texts - 8
+        for tick, its in self.at_tick.items():
+            picture.write(4, 20, its[0].y + 4, str(tick), "small grey")
+            picture.line(1, self.tick_width() - 12, its[0].y, right, its[0].y, 'stroke="#eee"')
+        for switch in self.switches:
+            x = self.column[switch] + self.bar_width() / 2
+            picture.line(1, x, 88, x, self.foot, f'stroke="{"#999" if self.is_wide else "#ccc"}"')
+        for it in self.shown.values():
+            way = self.trace.entries[it.number].way
+            if way and way.sender in self.shown:
+                sent = self.trace.log.blocks[way.sender].outs[way.out]
+                assert isinstance(sent, Sent)
+                self.draw_arrow(self.shown[way.sender], it, sent)
+            self.draw_event(it)
+        for y in [72.0] + self.headings:
+            self.draw_headings(y)
+        self.draw_end()
+        return picture.text()
