@@ -1,5 +1,5 @@
 //! A plain program without proofs, written to compare speeds alone: it reads the files that the proved program reads, and writes the same
-//! bytes. tests/speed builds it by `rustc -O`, checks its bytes and prints its times.
+//! bytes. `tests/run speed` builds it by `rustc -O`, checks its bytes and prints its times.
 //!
 //!   reference run whole|pipe PROGRAM LIMITS SCENARIO
 //!   reference drive PROGRAM LIMITS SCENARIO

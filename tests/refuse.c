@@ -1,4 +1,4 @@
-/* Refuses what a program asks of the C library, for tests/refused. Preloaded to a program of the GNU C library, it counts requests for
+/* Refuses what a program asks of the C library, for tests/run refused. Preloaded to a program of the GNU C library, it counts requests for
    memory, files opened, reads, writes on the standard output, and writes on the standard error; of each the one whose number, from 1,
    stands in the variable below is refused, and where REFUSE_BEHIND is set all behind it. Where SHORT is set, a read or write moves one
    byte at most. Where COUNT names a file, the five counts are written there as the program ends. */

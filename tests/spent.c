@@ -1,4 +1,4 @@
-/* Runs a program and tells what it spent, for tests/deep, tests/speed and tests/wide: `spent FILE PROGRAM WORD..` writes into FILE the exit
+/* Runs a program and tells what it spent, for the groups deep, wide, hostile and speed: `spent FILE PROGRAM WORD..` writes into FILE the exit
    code, which is 128 and the number of a signal where that ended it, then the seconds of a processor, and the most memory in MB. */
 #include <stdio.h>
 #include <sys/resource.h>

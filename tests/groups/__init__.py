@@ -1,0 +1,1 @@
+"""The groups of tests; tests/run lists them."""

@@ -1,0 +1,45 @@
+"""Texts and files at their limits, on a stack of 8 MiB: the calls of tests/deep.rows, with seconds and memory.
+
+Prints a line of a table for each call. Fails on a call that ends by a signal, takes over two minutes, or ends otherwise than its row says.
+`--only WORD` makes the calls whose title has the word; `--fill` writes missing sums, as of rows. Sees nothing of shapes that have no row.
+"""
+from __future__ import annotations
+
+from pathlib import Path
+from typing import List
+
+from harness import TESTS, Ended, Group, compile_c, measure, table
+from rowfile import Row, read_rows
+
+from .rows import fill
+
+
+def run(group: Group) -> None:
+    spent = compile_c(group, "spent.c")
+    rows, unread = read_rows(TESTS / "deep.rows")
+    group.check("tests/deep.rows has calls and no other lines", bool(rows) and not unread, unread)
+    if group.options.fill:
+        fill(group, [row for row in rows if row.accepts and row.sum is None])
+        return
+    chosen = [row for row in rows if not group.options.only or any(word in row.title for word in group.options.only)]
+    lines = [line_of(group, spent, row) for row in chosen]
+    table(group, ["Input", "Bytes", "Ends with", "Seconds", "MB"], lines)
+
+
+def line_of(group: Group, spent: Path, row: Row) -> List[object]:
+    """Makes the call of a row, and gives its line of the table."""
+    folder = group.room / str(row.line)
+    folder.mkdir()
+    for name, text in row.files.items():
+        (folder / name).write_bytes(text)
+    it = measure(spent, [group.options.program, *row.words], folder)
+    group.check(f"tests/deep.rows:{row.line}: {row.title}", row.holds(it.ended), it.ended)
+    words = " ".join(row.words)[:40]
+    return [f"{row.title}: `{words}`", row.bytes_read(), ending(it.ended), f"{it.seconds:.2f}", it.megabytes]
+
+
+def ending(ended: Ended) -> str:
+    """How a call ended, in a cell of a table."""
+    if ended.status < 0:
+        return f"signal {-ended.status}"
+    return "0" if ended.status == 0 else f"{ended.status} `{ended.err.decode(errors='replace').strip()[:80]}`"

@@ -1,0 +1,118 @@
+"""The order of the house: names of files, names of definitions, links, English, and subjects of commits.
+
+Fails on a file of specs/ or proofs/ that is named after no source, on a trusted name that two pages define, on a dead link or path in a
+page, on worse English than the bounds, and on a commit subject that begins with Say or Tell or passes 72 characters. Today's exceptions
+are in tests/house.exceptions, which may only shrink: `--fill` drops those that are gone. Sees nothing of what the names mean.
+"""
+from __future__ import annotations
+
+import re
+import subprocess
+from collections import defaultdict
+from pathlib import Path
+from typing import Dict, List, Set, Tuple
+
+import prose
+from harness import TESTS, TOP, Group
+
+EXCEPTIONS = TESTS / "house.exceptions"
+# Dialect words in 1,000 words, and the percentage of sentences over 30 words, at most. Lower them as the text gets better.
+ENGLISH: Dict[str, Tuple[float, float]] = {
+    "docs": (8, 3),
+    "readmes": (31, 7),
+    "src": (34, 2),
+    "specs": (36, 1),
+    "proofs": (54, 1),
+}
+COMMITS = 30
+# Commits up to this one are older than the rule.
+BEFORE = "678cbd6733dd1182ff16ee4d8f7d91c26fb7e63f"
+SUBJECT = 72
+
+
+def run(group: Group) -> None:
+    found = {**misnamed(), "names": repeated_names()}
+    if group.options.fill:
+        write_exceptions(found)
+    known = read_exceptions()
+    for key, names in sorted(found.items()):
+        new = sorted(names - known.get(key, set()))
+        group.check(f"{key}: {'defined in two trusted pages' if key == 'names' else 'named after no source'}", not new, new)
+        gone = sorted(known.get(key, set()) - names)
+        group.check(f"{key}: tests/house.exceptions names nothing that is gone", not gone, gone)
+    links(group)
+    english(group)
+    commits(group)
+
+
+def read_exceptions() -> Dict[str, Set[str]]:
+    """Each line has a key, as `lucid_net/specs`, and names."""
+    lines = [line.split() for line in EXCEPTIONS.read_text().splitlines() if line and not line.startswith("#")]
+    return {line[0]: set(line[1:]) for line in lines}
+
+
+def write_exceptions(found: Dict[str, Set[str]]) -> None:
+    """Keeps the exceptions that are still there; a file without any takes all that are found."""
+    known = read_exceptions() if EXCEPTIONS.exists() else found
+    head = "# Exceptions of the group `house`, which may only shrink: `tests/run house --fill` drops those that are gone.\n"
+    lines = [" ".join([key, *sorted(known.get(key, set()) & names)]) for key, names in sorted(found.items())]
+    EXCEPTIONS.write_text(head + "".join(f"{line}\n" for line in lines if " " in line))
+
+
+def camel(name: str) -> str:
+    return "".join(part.capitalize() for part in name.split("_"))
+
+
+def misnamed() -> Dict[str, Set[str]]:
+    """The files of specs/ and proofs/ of each crate that have the name of no source, with Lemmas, Examples or Laws behind it or not."""
+    found: Dict[str, Set[str]] = {}
+    for crate in sorted(path for path in (TOP / "crates").iterdir() if path.is_dir()):
+        sources = {camel(path.stem) for path in crate.glob("src/**/*.rt")} | {"Lib"}
+        for kind in "specs", "proofs":
+            names = {path.stem for path in crate.glob(f"{kind}/*.antt")}
+            others = {name for name in names if not {name, re.sub("(Lemmas|Examples|Laws)$", "", name)} & sources}
+            if others:
+                found[f"{crate.name}/{kind}"] = others
+    return found
+
+
+def repeated_names() -> Set[str]:
+    """Names that clauses of `lucid` rest on and that more than one page of definitions has."""
+    listed = subprocess.run([str(TESTS / "pages"), "--definitions"], stdout=subprocess.PIPE, check=True).stdout.decode()
+    pages: Dict[str, Set[str]] = defaultdict(set)
+    for crate, page, name in (line.split(" ", 2) for line in listed.splitlines()):
+        pages[name].add(f"{crate} {page}")
+    return {name for name, where in pages.items() if len(where) > 1}
+
+
+def links(group: Group) -> None:
+    """The links of all pages lead to files, and the paths that pages name in backticks exist."""
+    for page in pages():
+        text = re.sub(r"^```.*?^```", "", page.read_text(), flags=re.S | re.M)
+        targets = [it.split("#")[0] for it in re.findall(r"\]\(([^)\s]+)\)", text) if not re.match(r"[a-z]+:", it)]
+        dead = [it for it in targets if it and not (page.parent / it).exists()]
+        named = re.findall(r"`((?:crates|docs|tests|tools|examples)/[\w./-]+)`", text)
+        # what a build leaves is in out/
+        dead += [it for it in named if "/out/" not in it and not (TOP / it).exists() and not (page.parent / it).exists()]
+        group.check(f"{page.relative_to(TOP)}: links and paths exist", not dead, dead)
+
+
+def pages() -> List[Path]:
+    listed = subprocess.run(["git", "ls-files", "-co", "--exclude-standard", "*.md"], cwd=TOP, stdout=subprocess.PIPE, check=True)
+    paths = [TOP / name for name in listed.stdout.decode().split()]
+    return [path for path in paths if path.exists() and "must-fail" not in path.parts]
+
+
+def english(group: Group) -> None:
+    for kind, it in prose.sums(prose.measured()).items():
+        rate, share = ENGLISH[kind]
+        group.check(f"{kind}: at most {rate} dialect words in 1,000", it.rate <= rate, f"{it.rate:.1f}")
+        group.check(f"{kind}: at most {share} % of sentences over {prose.LONG} words", it.long_share <= share, f"{it.long_share:.1f}")
+
+
+def commits(group: Group) -> None:
+    """The subjects of the last commits, as far as they are newer than the rule."""
+    log = subprocess.run(["git", "log", f"-{COMMITS}", "--format=%s", f"{BEFORE}..HEAD"], cwd=TOP, stdout=subprocess.PIPE)
+    subjects = log.stdout.decode().splitlines()
+    for subject in subjects:
+        group.check(f"commit: {subject[:40]}", len(subject) <= SUBJECT and not re.match("(Say|Tell)[s ]", subject), len(subject))

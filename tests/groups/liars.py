@@ -1,0 +1,144 @@
+"""Wrappers of the built program with one lie each, and for each lie the checks that must fail on it.
+
+Fails on a check that passes under its liar, and on a check that fails under a wrapper without a lie. So a check that was weakened until it
+sees nothing is seen itself. Sees only the lies below.
+"""
+from __future__ import annotations
+
+from dataclasses import dataclass
+from pathlib import Path
+from typing import Callable, Dict, List
+
+from harness import TESTS, Group, Stopped
+
+from . import generated, mutated, refused, rows, streams, words
+
+# The wrapper makes the call, lets the lie change its output, its error stream and its status, and ends with these.
+WRAPPER = """#!/bin/sh
+program='{program}'
+t=$(mktemp -d) || exit 99
+trap 'rm -rf "$t"' EXIT
+{before}
+"$program" "$@" >"$t/out" 2>"$t/err"
+code=$?
+{behind}
+cat "$t/err" >&2
+cat "$t/out" || exit 10
+exit $code
+"""
+
+
+@dataclass(frozen=True)
+class Lie:
+    """A lie: shell text in front of the call or behind it, and the names of the checks that must fail."""
+
+    checks: List[str]
+    before: str = ""
+    behind: str = ""
+
+
+def refusal(status: int, line: str) -> str:
+    """Shell text that turns an accepted call into a refusal."""
+    return f'[ $code != 0 ] || {{ : >"$t/out"; echo "{line}" >"$t/err"; code={status}; }}'
+
+
+def of(words_: str, text: str) -> str:
+    """Shell text that applies to some commands only."""
+    return f'case "$1 $2 " in {words_}) {text} ;; esac'
+
+
+NO_WINDOWS = r"""sed 's/"down" *: *\[\(\[[^]]*\][, ]*\)*\]/"down":[]/' "$5" >"$t/s"; set -- "$1" "$2" "$3" "$4" "$t/s" """
+WHOLE = '"$program" layout "$3" "$4" >/dev/null 2>&1 && { shift 2; set -- run whole "$@"; exec "$program" "$@"; }'
+SWAPPED = """awk 'NR == 1 { first = $0; next } NR == 2 { print } NR == 2 { print first; next } { print } END { if (NR == 1) print first }' \\
+    "$t/out" >"$t/new" && mv "$t/new" "$t/out" """
+NO_LAST_CELL = """awk '/^s[0-9]+ / { if (held != "") print held; held = $0; next } { if (/^entered/) held = ""; if (held != "") print held
+    held = ""; print }' "$t/out" >"$t/new" && mv "$t/new" "$t/out" """
+LIES: Dict[str, Lie] = {
+    "tells the truth": Lie([]),
+    "refuses every layout": Lie(["rows layouts", "rows pipelines", "generated", "drawn"], behind=of("layout*|run?pipe*", refusal(7, "nofit: node 0"))),
+    "accepts no program": Lie(["rows checks", "generated", "drawn"], behind=of("check*", refusal(5, "types: declaration 1 line 1"))),
+    "ignores windows of links": Lie(["rows networks"], before=of("run*", NO_WINDOWS)),
+    "runs `run pipe` by running handlers whole": Lie(["refused pipes"], before=of("run?pipe*", WHOLE)),
+    "runs `run placed` whatever the placement": Lie(["rows placements"], behind=of("audit*", '[ $code != 12 ] || { code=0; : >"$t/err"; }')),
+    "has no `bench`": Lie(["rows generated", "generated"], before=of("bench*", "echo usage >&2; exit 1")),
+    "reports `memory` always": Lie(["rows checks", "mutated", "generated"], before="echo memory >&2; exit 11"),
+    "ends by a signal": Lie(["mutated", "rows checks"], before="kill -SEGV $$"),
+    "swaps two lines of a log": Lie(["rows networks"], behind=of("run*", SWAPPED)),
+    "drops the last cell": Lie(["rows networks"], behind=of("run*", NO_LAST_CELL)),
+    "ends with another status": Lie(["rows checks"], behind="[ $code != 6 ] || code=5"),
+    "prints errors on its output": Lie(["rows refusals", "mutated"], behind='cat "$t/err" >>"$t/out"; : >"$t/err"'),
+    "writes one byte more than it should": Lie(["rows accepted"], behind='[ $code != 0 ] || echo >>"$t/out"'),
+    "is content with a full device": Lie(["streams"], behind='cat "$t/out" 2>/dev/null || exit $code; : >"$t/out"'),
+}
+SCRIPT_70 = "#!/bin/sh\nexit 70\n"
+
+
+def of_rows(name: str) -> Callable[[Group], None]:
+    return lambda group: rows.run_files(group, [f"{name}.rows"])
+
+
+def drawn(group: Group) -> None:
+    import drawn as module
+
+    _, failed = module.run_drawn(str(group.options.program), 100, 0, say=lambda text: None)
+    group.check("drawn calls", failed == 0, failed)
+
+
+def one_network(group: Group) -> None:
+    generated.network(group, 7, 20)
+
+
+def pipes(group: Group) -> None:
+    refused.prepare(group)
+    refused.pipes_take_memory(group)
+
+
+def some_mutated(group: Group) -> None:
+    mutated.run_numbers(group, range(40))
+
+
+CHECKS: Dict[str, Callable[[Group], None]] = {
+    **{f"rows {name}": of_rows(name) for name in "checks layouts pipelines networks placements generated refusals".split()},
+    "rows accepted": of_rows("limits"),
+    "generated": one_network,
+    "mutated": some_mutated,
+    "streams": streams.faults_of_a_stream,
+    "refused pipes": pipes,
+}
+if (TESTS / "drawn.py").exists():
+    CHECKS["drawn"] = drawn
+
+
+def wrapper(group: Group, name: str, lie: Lie) -> Path:
+    """Writes the wrapper of a lie."""
+    path = group.file(name.replace(" ", "-").replace("`", ""), WRAPPER.format(program=group.options.program, before=lie.before, behind=lie.behind))
+    path.chmod(0o755)
+    return path
+
+
+def run(group: Group) -> None:
+    truth = LIES["tells the truth"]
+    honest = wrapper(group, "honest", truth)
+    tasks = [("tells the truth", honest, name) for name in CHECKS]
+    for title, lie in LIES.items():
+        program = wrapper(group, title, lie)
+        tasks += [(title, program, name) for name in lie.checks if name in CHECKS]
+    seen = group.side_by_side(lambda task: failure(group, CHECKS[task[2]], program=task[1]), tasks)
+    for (title, _, name), failed in zip(tasks, seen):
+        if title == "tells the truth":
+            group.check(f"`{name}` passes under a wrapper without a lie", not failed, failed)
+        elif group.check(f"`{name}` fails on a program that {title}", bool(failed)):
+            group.note(f"liars: {title}: {name}: {failed[:100]}")
+    script = group.file("lucid", SCRIPT_70)
+    script.chmod(0o755)
+    failed = failure(group, lambda below: words.words_of_the_script(below, script))
+    group.check("`words` fails on a script that ends with 70", bool(failed))
+
+
+def failure(group: Group, check: Callable[[Group], None], **options: Path) -> str:
+    """The name of the first check of a part that fails with this program, or an empty text."""
+    try:
+        check(group.under(**options))
+    except Stopped as stopped:
+        return str(stopped)
+    return ""

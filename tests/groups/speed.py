@@ -1,0 +1,98 @@
+"""Seconds of the built program beside a plain program without proofs that does the same (reference.rs, which `rustc` compiles).
+
+Runs the program that `gen` makes of 7 in a network of 64 switches, in pipes that are half full, and in one pipe that is driven by hand.
+Fails if the two write other bytes. Then prints a line of a table for each call: processor seconds, the least of five calls that take
+turns, or of `--runs` many, and their factor; and the nanoseconds of one stage of a packet. Sees no speed of other programs.
+"""
+from __future__ import annotations
+
+import json
+import random
+import statistics
+import subprocess
+from pathlib import Path
+from typing import Dict, List
+
+from harness import TESTS, Group, compile_c, measure, table
+
+CALLS = [
+    "run whole program limits network",
+    "run pipe program limits network",
+    "drive program limits drive",
+    "bench 7 10000",
+    "run pipe program limits stages",
+    "run pipe bare limits stages",
+]
+FACTOR = 2
+
+
+def event(draw: random.Random, at: int, switch: int) -> Dict[str, object]:
+    return {"at": at, "switch": switch, "name": f"e{draw.randrange(8)}", "args": [draw.randrange(1000), draw.randrange(1000)]}
+
+
+def network() -> Dict[str, object]:
+    """30,000 events times FACTOR over 64 switches in 32 pairs."""
+    draw, stop = random.Random(1), 1024 * FACTOR
+    links = [[k, k + 1, 1 + k % 5] for k in range(0, 64, 2)]
+    events = [event(draw, draw.randrange(stop), draw.randrange(64)) for _ in range(30000 * FACTOR)]
+    return {"switches": 64, "stop": stop, "links": links, "events": events}
+
+
+def stages() -> Dict[str, object]:
+    """48 events for each of these switches, whose descendants keep all pipes half full."""
+    draw = random.Random(3)
+    return {**network(), "events": [event(draw, at, switch) for at in range(48) for switch in range(64)]}
+
+
+def drive() -> Dict[str, object]:
+    """60,000 steps times FACTOR of one pipe."""
+    draw, count = random.Random(2), 60000 * FACTOR
+    events = [event(draw, at, 0) for at in range(count // 40)]
+    steps: List[List[object]] = []
+    while len(steps) < count:
+        choice = draw.random()
+        if choice < 0.04:
+            steps.append(["enter"])
+        elif choice < 0.06:
+            steps.append(["look", f"a{draw.randrange(8)}", draw.randrange(64)])
+        else:
+            steps.append(["go", draw.randrange(32)])
+    return {"stop": 1, "events": events, "steps": steps}
+
+
+def prepare(group: Group) -> Path:
+    """Compiles the reference, and writes the files of all calls. The program `bare` sends its events and does nothing else."""
+    reference = group.room / "reference"
+    subprocess.run(["rustc", "--edition", "2024", "-O", "-o", reference, TESTS / "reference.rs"], check=True)
+    for kind in "program", "limits":
+        group.file(kind, group.call("gen", kind, "7", "1").out)
+    for name, make in (("network", network), ("stages", stages), ("drive", drive)):
+        group.file(name, json.dumps(make()))
+    lines = (group.room / "program").read_text().splitlines(keepends=True)
+    group.file("bare", "".join(line for line in lines if not (line.startswith("  ") and "Array." in line)))
+    return reference
+
+
+def run(group: Group) -> None:
+    spent, reference = compile_c(group, "spent.c"), prepare(group)
+    entered = 1
+    for words in CALLS:
+        ours = measure(spent, [group.options.program, *words.split()], group.room).ended
+        theirs = measure(spent, [reference, *words.split()], group.room).ended
+        group.check(f"{words}: the bytes of the plain program", ours == theirs and ours.status == 0, ours)
+        entered = next((int(line.split()[1]) for line in ours.out.splitlines()[::-1] if line.startswith(b"entered")), entered)
+    times = [{words: (seconds(group, spent, group.options.program, words), seconds(group, spent, reference, words)) for words in CALLS}
+             for _ in range(group.options.runs or 5)]
+    count = entered * json.loads((group.room / "limits").read_text())["stages"]
+    rows = [row(f"`{words}`", "%.3f", *(min(turn[words][side] for turn in times) for side in (0, 1))) for words in CALLS]
+    steps = [statistics.median(turn[CALLS[-2]][side] - turn[CALLS[-1]][side] for turn in times) / count * 1e9 for side in (0, 1)]
+    table(group, ["Command", "Ours", "Plain Rust", "Factor"], [*rows, row("a stage of a packet, ns", "%.1f", *steps)])
+
+
+def seconds(group: Group, spent: Path, program: Path, words: str) -> float:
+    """Processor seconds of a call whose output goes to /dev/null."""
+    return measure(spent, ["sh", "-c", 'exec "$@" >/dev/null', "sh", program, *words.split()], group.room).seconds
+
+
+def row(name: str, form: str, ours: float, theirs: float) -> List[str]:
+    return [name, form % ours, form % theirs, f"{ours / theirs:.2f}" if theirs > 0 else ""]

@@ -1,0 +1,39 @@
+"""Unusual words of the program and of the script `lucid`.
+
+Fails on a script that cuts or joins words, that ends otherwise than the program, or that does not take the built program. Sees nothing of
+the texts that the words name.
+"""
+from __future__ import annotations
+
+from harness import FIRST, TOP, Group, Word, call
+
+EIGHT = "event wide(int a, int b, int c, int d, int e, int f, int g, int h);"
+
+
+def run(group: Group) -> None:
+    words_of_the_program(group)
+    words_of_the_script(group, TOP / "lucid")
+
+
+def words_of_the_program(group: Group) -> None:
+    """A word and a limits file that are no text, and the names of a folder and of nothing."""
+    expect = group.expect
+    expect("a word that is not UTF-8", group.call("once", FIRST, "pkt", b"\377"), 1, err=b"usage\n")
+    limits = group.file("limits", b'{"\377":4}')
+    expect("limits that are not UTF-8", group.call("layout", FIRST, limits), 8, err=b"limits: not JSON\n")
+    expect("a folder", group.call("once", "examples", "pkt", "5", cwd=TOP), 2, err=b"read fault: examples\n")
+    expect("an empty name", group.call("check", ""), 2, err=b"read fault: \n")
+
+
+def words_of_the_script(group: Group, lucid: Word) -> None:
+    """Words go through the script unchanged, and no other build answers them."""
+    usage = call([lucid])
+    group.expect("the script takes the built program", usage, 1, err=b"usage\n")
+    wide = group.file("a file", EIGHT)
+    blank = group.file("a file ", "event other();")
+    eight = "12345678"
+    expect = lambda name, words, status, out, err: group.expect(name, call([lucid, *words]), status, out, err)
+    expect("a name with a blank and eight arguments", ["once", wide, "wide", *eight], 0, b"[0] s0 wide(1,2,3,4,5,6,7,8)\n", b"")
+    expect("nine arguments", ["once", wide, "wide", *eight, "9"], 1, b"", b"usage\n")
+    expect("a name with a blank at its end", ["once", blank, "other"], 0, b"[0] s0 other()\n", b"")
+    expect("an empty word", ["once", wide, ""], 1, b"", b"usage\n")

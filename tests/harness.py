@@ -1,0 +1,223 @@
+"""What all groups of tests share: calls of the built program, checks that are counted, measured calls, and work side by side.
+
+A group is a module of tests/groups with a function `run(group)`. It calls the program with `group.call` and counts each of its checks with
+`group.check`; `group.note` prints a line of its result. It writes its files into `group.room`, which is removed afterwards.
+"""
+from __future__ import annotations
+
+import os
+import re
+import shutil
+import subprocess
+import tempfile
+import threading
+from concurrent.futures import ThreadPoolExecutor
+from dataclasses import dataclass, field, replace
+from pathlib import Path
+from typing import Any, Callable, Iterable, List, Optional, Sequence, Union
+
+TOP = Path(__file__).resolve().parent.parent
+TESTS = TOP / "tests"
+EXAMPLES = TOP / "examples"
+PROGRAM = TOP / "crates/lucid_main/out/lucid_main"
+FIRST = EXAMPLES / "first.luc"
+FIRST_LOG = b"[0] s0 pkt(5)\n  generate seen(5,7) delay 0 here\ns0 last[1] = 7\n"
+Word = Union[str, bytes, Path]
+
+
+@dataclass(frozen=True)
+class Ended:
+    """How a call ended: its exit status (a negative one is a signal), its output and its error stream."""
+
+    status: int
+    out: bytes
+    err: bytes
+
+    def __str__(self) -> str:
+        return f"status {self.status}, out {self.out[:80]!r}, err {self.err[:120]!r}"
+
+
+@dataclass(frozen=True)
+class Spent:
+    """How a measured call ended, its processor seconds and its peak memory in MB."""
+
+    ended: Ended
+    seconds: float
+    megabytes: int
+
+
+@dataclass(frozen=True)
+class Options:
+    """The options of tests/run, which all groups share."""
+
+    program: Path = PROGRAM
+    whole: bool = False
+    large: bool = False
+    fill: bool = False
+    runs: Optional[int] = None
+    seed: int = 0
+    keep: Optional[Path] = None
+    only: Sequence[str] = ()
+
+
+class Stopped(Exception):
+    """A check failed in a group that stops at its first failure."""
+
+
+@dataclass
+class Group:
+    """One group while it runs: the program under test, a temporary folder, and the checks so far."""
+
+    name: str
+    options: Options
+    room: Path
+    quiet: bool = False
+    stops: bool = False
+    passed: int = 0
+    failed: int = 0
+    lock: Any = field(default_factory=threading.Lock)
+
+    def check(self, name: str, holds: bool, detail: object = "") -> bool:
+        """Counts a check, and prints its name if it failed; after 20 failures a group prints no more of them."""
+        with self.lock:
+            self.passed += bool(holds)
+            self.failed += not holds
+            if not holds and not self.quiet and self.failed <= 20:
+                print(f"{self.name}: failed: {name}{': ' if detail else ''}{detail}", flush=True)
+        if self.stops and not holds:
+            raise Stopped(name)
+        return bool(holds)
+
+    def note(self, text: str) -> None:
+        if not self.quiet:
+            print(text, flush=True)
+
+    def call(self, *words: Word, **how: Any) -> Ended:
+        return call([self.options.program, *words], **how)
+
+    def expect(self, name: str, ended: Ended, status: int, out: bytes = b"", err: bytes = b"") -> bool:
+        """Checks that a call ended with exactly this status, output and error stream."""
+        return self.check(name, ended == Ended(status, out, err), ended)
+
+    def file(self, name: str, text: Union[str, bytes]) -> Path:
+        """Writes a file of the group's folder."""
+        path = self.room / name
+        path.write_bytes(text.encode() if isinstance(text, str) else text)
+        return path
+
+    def side_by_side(self, work: Callable[[Any], Any], items: Iterable[Any]) -> List[Any]:
+        """Applies a function to all items, as many at a time as there are processors; the results are in the order of the items."""
+        with ThreadPoolExecutor(os.cpu_count() or 1) as pool:
+            return list(pool.map(work, items))
+
+    def under(self, **options: Any) -> "Group":
+        """A group of other options with a count and a folder of its own, which prints nothing and stops at its first failure."""
+        return Group(self.name, replace(self.options, **options), Path(tempfile.mkdtemp(dir=self.room)), quiet=True, stops=True)
+
+
+def call(
+    words: Sequence[Word],
+    cwd: Union[Path, str, None] = None,
+    env: Optional[dict] = None,
+    stdin: Any = subprocess.DEVNULL,
+    stdout: Any = subprocess.PIPE,
+    stderr: Any = subprocess.PIPE,
+    timeout: float = 600,
+) -> Ended:
+    """Runs a command. One that takes longer than `timeout` seconds is killed, and so ends by a signal."""
+    child = subprocess.Popen([os.fspath(word) for word in words], cwd=cwd, env=env, stdin=stdin, stdout=stdout, stderr=stderr)
+    try:
+        out, err = child.communicate(timeout=timeout)
+    except subprocess.TimeoutExpired:
+        child.kill()
+        out, err = child.communicate()
+    return Ended(child.returncode, out or b"", err or b"")
+
+
+def shell(text: str, *words: Word, **how: Any) -> Ended:
+    """Runs a command of the shell, in which the words are "$@"."""
+    return call(["sh", "-c", text, "sh", *words], **how)
+
+
+def with_variables(**variables: object) -> dict:
+    """The environment with these variables added."""
+    return {**os.environ, **{name: str(value) for name, value in variables.items()}}
+
+
+def compile_c(group: Group, source: str, *flags: str) -> Path:
+    """Compiles a C file of tests/ into the group's folder."""
+    made = group.room / source.replace(".c", "")
+    subprocess.run(["cc", "-O1", *flags, "-o", made, TESTS / source], check=True)
+    return made
+
+
+def measure(spent: Path, words: Sequence[Word], cwd: Union[Path, str, None] = None, seconds: int = 120) -> Spent:
+    """Runs a command below the compiled spent.c, with at most so many processor seconds, 8 MiB of stack and the memory of the machine."""
+    with tempfile.NamedTemporaryFile() as numbers:
+        limits = f'ulimit -S -s 8192; ulimit -S -t {seconds}; exec "$@"'
+        ended = shell(limits, spent, numbers.name, *words, cwd=cwd, timeout=10 * seconds)
+        code, took, most = numbers.read().split() or (128 + 9, 10 * seconds, 0)
+    status = int(code) if int(code) < 128 else 128 - int(code)
+    return Spent(Ended(status, ended.out, ended.err), float(took), int(most))
+
+
+def best(spent: Path, words: Sequence[Word], turns: int, cwd: Union[Path, str, None] = None, seconds: int = 120) -> Spent:
+    """The quickest of several calls of a command."""
+    return min((measure(spent, words, cwd, seconds) for _ in range(turns)), key=lambda it: it.seconds)
+
+
+def table(group: Group, titles: Sequence[str], rows: Iterable[Sequence[object]]) -> None:
+    """Prints a table of Markdown."""
+    for cells in [titles, ["---"] * len(titles), *rows]:
+        group.note("|" + "|".join(str(cell) if cell == "---" else f" {cell} " for cell in cells) + "|")
+
+
+def fnv(data: bytes) -> int:
+    """FNV-1a of 64 bits."""
+    number = 14695981039346656037
+    for byte in data:
+        number = ((number ^ byte) * 1099511628211) & (2**64 - 1)
+    return number
+
+
+def run_group(name: str, work: Callable[[Group], None], options: Options) -> Group:
+    """Runs a group in a temporary folder of its own."""
+    room = Path(tempfile.mkdtemp(prefix=f"lucid-{name}-"))
+    group = Group(name, options, room)
+    try:
+        work(group)
+    finally:
+        shutil.rmtree(room, ignore_errors=True)
+    return group
+
+
+NUMBER = r"\d+"
+LISTED = {
+    1: "usage",
+    2: "read fault: .*",
+    3: "too long: .+",
+    4: rf"syntax: (byte|token|nesting at token) {NUMBER}",
+    5: rf"types: declaration {NUMBER} line {NUMBER}( limit (arrays|array parameters|value parameters|arguments|outs|cases))?",
+    6: rf"order: declaration {NUMBER} line {NUMBER} cycle .+",
+    7: rf"nofit: ((ops|size|bits|node) {NUMBER}|arms .+)",
+    8: "limits: (not JSON|file|other|stages|tables|rows|arrays|arms|bits|recirc)",
+    9: rf"scene: (not JSON|file|other|version|switches|stop|links|down|events|steps|(links|down|events|steps) {NUMBER})",
+    10: "write fault",
+    11: "memory",
+    12: rf"placement: (not JSON|file|other|nodes|nodes {NUMBER}|node {NUMBER} (range|early)"
+    rf"|stage {NUMBER} (table {NUMBER} rows|arrays))",
+    13: rf"sizes: (too long|.+ twice|broken at token {NUMBER})",
+}
+
+
+def is_listed(ended: Ended) -> bool:
+    """Whether docs/ERRORS.md lists this status with this error stream: nothing for 0, otherwise one line of that status."""
+    if ended.status == 0:
+        return ended.err == b""
+    line = LISTED.get(ended.status)
+    return line is not None and re.fullmatch(line + "\n", ended.err.decode("utf-8", "replace")) is not None
+
+
+def is_well_ended(ended: Ended) -> bool:
+    """Whether a call that had memory and a stream to write on may end so: a listed line, and no output beside it."""
+    return is_listed(ended) and ended.status not in (10, 11) and (ended.status == 0 or ended.out == b"")
