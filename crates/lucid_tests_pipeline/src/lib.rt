@@ -1,20 +1,7 @@
-// Tests of passes, first fit and the pipe by their public calls: code worked by hand, and drawn code.
-// Drawn code is compared with each pass's result, and packets that move in any order with packets that traverse the stages alone.
+// Tests of first fit and of the pipe by their public calls, on code worked by hand.
 // Nothing depends on this crate.
 #![tactic(auto)]
 
-#[cfg(test)]
-mod boxes;
-#[cfg(test)]
-mod codes;
-#[cfg(test)]
-mod drawn_passes;
-#[cfg(test)]
-mod drawn_pipes;
-#[cfg(test)]
-mod drawn_whole;
-#[cfg(test)]
-mod draws;
 #[cfg(test)]
 mod flights;
 #[cfg(test)]
@@ -26,8 +13,4 @@ mod layouts;
 #[cfg(test)]
 mod layouts_shown;
 #[cfg(test)]
-mod operands;
-#[cfg(test)]
 mod placed;
-#[cfg(test)]
-mod worked;

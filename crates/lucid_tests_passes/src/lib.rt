@@ -1,0 +1,10 @@
+// Tests of the passes over operations by their public calls, on two programs worked by hand.
+// Nothing depends on this crate.
+#![tactic(auto)]
+
+#[cfg(test)]
+mod boxes;
+#[cfg(test)]
+mod operands;
+#[cfg(test)]
+mod worked;
