@@ -23,9 +23,9 @@ use lucid_merge::{guards_contradict, products_act, products_name};
 use lucid_tables::Placed;
 use std::alloc::Global;
 
-/// The code in the stages and tables of a plan, which has a place for each node (asked of the caller): Ok exactly where the counts of the
-/// code keep their limits and the places of its nodes the rules (`IsAudited` of specs/Audit), and else the first cause (`IsRefused` of
-/// specs/Refused). A pass through the stages does what the code does, as `Placed::code` tells.
+/// Places the code in the stages and tables of a plan. The caller guarantees a place for each node. Returns Ok exactly if the counts of
+/// the code keep their limits and the places of its nodes the rules (`IsAudited` of specs/Audit), and otherwise the first cause
+/// (`IsRefused` of specs/Refused). By `Placed::code`, a pass through the stages has the effect of the code.
 #[tactic(auto, using(crate::proofs::CountsRefuse::counts_refuse))]
 pub fn audit(alloc: Global, code: Code, limits: &Limits, plan: &Plan) -> Result<Placed, AuditError>
     requires limits { AreLimits limits.now }

@@ -1,4 +1,4 @@
-// How many nodes that call an array stand in a stage.
+// The number of nodes in a stage that call an array.
 ghost use Rattle.std.specs.Prelude.{◌≡◌, ◌<◌, ◌≤◌, ◌^◌, ℕ, None, length, IfSome};
 ghost use Rattle.lucid_audit.specs.Audit as spec;
 ghost use Rattle.lucid_audit.specs.Refused.{FirstFull};
@@ -6,7 +6,7 @@ ghost use Rattle.lucid_audit.specs.Refused.{FirstFull};
 use lucid_conf::Limits;
 use lucid_layout::Seat;
 
-/// How many stand in stage `k`.
+/// Counts those in stage `k`.
 pub(crate) fn arrays_at(seats: &[Seat], k: u32) -> u32
     requires { length seats.now < 2 ^ 32 }
     ensures { result ≡ spec.arrays_at k seats.now }

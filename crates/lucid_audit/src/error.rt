@@ -10,15 +10,15 @@ use std::alloc::{AllocError, AllocFailed};
 /// Why a placement is refused (`IsRefused` of specs/Refused), in the order in which the causes are tried.
 #[derive(Clone, Copy)]
 pub enum AuditError {
-    /// The code has more than 4,096 operations: so many.
+    /// The code has this many operations, more than 4,096.
     Ops(u64),
-    /// A packet carries more bits than `limits.bits`: so many.
+    /// A packet carries this many bits, more than `limits.bits`.
     Fields(u64),
     /// An array has more calls than `limits.arms`: the first such array.
     Arms(u32),
     /// The stage or the table of a node isn't there: the number of the first such node, from 0.
     Range(u32),
-    /// A node doesn't stand in a stage above all nodes that write what it reads: the number of the first such node.
+    /// A node is not in a stage above all nodes that write its reads: the number of the first such node.
     Early(u32),
     /// A table, or a product on the way to it, has more rows than `limits.rows`: the first such stage, and its first such table.
     Rows { stage: u32, table: u32 },

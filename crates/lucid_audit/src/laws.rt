@@ -1,7 +1,7 @@
-// What holds of all placements. Nothing runs.
+// Laws of all placements. Nothing runs.
 ghost use Rattle.lucid_audit.specs.Laws.{AuditsAreOne, FirstFitsAreAccepted};
 
-/// The places of every first fit keep the rules, and where code has a layout, it is what `audit` answers for the places of its first fit.
+/// The places of every first fit keep the rules. If code has a layout, `audit` returns it for the places of its first fit.
 #[tactic(auto, using(crate::proofs::FitsAccepted::first_fits_are_accepted))]
 pub fn first_fits_are_accepted()
     ensures { FirstFitsAreAccepted }

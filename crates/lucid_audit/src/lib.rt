@@ -1,9 +1,8 @@
-// Placements that anyone made: read from a file, and audited.
-// `plan_of` reads a placement file, or tells what is wrong with it. `audit` answers a placed code exactly where the counts of the code keep
-// their limits and each node stands behind those that it reads from, in a table and a stage that keep theirs, and else the first cause.
-// Places give one placed code or one cause, and what first fit places is accepted as the very layout that it is. The pages to read are
-// specs/PlanFile, specs/Audit and specs/Refused. Stands on lucid_layout, whose nodes, counts and tables of nodes these are, and on
-// lucid_conf for the limits.
+// Placements by hand or by another tool: read from a file, and audited. `plan_of` reads a placement file, or reports its first fault.
+// `audit` returns a placed code exactly if the counts of the code keep their limits and each node follows those that it reads from, in a
+// table and a stage that keep theirs; otherwise it returns the first cause. Places determine one placed code or one cause, and the places
+// of first fit are accepted as that very layout. Read specs/PlanFile, specs/Audit and specs/Refused. Depends on lucid_layout for nodes,
+// counts and tables of nodes, and on lucid_conf for the limits.
 #![tactic(auto)]
 
 mod auditing;

@@ -12,8 +12,8 @@ use lucid_base::Items;
 use lucid_json::{Map, Unread, Value, at, get, items_in, members_in, number_in};
 use std::alloc::Global;
 
-/// The plan that the bytes write for so many nodes: Ok exactly where they are JSON that `plan_read` reads, with what it reads; `NotJson`
-/// exactly where they are no JSON; `BadField` exactly where it refuses, with the key and the place that it names. A plan has so many places.
+/// Reads a plan for this many nodes. Returns Ok exactly if the bytes are JSON that `plan_read` reads, with its result; `NotJson` exactly
+/// if they are no JSON; `BadField` exactly if `plan_read` refuses, with its key and place. A plan has one place for each node.
 pub fn plan_of(alloc: Global, bytes: &[u8], nodes: usize) -> Result<Plan, PlanError>
     ensures value { Answers result (plan_read nodes) bytes.now }
     ensures count { IfOk result (λ plan. length plan.pairs ≡ nodes) }
@@ -43,7 +43,7 @@ fn bad<T>(key: PlanKey) -> Result<T, PlanError>
     Err(PlanError::BadField { key, place: None })
 }
 
-/// The pairs that the file's value writes for so many nodes.
+/// Reads the pairs of a file's value for this many nodes.
 #[tactic(auto, using(crate::proofs::Counted::none_ok))]
 fn read_plan(alloc: Global, value: &Value, nodes: usize) -> Result<Items<(u32, u32)>, PlanError>
     ensures value { Gives result (plan_read nodes (view value.now)) }
@@ -88,7 +88,7 @@ fn read_nodes(alloc: Global, value: &Value, nodes: usize) -> Result<Items<(u32, 
     }
 }
 
-/// The pairs of a list that has so many.
+/// Reads the pairs of a list of this length.
 #[tactic(auto, using(crate::proofs::Counted::counted, crate::proofs::Counted::none_ok))]
 fn counted(alloc: Global, values: &[Value], nodes: usize) -> Result<Items<(u32, u32)>, PlanError>
     ensures value { Gives result (nodes_read nodes (Some (items_view values.now))) }
@@ -127,7 +127,7 @@ fn bad_at<T>(place: usize) -> Result<T, PlanError>
             key: PlanKey::Nodes,
             place: Some(place),
         }),
-        // No memory holds so many items.
+        // No memory holds this many items.
         Err(_) => Err(PlanError::Memory),
     }
 }

@@ -7,13 +7,13 @@ use crate::{ArrayDef, Bits, Items, MemAlu, Memory};
 use std::alloc::Global;
 use std::marker::Model;
 
-/// What the cells of each array hold, which contracts see as a list of lists.
+/// The cells of all arrays. Contracts see them as a list of lists.
 #[derive(Drop)]
 pub struct Cells {
     arrays: Vec<Items<u64>>,
 }
 
-/// What a call of an array found in its cell, and what it answers.
+/// The old value of a cell and the answer of the call.
 #[derive(Clone, Copy, Debug)]
 pub struct Touched {
     pub held: u64,
@@ -57,7 +57,7 @@ impl Cells {
         copied(alloc, self.arrays.as_slice())
     }
 
-    /// What a cell of an array holds. Cell `i` is `i` modulo the size; an array that isn't there, or has no cells, holds 0.
+    /// Returns a cell of an array. Cell `i` is `i` modulo the size; an array that does not exist or has no cells holds 0.
     pub fn get(&self, array: u32, cell: u64) -> u64
         ensures { result ≡ cell_at self.now array cell }
     {
@@ -77,8 +77,8 @@ impl Cells {
         }
     }
 
-    /// Lets a cell of an array hold what a memop gives of what it held and an argument, where it is there, and gives what it held. Cell `i` is
-    /// `i` modulo the size; an array that isn't there, or has no cells, held 0. The cell is found once.
+    /// Writes the memop's result for the old value and an argument into a cell, if the cell exists, and returns the old value. Cell `i`
+    /// is `i` modulo the size; an array that does not exist or has no cells held 0. Finds the cell once.
     pub fn set_by(&mut self, array: u32, cell: u64, set: &MemAlu, arg: u64) -> u64
         ensures held { result ≡ cell_at self.old array cell }
         ensures stored { self.new ≡ with_cell self.old array cell (memop_of set.now (cell_at self.old array cell) arg) }
@@ -91,8 +91,8 @@ impl Cells {
         }
     }
 
-    /// A call of an array as the memory of a stage does it: the cell then holds what `set` gives, and the call answers what `get` gives, both
-    /// of what the cell held.
+    /// Does a call of an array as the memory of a stage does it: the cell gets the result of `set` and the call returns the result of
+    /// `get`, both applied to the old value.
     pub fn touch(
         &mut self,
         array: u32,

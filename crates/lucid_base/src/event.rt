@@ -1,4 +1,4 @@
-// Events, and what a handler sends out.
+// Events, and the outs of a handler.
 use crate::Args;
 
 /// The event numbered `id` among the declared events, with its arguments.

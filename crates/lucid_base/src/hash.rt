@@ -1,4 +1,4 @@
-// FNV-1a of 64 bits: the hash of an expression over its words, and its step for whoever hashes bytes as they come.
+// FNV-1a of 64 bits: the hash of an expression over its words, and its step for callers that hash bytes one by one.
 ghost use Rattle.std.specs.Prelude.{◌≡◌};
 ghost use Rattle.std.specs.List.{fold};
 ghost use Rattle.std.specs.Int.{w64, to_le_bytes};
@@ -6,7 +6,7 @@ ghost use Rattle.lucid_base.specs.Hash.{offset_basis, with_byte, hash_of};
 
 use crate::{Bits, Width};
 
-// What each byte multiplies the hash by.
+// The factor for each byte.
 const PRIME: u64 = 0x0000_0100_0000_01b3;
 
 /// The hash of no bytes, with which a hash begins.

@@ -16,7 +16,7 @@ use std::cmp::Ordering;
 use std::hash::{Hash, Hasher};
 use std::marker::Model;
 
-/// An ASCII text, which contracts see as its bytes. Up to 23 bytes stand in the value itself and take no memory of their own.
+/// An ASCII text. Contracts see it as its bytes. Up to 23 bytes are stored in the value itself and take no memory of their own.
 #[derive(Debug, Drop)]
 pub struct Id {
     bytes: SmallVec<u8, 23>,

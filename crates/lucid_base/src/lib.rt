@@ -1,6 +1,6 @@
-// The words that every crate speaks: numbers of a stated width, names, events and what a handler sends out.
-// Each type keeps its bounds as a fact of the type, and each operation equals its formula in specs/.
-// Stands on std and libraries of list types and short vectors alone. Nothing here but the making of a name and of cells takes memory.
+// The base types of all crates: numbers of a stated width, names, events and outs. Each type keeps its bounds as a fact of the type, and
+// each operation equals its formula in specs/. Depends only on std and libraries of list types and short vectors. Only the making of a
+// name and of cells allocates.
 #![tactic(auto)]
 
 mod args;

@@ -1,4 +1,4 @@
-// Want of memory, the one answer that any call which allocates may give.
+// Out of memory: the one error that every allocating call may return.
 use std::alloc::{AllocError, AllocFailed};
 
 /// Memory ran out. No clause ties this answer to a refused growth.

@@ -1,4 +1,4 @@
-// A memop as plain values: what the memory of one stage can compute of a cell and an argument, by the table in specs/Memop.
+// A memop as plain values: a computation of the memory of one stage on a cell and an argument, by the table in specs/Memop.
 ghost use Rattle.std.specs.Prelude.{◌≡◌, ◌<◌, ◌^◌};
 ghost use Rattle.lucid_base.specs.Memop.{operand_of, side_of, apply_of, memop_value};
 
@@ -12,7 +12,7 @@ pub enum MemArg {
     Fixed(u64),
 }
 
-/// What a memop gives on one side of its test: an operand, or an operation on two.
+/// The result on one side of a memop's test: an operand, or an operation on two.
 #[derive(Clone, Copy, Debug, PartialEq, Eq)]
 pub enum MemSide {
     One(MemArg),
@@ -29,7 +29,7 @@ pub struct MemAlu {
 }
 
 impl MemAlu {
-    /// What the memop gives of the stored number and an argument. Both fit its width, and so does what it gives.
+    /// Computes the memop on the stored number and an argument. Both fit its width, and so does the result.
     pub fn apply(&self, stored: u64, arg: u64) -> u64
         requires stored { stored < 2 ^ self.now.width }
         requires arg { arg < 2 ^ self.now.width }
@@ -49,7 +49,7 @@ impl MemAlu {
         side.bits(width, stored, arg).value
     }
 
-    /// What the memop gives of any stored number and argument, which count by their low bits.
+    /// Computes the memop on the low bits of any stored number and argument.
     pub fn apply_low(&self, stored: u64, arg: u64) -> Bits
         ensures { result ≡ memop_value self.now stored arg }
     {

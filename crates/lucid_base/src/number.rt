@@ -1,4 +1,4 @@
-// How a number of a stated width is made of a machine word. It stands apart from the type, which its definition in specs/Bits names.
+// Makes a number of a stated width from a machine word. It is apart from the type, which its definition in specs/Bits names.
 ghost use Rattle.std.specs.Prelude.{◌≡◌, ◌<◌, ◌^◌};
 ghost use Rattle.lucid_base.specs.Bits.{bits_of};
 

@@ -4,7 +4,7 @@ ghost use Rattle.lucid_base.specs.Ops.{un_of, bin_of, cmp_of, low_of, IsShiftBy}
 
 use crate::{Bits, Width};
 
-/// What one operand becomes. Neg, Flip, Shl and Shr are `-`, `~`, `<<` and `>>`, the last two by a fixed amount.
+/// Operations on one operand. Neg, Flip, Shl and Shr are `-`, `~`, `<<` and `>>`, the last two by a fixed amount.
 #[derive(Clone, Copy, Debug, PartialEq, Eq)]
 pub enum UnOp {
     Neg,
@@ -13,7 +13,7 @@ pub enum UnOp {
     Shr(u64),
 }
 
-/// What two operands of one width become. SatAdd and SatSub are `|+|` and `|-|`, which stop at the ends of the width.
+/// Operations on two operands of one width. SatAdd and SatSub are `|+|` and `|-|`, which stop at the ends of the width.
 #[derive(Clone, Copy, Debug, PartialEq, Eq)]
 pub enum BinOp {
     Add,

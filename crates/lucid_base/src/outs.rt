@@ -1,4 +1,4 @@
-// What one event sends out, in order.
+// The outs of one event, in order.
 ghost use Rattle.std.specs.Prelude.{◌≡◌, ◌<◌, ◌≤◌, [], ◌∷◌, ◌++◌, length};
 
 use crate::{Args, Out};

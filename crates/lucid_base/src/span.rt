@@ -1,4 +1,4 @@
-// Where a piece of a text stands.
+// The position of a piece of a text.
 
 /// The bytes of a text from `start` up to, and not with, `end`; both count bytes from 0.
 #[derive(Clone, Copy, Debug, PartialEq, Eq)]

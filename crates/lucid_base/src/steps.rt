@@ -22,8 +22,8 @@ impl<L: Ledger> Model for Steps<L> {
     ghost invariant = { λ s. 0 < s.share.parts };
 }
 
-/// What a counter is made of. Whoever counts nothing passes `uncounted()` with `Brand` for `L` to a function over `L: Ledger`,
-/// which makes a counter of it by `Steps::new`: `f::<Brand>(.., uncounted())`.
+/// The start of a counter. A caller that counts nothing passes `uncounted()` with `Brand` for `L` to a function over `L: Ledger`, which
+/// makes a counter of it by `Steps::new`: `f::<Brand>(.., uncounted())`.
 pub fn uncounted() -> Blank
     ensures { result.parts ≡ 1 }
 {
@@ -31,7 +31,7 @@ pub fn uncounted() -> Blank
 }
 
 impl<L: Ledger> Steps<L> {
-    /// A counter at 0, from the blank ledger that `L` stands for.
+    /// Makes a counter at 0 from the blank ledger of `L`.
     pub fn new(blank: Blank) -> Steps<L>
         requires name { blank.name ≡ L.name }
         requires parts { blank.parts ≡ L.parts }

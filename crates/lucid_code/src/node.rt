@@ -1,4 +1,4 @@
-// What is placed as one.
+// The unit of placement.
 
 /// An operation that calls no array, by its place in the list, or all calls of an array.
 #[derive(Clone, Copy)]

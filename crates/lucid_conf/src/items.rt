@@ -7,7 +7,7 @@ ghost use Rattle.lucid_conf.specs.Fields.{text_of as text_under, args_of as args
 use lucid_base::Args;
 use lucid_json::{Value, at, get, items_in, number_in, text_in};
 
-// An event's arguments are at most so many.
+// The most arguments of an event.
 const MOST_ARGS: usize = 8;
 
 /// The number at a place of a list.

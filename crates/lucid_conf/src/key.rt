@@ -1,8 +1,8 @@
-// The keys of both files, and what a fault may name besides them.
+// The keys of both files, and other things that a fault may name.
 ghost use Rattle.std.specs.Prelude.{◌≡◌};
 ghost use Rattle.lucid_conf.specs.Keys.{name_of};
 
-/// What a fault names.
+/// The part of a file that a fault names.
 #[derive(Clone, Copy)]
 pub enum Key {
     /// The file itself, which is no object.

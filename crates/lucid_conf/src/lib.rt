@@ -1,8 +1,8 @@
-// The two JSON files: limits of a target, and scenarios of a network.
-// `limits_of` and `scene_of` answer exactly what the tables in specs/Tables.antt read of the value that the bytes spell, or the first key that
-// fails and, of a list, the first bad item (specs/Items.antt says what an item must be). What an accepted file keeps, so that nobody above tests
-// it again, is in specs/Kept.antt. Stands on lucid_base, lucid_core for programs and the fit of events, lucid_json for the value of the
-// bytes, serde_json's definition of it, and indexmap.
+// The two JSON files: limits of a target, and scenarios of a network. `limits_of` and `scene_of` return exactly the result of the tables
+// in specs/Tables.antt for the JSON value of the bytes, or the first key that fails and, of a list, the first bad item (specs/Items.antt
+// has the rules of an item). The invariants of an accepted file, which no caller tests again, are in specs/Kept.antt. Depends on
+// lucid_base, lucid_core for programs and the fit of events, lucid_json for the value of the bytes, serde_json's definition of it, and
+// indexmap.
 #![tactic(auto)]
 
 mod down;

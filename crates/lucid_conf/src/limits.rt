@@ -10,7 +10,7 @@ use crate::{ConfError, Key};
 use lucid_json::Value;
 use std::alloc::Global;
 
-/// What a target has room for.
+/// The capacities of a target.
 #[derive(Clone, Copy)]
 pub struct Limits {
     /// Stages of the pipeline, 1 to 32.
@@ -39,8 +39,8 @@ const KEYS: [Key; 7] = [
     Key::Recirc,
 ];
 
-/// The limits that the bytes write: Ok exactly where they are JSON that `limits_read` reads, with what it reads; `NotJson` exactly where they are no
-/// JSON; `BadField` exactly where it refuses, with the key that it names (no key of this file has a place).
+/// Reads limits. Returns Ok exactly if the bytes are JSON that `limits_read` reads, with its result; `NotJson` exactly if they are no
+/// JSON; `BadField` exactly if `limits_read` refuses, with its key (no key of this file has a place).
 pub fn limits_of(alloc: Global, bytes: &[u8]) -> Result<Limits, ConfError>
     ensures answers { Answers result limits_read bytes.now }
     ensures ranges { IfOk result AreLimits }

@@ -13,7 +13,7 @@ use std::alloc::Global;
 /// Seeded by the names that it has, so that names which collide in it can't be chosen beforehand.
 pub(crate) type Names = IndexMap<String, u32, Seeded>;
 
-// What makes the hashers of a table of these events.
+// Makes the hashers of a table of these events.
 fn seeded_by_events(events: &[EventDef]) -> Seeded {
     let mut seed = Seed::new();
     for event in events {
@@ -22,7 +22,7 @@ fn seeded_by_events(events: &[EventDef]) -> Seeded {
     seed.hashers()
 }
 
-// What makes the hashers of a table of these arrays.
+// Makes the hashers of a table of these arrays.
 fn seeded_by_arrays(arrays: &[ArrayDef]) -> Seeded {
     let mut seed = Seed::new();
     for array in arrays {
@@ -40,7 +40,7 @@ fn put(alloc: Global, names: &mut Names, id: &Id, number: usize) -> Result<(), M
             names.insert(name, number)?;
             Ok(())
         }
-        // No memory holds so many declarations.
+        // No memory holds this many declarations.
         Err(_) => Err(Memory),
     }
 }

@@ -38,7 +38,7 @@ pub(crate) fn bad_at<T>(key: Key, place: usize) -> Result<T, ConfError>
             key,
             place: Some(place),
         }),
-        // No memory holds so many items.
+        // No memory holds this many items.
         Err(_) => Err(ConfError::Memory),
     }
 }

@@ -26,13 +26,13 @@ const KEYS: [Key; 7] = [
     Key::Steps,
 ];
 
-// All switches together have at most so many cells, and at most so many ticks.
+// The most cells of all switches together, and the most ticks.
 const MOST_CELLS: u64 = 4_194_304;
 
 const MOST_TICKS: u64 = 131_072;
 
-/// The scenario that the bytes write for this program: Ok exactly where they are JSON that `scene_read` reads, with what it reads; `NotJson` exactly
-/// where they are no JSON; `BadField` exactly where it refuses, with the key and the place that it names.
+/// Reads a scenario for this program. Returns Ok exactly if the bytes are JSON that `scene_read` reads, with its result; `NotJson`
+/// exactly if they are no JSON; `BadField` exactly if `scene_read` refuses, with its key and place.
 pub fn scene_of(alloc: Global, bytes: &[u8], core: &Core) -> Result<Scene, ConfError>
     ensures answers { Answers result (scene_read core.now) bytes.now }
     ensures keeps { IfOk result (IsScene core.now) }

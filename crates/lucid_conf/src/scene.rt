@@ -1,4 +1,4 @@
-// A scenario as it was read: what happens in a network, and when.
+// A scenario after reading: the events of a network and their ticks.
 use lucid_base::{Event, Items};
 
 /// A link between two switches, which takes both directions.
@@ -10,7 +10,7 @@ pub struct Link {
     pub latency: u64,
 }
 
-/// The link between two switches is down for what departs at a tick from `from` to before `until`.
+/// The link between two switches is down for departures at ticks from `from` to before `until`.
 #[derive(Clone, Copy)]
 pub struct Down {
     pub a: u32,
@@ -38,7 +38,7 @@ pub enum Step {
     Look { array: u32, cell: u64 },
 }
 
-/// What a scenario file tells. What one that was read keeps is `IsScene` in specs/Kept.antt.
+/// The content of a scenario file. The invariants of one that was read are `IsScene` in specs/Kept.antt.
 #[derive(Drop)]
 pub struct Scene {
     /// How many switches there are; they are numbered from 0.

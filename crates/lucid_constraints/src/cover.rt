@@ -7,7 +7,7 @@ use crate::marks::{atom_number, name_number};
 use crate::pair::Atom;
 use lucid_base::ArrayName;
 
-/// The numbers of the arrays that the 8 parameters stand for, where each has one.
+/// The numbers of the arrays that the 8 parameters represent, if each has one.
 pub fn param_places(names: &[ArrayName]) -> Option<[usize; 8]>
     ensures places { IfSome result (λ places. ArePlacesTo names.now places 8) }
     ensures few { IfSome result (λ places. All (λ n. n < 72) places) }
@@ -60,7 +60,7 @@ fn row_held(places: &[usize], theirs: &[bool], from: usize, ours: &[bool], to: u
     globals_held(theirs, from, ours, to) && params_held(places, theirs, from, ours, to)
 }
 
-/// What a number of a function's name is to the caller.
+/// The caller's number of a function's name.
 fn moved(places: &[usize], n: usize) -> usize
     requires places { length places.now ≡ 8 }
     requires few { All (λ n. n < 72) places.now }

@@ -1,4 +1,4 @@
-// The places at which a body may end, and what they are to a caller.
+// The places at which a body may end, and their names in a caller.
 ghost use Rattle.std.specs.Prelude.{◌≡◌, ℕ, [], IfOk, OnOk, max};
 ghost use Rattle.std.specs.List.{list_any};
 ghost use Rattle.lucid_base.specs.Arrays.{name_at as caller_name};
@@ -43,7 +43,7 @@ pub fn join_ends(ends: &mut Items<Atom>, more: &[Atom]) -> Result<(), Memory>
     Ok(())
 }
 
-/// What a function's name of an array is to a caller who gives it these arrays.
+/// The caller's name of a function's array, given the arrays of the call.
 pub fn name_at(names: &[ArrayName], name: ArrayName) -> ArrayName
     ensures { result ≡ caller_name names.now name }
 {
@@ -60,7 +60,7 @@ pub fn name_at(names: &[ArrayName], name: ArrayName) -> ArrayName
     }
 }
 
-/// Adds what a function's place is to the caller.
+/// Adds the caller's name of a function's place.
 fn join_atom_at(
     ends: &mut Items<Atom>,
     names: &[ArrayName],
@@ -75,7 +75,7 @@ fn join_atom_at(
     }
 }
 
-/// The places at which a caller stands after a function that has these ends, given these arrays and called at the places `start`.
+/// The places of a caller after a function with these ends, given these arrays and called at the places `start`.
 pub fn ends_at(
     alloc: Global,
     ends: &[Atom],

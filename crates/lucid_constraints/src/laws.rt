@@ -1,7 +1,7 @@
-// What pairs, ends and cycles mean, as facts of functions that do nothing: callers name their clauses in proofs.
+// The meaning of pairs, ends and cycles, as facts of functions that do nothing: callers name their clauses in proofs.
 ghost use Rattle.lucid_constraints.specs.Laws.{PairsKeepMeaning, AllowedNumberingsRise};
 
-/// Dropping repeats changes nothing of what pairs and ends mean, and to a caller a function's pairs and ends mean what they mean to it.
+/// Dropping repeats keeps the meaning of pairs and ends, and a function's pairs and ends mean the same to a caller as to the function.
 pub fn pairs_keep_meaning()
     ensures { PairsKeepMeaning }
 {}

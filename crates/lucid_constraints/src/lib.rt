@@ -1,6 +1,6 @@
-// Which arrays must come before which: what a function asks of the order of arrays, kept without repeats.
-// It promises that a caller's arrays are put for a function's parameters without a change of what is asked, and that there is no
-// cycle exactly where the names have a strictly rising numbering. Stands on lucid_base alone.
+// The order in which arrays are called: the constraints of a function, kept without repeats. Substituting a caller's arrays for a
+// function's parameters preserves the constraints. There is no cycle exactly if the names have a strictly rising numbering. Depends on
+// lucid_base alone.
 #![tactic(auto)]
 
 mod cover;

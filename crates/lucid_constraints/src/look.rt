@@ -1,4 +1,4 @@
-// One look of the search for a cycle: where a name stands that must come before the head of the path.
+// One look of the search for a cycle: finds a name that must precede the head of the path.
 ghost use Rattle.std.specs.Prelude.{◌≡◌, ◌<◌, length, get_or, MatchOption, true, false};
 ghost use Rattle.lucid_constraints.specs.Circle.{earlier as is_earlier, first_place, source as source_in, Finds};
 ghost use Rattle.lucid_constraints.specs.Same.{same_name as are_same_names};
@@ -6,7 +6,7 @@ ghost use Rattle.lucid_constraints.specs.Same.{same_name as are_same_names};
 use crate::pair::{Atom, Pair};
 use lucid_base::ArrayName;
 
-/// Where the name stands.
+/// The position of the name.
 pub enum Found {
     /// On the path, at this place: the path closes.
     OnPath(usize),

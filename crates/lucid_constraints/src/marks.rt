@@ -1,4 +1,4 @@
-// A table that tells of the pairs of few names whether they are there, so that none is searched for among many.
+// A table that records which pairs of few names are there, so that no list of many pairs is searched.
 ghost use Rattle.std.specs.Prelude.{◌≡◌, ◌<◌, IfOk, IfSome, OnOk, length};
 ghost use Rattle.std.specs.List.{slice_get};
 ghost use Rattle.std.specs.Option.{option_and_then};
@@ -9,7 +9,7 @@ use crate::pair::{Atom, Pair};
 use lucid_base::{ArrayName, Memory};
 use std::alloc::Global;
 
-/// So many pairs are searched; more are looked up.
+/// Up to this many pairs are searched; more are looked up.
 const FEW: usize = 16;
 
 /// The places of the table: 73 atoms before 72 names.
@@ -52,7 +52,7 @@ pub fn pair_number(pair: Pair) -> Option<usize>
     }
 }
 
-/// What the table says of the pair of this number, where it has a place for it.
+/// The table's entry for the pair of this number, if the table has one.
 pub fn marked(marks: &[bool], number: Option<usize>) -> Option<bool>
     ensures place { result ≡ option_and_then (slice_get marks.now) number }
     ensures tells { Tells marks.now number result }

@@ -12,7 +12,7 @@ use lucid_base::ArrayName;
 /// The names that have a place: 8 array parameters and 64 declared arrays.
 const NAMES: usize = 72;
 
-/// So many rounds put each name above all that come before it, if any do.
+/// The rounds after which each name is above all that precede it, if there is such a numbering.
 const ROUNDS: u32 = 73;
 
 fn number(numbers: &[u64], name: ArrayName) -> u64
@@ -24,7 +24,7 @@ fn number(numbers: &[u64], name: ArrayName) -> u64
     }
 }
 
-/// Puts `y` above `x`, unless it stands there.
+/// Moves `y` above `x`, unless it is there.
 fn lift(numbers: &mut [u64], x: ArrayName, y: ArrayName)
     ensures { numbers.new ≡ lifted x y numbers.old }
 {
@@ -98,7 +98,7 @@ fn rise(numbers: &[u64], pairs: &[Pair], arrays: u32) -> bool
     rise_along(numbers, pairs) && rise_declared(numbers, arrays)
 }
 
-/// Lifts the numbers until they rise along all that must come first, or were lifted so many times. Whether they rise.
+/// Lifts the numbers until they rise along all constraints, or for this many rounds. Returns whether they rise.
 #[tactic(auto, using(crate::proofs::SettleLemmas::settle_now, crate::proofs::SettleLemmas::settle_later, crate::proofs::SettleLemmas::settle_never))]
 fn lift_until_they_rise(numbers: &mut [u64], rounds: u32, pairs: &[Pair], arrays: u32) -> bool
     ensures { result ≡ is_settled rounds pairs.now arrays numbers.old }

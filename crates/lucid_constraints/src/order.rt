@@ -14,7 +14,7 @@ use std::alloc::Global;
 use std::marker::Model;
 use std::sync::ledger::Ledger;
 
-/// Pairs, none of which stands twice, in the order in which they came. Contracts see their list.
+/// Pairs without repeats, in the order in which they came. Contracts see their list.
 #[derive(Drop)]
 pub struct Order {
     pairs: Items<Pair>,
@@ -132,7 +132,7 @@ impl Order {
         Ok(())
     }
 
-    /// Adds what a function's pair is to the caller.
+    /// Adds the caller's form of a function's pair.
     fn join_at(&mut self, names: &[ArrayName], start: &[Atom], pair: Pair) -> Result<(), Memory>
         ensures { OnOk result (self.new ≡ join_all are_same_pairs self.old (pairs_at names.now start.now pair)) }
     {
@@ -162,7 +162,7 @@ impl Order {
         }
     }
 
-    /// Adds what a function's pairs are to the caller.
+    /// Adds the caller's forms of a function's pairs.
     fn join_each(
         &mut self,
         pairs: &[Pair],

@@ -1,4 +1,4 @@
-// What a function asks of the order of arrays.
+// The constraint of a function on the order of arrays.
 use lucid_base::ArrayName;
 
 /// A place in a body: its start, or that after a call of an array.

@@ -30,13 +30,14 @@ pub enum Stmt {
         form: u32,
         args: Items<Expr>,
     },
-    /// What the body answers: a value, or nothing. It ends nothing by itself: in a valid program it stands last in its block, and so does an `If`
-    /// that returns on some path, so nothing of the body is left to run behind it.
+    /// Ends the body with a value, or with none. It does not jump: in a valid program it is last in its block, and so is an `If` that
+    /// returns on some path, so nothing of the body remains to run after it.
     Return(Option<Expr>),
 }
 
-/// Gives a block back on a small stack, in a loop where it is deep: what stands behind a return, and behind a case of a `match`, is the second
-/// branch of an `If` that ends it, so a block is as deep as it has returns and cases, and all else is no deeper than the text may be.
+/// Drops a block on a small stack, in a loop if it is deep. Statements after a return and after a case of a `match` form the second
+/// branch of an `If` that ends the block. So a block is as deep as it has returns and cases, and all else is no deeper than the text may
+/// be.
 #[cycle(give_back)]
 pub(crate) fn give_back(stmts: Items<Stmt>) {
     let mut left = stmts;
@@ -78,7 +79,7 @@ pub enum Expr {
     Array(Boxed<Touch>),
     /// A call of a function, with the arrays and the values that it is given.
     Fun(u32, Items<ArrayName>, Items<Expr>),
-    /// A call with the body put in: its arguments with the locals that hold them, and its statements.
+    /// An inlined call: its arguments with the locals that hold them, and its statements.
     Inlined(Items<(u32, Expr)>, Items<Stmt>),
 }
 

@@ -1,4 +1,4 @@
-// What a program declares besides its arrays.
+// The declarations of a program besides its arrays.
 ghost use Rattle.std.specs.Prelude.{◌≡◌, IfOk};
 
 use crate::Stmt;

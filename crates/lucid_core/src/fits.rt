@@ -19,7 +19,7 @@ pub fn args_fit(params: &[Width], args: &[u64]) -> bool
     true
 }
 
-/// Whether the number has at most so many bits.
+/// Returns whether the number has at most this many bits.
 pub fn number_fits(width: Width, n: u64) -> bool
     ensures { result ≡ nat_lt n (2 ^ width) }
 {

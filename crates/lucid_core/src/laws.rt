@@ -1,11 +1,12 @@
-// Laws of the meaning that more than one crate stands on, each on a function that does nothing. They hold of all cells, ticks, switches and events.
+// Laws of the meaning that several crates cite, each on a function that does nothing. They hold for all cells, ticks, switches and
+// events.
 ghost use Rattle.lucid_core.specs.Laws.{CellsStayFit, OneHandler, OutsAreOfSteps, OutsFit, WidthsAreStatic};
 
 use crate::{Core, Flat};
 
-/// What an event's handler sends out fits the core: each generated event is declared, with as many arguments as parameters and each within its width,
-/// each print's text is there and has a `%d` for each of its numbers, and there are at most 8 outs, of at most 8 numbers each.
-/// It holds of every event, also of one that doesn't fit, whatever the cells hold.
+/// The outs of an event's handler fit the core. Each generated event is declared, with as many arguments as parameters and each within
+/// its width. The text of each print exists and has a `%d` for each of its numbers. There are at most 8 outs, of at most 8 numbers each.
+/// This holds for every event, also one that does not fit, and for all cells.
 pub fn outs_fit(core: &Core)
     ensures { OutsFit core.now }
 {
@@ -38,7 +39,7 @@ pub fn outs_are_of_steps(core: &Core)
     ensures { OutsAreOfSteps core.now }
 {}
 
-/// The width that the typing rules give an expression is that of its value, and so is that of what a function answers.
+/// The width that the typing rules give an expression is that of its value, and so is that of a function's answer.
 pub fn widths_are_static(core: &Core)
     ensures { WidthsAreStatic core.now }
 {

@@ -1,7 +1,7 @@
-// The elaborated program (a core), the rules that make one valid, and its meaning: what an event does when its handler runs whole.
-// Promises: every `Core` and `Flat` is valid by its type (specs/Valid.antt). The laws in laws.rt hold of all cells, ticks, switches and events.
-// The meaning is `step` of specs/Step.antt, over specs/Meaning.antt and specs/Computations.antt. The interpreter is lucid_core_run.
-// Nearly every crate depends on this one: it changes only to correct a fault, and whoever trusts the main theorem must agree to a change of specs/.
+// The elaborated program (a core), the rules that make one valid, and its meaning: the effect of an event whose handler runs whole.
+// Promises: every value of type `Core` or `Flat` is valid (specs/Valid.antt). The laws of laws.rt hold for all cells, ticks, switches and events.
+// The meaning is `step` of specs/Step.antt, over specs/Meaning.antt and specs/Computations.antt. The interpreter is the crate lucid_core_run.
+// Nearly every crate depends on this one, so it changes only to correct a fault. A change of specs/ changes the main theorem.
 #![tactic(auto)]
 
 mod body;

@@ -1,5 +1,5 @@
-// Programs: a core and a flat core. Each keeps the parts that it is made of, and every one is valid.
-// A `Core` calls functions by number; in a `Flat` each call has its body put in.
+// Programs: a core and a flat core. Each keeps its parts and is valid by its type. A `Core` calls functions by number; in a `Flat` each
+// call is inlined.
 ghost use Rattle.std.specs.Prelude.{◌≡◌, []};
 ghost use Rattle.lucid_core.specs.Fits.{event_fits};
 ghost use Rattle.lucid_core.specs.Parts.{made_of};
@@ -124,8 +124,8 @@ impl Core {
     }
 }
 
-/// A program without function calls and groups, whose calls have their bodies put in. Contracts see its parts, which are a valid flat core
-/// and have no functions.
+/// A program without function calls and groups: its calls are inlined. Contracts see its parts, which are a valid flat core and have no
+/// functions.
 #[derive(Drop)]
 pub struct Flat {
     arrays: Vec<ArrayDef>,

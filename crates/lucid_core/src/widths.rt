@@ -1,4 +1,4 @@
-// The width of what an expression gives, in code.
+// The width of an expression's value, in code.
 ghost use Rattle.std.specs.Prelude.{◌≡◌, Some, map, slice_get};
 ghost use Rattle.std.specs.Option.{option_and_then};
 ghost use Rattle.lucid_core.specs.Scope.{Scope};
@@ -8,8 +8,8 @@ ghost use Rattle.lucid_core.specs.Width.{expr_width, first_of, first_return};
 use crate::{Expr, FunDef, Stmt};
 use lucid_base::Width;
 
-/// The width of the value that an expression gives where the locals have these widths and these are the functions before, or None where it gives no value.
-/// Where the widths in it agree, this is what the typing rules answer; where they don't, it is what stands at its head. It takes no memory.
+/// Returns the width of an expression's value, given the widths of the locals and the earlier functions, or None if it has no value. If
+/// the widths in it agree, this is the answer of the typing rules; otherwise it is the width at its head. Allocates nothing.
 pub fn width_of(locals: &[Width], funs: &[FunDef], e: &Expr) -> Option<Width>
     ensures value { result ≡ expr_width e.now locals.now funs.now }
     ensures typed { (scope : Scope) (answer : Answer) → scope.locals ≡ locals.now → scope.funs ≡ funs.now → answer_of e.now scope ≡ Some answer → result ≡ answer }
@@ -47,7 +47,7 @@ fn read(locals: &[Width], funs: &[FunDef], e: &Expr) -> Option<Width>
     }
 }
 
-/// What the first return of a block gives.
+/// The width of the first return of a block.
 #[cycle(widths)]
 fn first(locals: &[Width], funs: &[FunDef], stmts: &[Stmt]) -> Option<Option<Width>>
     ensures { result ≡ first_of (map first_return stmts.now) locals.now funs.now }

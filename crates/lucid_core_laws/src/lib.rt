@@ -1,9 +1,7 @@
-// What whoever builds bodies stands on: a node of a body keeps all rules of a valid program where its parts do, and a program whose
-// bodies do is valid.
-// It promises laws alone: a field each of the records in specs/ExprNodes.antt, StmtNodes.antt, AssigningNodes.antt and InlinedNodes.antt,
-// and the definitions of Programs.antt, for cores and for flat programs at once. They hold at every place that has what is named, so
-// nothing is carried from one scope to another.
-// Stands on lucid_base and lucid_core.
+// Laws for crates that build bodies: a node of a body keeps all rules of a valid program if its parts do, and a program whose bodies do
+// is valid. It has laws alone: a field for each of the records in specs/ExprNodes.antt, StmtNodes.antt, AssigningNodes.antt and
+// InlinedNodes.antt, and the definitions of Programs.antt, for cores and for flat programs at once. They hold at every place that has the
+// named things, so nothing is carried from one scope to another. Depends on lucid_base and lucid_core.
 #![tactic(auto)]
 
 mod examples;

@@ -1,7 +1,6 @@
-// The interpreter: does to a run what the definition says of each part of a body, or runs out of memory.
-// A function sees only the functions before it, so each call has fewer of them, and the recursion ends.
-// `parts` is the hot recursion, so it keeps few locals; other forms are separate `#[inline(never)]` functions.
-// `left` is the stack budget that remains (depth.rt). No clause speaks of it.
+// The interpreter: applies the definition of each part of a body to a run, or runs out of memory. A function sees only the functions
+// before it, so each call has fewer of them, and the recursion ends. `parts` is the hot recursion, so it keeps few locals; other forms
+// are separate `#[inline(never)]` functions. `left` is the stack budget that remains (depth.rt). No clause speaks of it.
 ghost use Rattle.std.specs.Prelude.{◌≡◌, ◌++◌, IfOk, IfSome, IsTrue, OnOk, OnErr, map, slice_get, take};
 ghost use Rattle.std.specs.Option.{option_map};
 ghost use Rattle.lucid_core.specs.Computations.{all, array_of, begun_with, block, both};

@@ -10,7 +10,7 @@ pub struct Moment {
     pub me: u32,
 }
 
-/// The moment, the numbers of the arrays that array parameters stand for, and the functions before the running one.
+/// The moment, the numbers of the arrays passed for array parameters, and the functions before the running one.
 #[derive(Clone, Copy)]
 pub struct Place<'a> {
     pub alloc: Global,

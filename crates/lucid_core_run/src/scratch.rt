@@ -6,7 +6,7 @@ use crate::run::Write;
 use lucid_base::{Bits, Items};
 use std::alloc::Global;
 
-/// Scratch lists for the locals of a handler, for the cells that it writes and for what it sends. A caller that runs many events keeps one.
+/// Scratch lists for the locals of a handler, for the cells that it writes and for its outs. A caller that runs many events keeps one.
 /// Each run begins by clearing them.
 #[derive(Drop)]
 pub struct Scratch {

@@ -17,9 +17,9 @@ use lucid_core::{Core, HandlerDef, Stmt, cells_stay_fit, outs_fit};
 use std::alloc::Global;
 use std::mem;
 
-/// Runs the handler of an event that enters switch `me` at tick `now`, and returns what it sends.
-/// An event without a handler changes nothing. The outs fit the program, and cells that fit before fit after.
-/// Allocates for locals and arguments and copies no arrays. A run that nests too deep for the stack answers `Memory`.
+/// Runs the handler of an event that enters switch `me` at tick `now`, and returns its outs. An event without a handler changes nothing.
+/// The outs fit the program, and cells that fit before fit after. Allocates for locals and arguments and copies no arrays. A run that
+/// nests too deep for the stack answers `Memory`.
 pub fn run_whole(
     alloc: Global,
     core: &Core,

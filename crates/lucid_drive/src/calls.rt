@@ -1,4 +1,5 @@
-// The calls of a drive, a step at a time: what each writes, what it makes of the pipe, and where the pipe stands then. None takes memory.
+// The calls of a drive, one step at a time: the text that each writes, its effect on the pipe, and the state of the pipe after it. None
+// allocates.
 ghost use Rattle.std.specs.Prelude.{◌≡◌, ◌<◌, ◌+◌, ◌^◌, ◌↔◌, ℕ, None, Some, true, length, is_some, slice_get, if◌then◌else◌, nat_lt, IfOk, IfSome, OnOk, OnErr};
 ghost use Rattle.std.specs.Result.{is_err};
 ghost use Rattle.lucid_io.specs.Puts.{PutsAll, PutsPart};
@@ -22,8 +23,8 @@ use lucid_core::{Core, cells_stay_fit};
 use lucid_io::{Sink, WriteFault};
 use lucid_pipe::{Pipe, Stuck};
 
-/// Does the step that is next and writes what it writes: its line, and the block of a packet that leaves. Some(k) comes exactly where that
-/// step was a go of slot `k` that moved a packet. After an error the pipe stands at no state, and a proper prefix of the text was written.
+/// Does the next step and writes its text: its line, and the block of a packet that leaves. Returns Some(k) exactly if that step was a go
+/// of slot `k` that moved a packet. After an error the pipe is at no state, and a proper prefix of the text was written.
 pub fn drive_step<S: Sink>(
     pipe: &mut Pipe,
     core: &Core,
@@ -112,7 +113,7 @@ fn moved_slot(k: usize, moved: Result<(), Stuck>) -> Option<usize>
     }
 }
 
-/// Does this step, which is next, whatever it is.
+/// Does this step, which is the next one, of any kind.
 #[inline(never)]
 fn step_any<S: Sink>(
     pipe: &mut Pipe,
@@ -180,8 +181,8 @@ fn slot_of(happened: &Happened) -> Option<usize>
     }
 }
 
-/// Moves the oldest packet by one stage `k`, writes its block where it leaves, and answers Some(k); None exactly where the pipe is empty.
-/// After an error the pipe stands at no state, and a proper prefix of the block was written.
+/// Moves the oldest packet by one stage `k`, writes its block if it leaves, and returns Some(k); None exactly if the pipe is empty. After
+/// an error the pipe is at no state, and a proper prefix of the block was written.
 pub fn drive_flush<S: Sink>(
     pipe: &mut Pipe,
     core: &Core,

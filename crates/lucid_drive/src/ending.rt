@@ -1,4 +1,4 @@
-// What is written at the end of a drive: the cells that aren't 0, and the ending.
+// The text at the end of a drive: the cells that aren't 0, and the ending.
 ghost use Rattle.std.specs.Prelude.{◌++◌, OnOk, OnErr};
 ghost use Rattle.lucid_io.specs.Puts.{PutsAll, PutsPart};
 ghost use Rattle.lucid_log.specs.Cells.{cells_text};

@@ -1,10 +1,10 @@
-// What a step of a drive did, apart from writing it, so that a step has one return for the pipe and one for the sink.
+// The outcome of a step, apart from writing it, so that a step has one return for the pipe and one for the sink.
 ghost use Rattle.std.specs.Prelude.{◌≡◌};
 ghost use Rattle.lucid_drive.specs.Happened.{entry_of, happened_of};
 
 use lucid_pipe::{Busy, Passed, Stuck};
 
-/// What a step did.
+/// The outcome of a step.
 #[derive(Clone, Copy)]
 pub(crate) enum Happened {
     /// No event was left.
@@ -25,7 +25,7 @@ pub(crate) enum Happened {
     Looked(u32, u64, u64),
 }
 
-/// What it means that a packet in slot `k` moved, or why it did not.
+/// The outcome if a packet in slot `k` moved, or the reason why it did not.
 pub(crate) fn told(k: usize, moved: Result<Option<Passed>, Stuck>) -> Happened
     ensures { result ≡ happened_of k moved }
 {
@@ -37,7 +37,7 @@ pub(crate) fn told(k: usize, moved: Result<Option<Passed>, Stuck>) -> Happened
     }
 }
 
-/// What it means that the event of this number entered, or that the first slot was taken.
+/// The outcome if the event of this number entered, or if the first slot was taken.
 pub(crate) fn told_entry(number: u64, came: Result<(), Busy>) -> Happened
     ensures { result ≡ entry_of number came }
 {

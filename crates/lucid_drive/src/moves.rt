@@ -1,4 +1,4 @@
-// The steps of a drive, as moves of its pipe. Each is told for whatever progress the pipe stands at, and needs no more of a pipe than that.
+// The steps of a drive, as moves of its pipe. Each holds for any progress of the drive, and requires no more of the pipe.
 ghost use Rattle.std.specs.Prelude.{◌≡◌, ◌+◌, ◌<◌, ◌^◌, None, length};
 ghost use Rattle.lucid_conf.specs.Kept.{IsScene, IsStep};
 ghost use Rattle.lucid_normal_spec.specs.Stands.{StandsFor};

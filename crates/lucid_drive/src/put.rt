@@ -1,4 +1,4 @@
-// What a step of a drive writes: a line, and the block of a packet that left.
+// The text of a step: a line, and the block of a packet that left.
 ghost use Rattle.std.specs.Prelude.{◌≡◌, ◌<◌, ◌++◌, ◌%◌, length, OnOk, OnErr};
 ghost use Rattle.lucid_io.specs.Puts.{PutsAll, PutsPart};
 ghost use Rattle.lucid_log.specs.Cell.{array_name};
@@ -14,7 +14,7 @@ use lucid_io::{Sink, WriteFault};
 use lucid_log::{Piece, put_block, put_numbered, put_pieces};
 use lucid_pipe::{Passed, Stuck};
 
-/// Writes the block of what left.
+/// Writes the block of a packet that left.
 fn put_passed<S: Sink>(sink: &mut S, core: &Core, passed: &Passed) -> Result<(), WriteFault>
     requires { PassedFits core.now passed.now }
     ensures all { OnOk result (PutsAll S.written S.faults sink.old sink.new (passed_text core.now passed.entry.now)) }
@@ -31,7 +31,7 @@ fn put_passed<S: Sink>(sink: &mut S, core: &Core, passed: &Passed) -> Result<(),
     )
 }
 
-/// Writes `go K` and the block of what left.
+/// Writes `go K` and the block of the packet that left.
 fn put_left<S: Sink>(sink: &mut S, core: &Core, k: usize, passed: &Passed) -> Result<(), WriteFault>
     requires { PassedFits core.now passed.now }
     ensures all { OnOk result (PutsAll S.written S.faults sink.old sink.new (line (codes "go ") k ++ passed_text core.now passed.entry.now)) }
@@ -41,7 +41,7 @@ fn put_left<S: Sink>(sink: &mut S, core: &Core, k: usize, passed: &Passed) -> Re
     put_passed(sink, core, passed)
 }
 
-/// Writes what a move of the packet in slot `k` writes where none could leave.
+/// Writes the text of a move of the packet in slot `k` that made no packet leave.
 pub(crate) fn put_moved<S: Sink>(
     sink: &mut S,
     core: &Core,
@@ -58,7 +58,7 @@ pub(crate) fn put_moved<S: Sink>(
     }
 }
 
-/// Writes what a step writes.
+/// Writes the text of a step.
 #[tactic(auto, using(crate::proofs::Putting::looked_some))]
 pub(crate) fn put_happened<S: Sink>(
     sink: &mut S,
@@ -81,7 +81,7 @@ pub(crate) fn put_happened<S: Sink>(
     }
 }
 
-/// Writes the block of what left, where something did.
+/// Writes the block of a packet that left, if one did.
 pub(crate) fn put_out<S: Sink>(
     sink: &mut S,
     core: &Core,

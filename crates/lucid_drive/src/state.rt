@@ -1,8 +1,8 @@
 // How far a drive is.
 ghost use Rattle.std.specs.Prelude.{◌≡◌, false};
 
-/// How many steps of the scenario are done, how often the oldest packet moved after the last of them, and how many events entered. Which
-/// pipe it tells of, `StandsAt` says.
+/// The number of steps done, of moves of the oldest packet after the last of them, and of events that entered. `StandsAt` relates it to a
+/// pipe.
 #[derive(Clone, Copy)]
 pub struct DriveState {
     pub(crate) done: u64,
@@ -45,7 +45,7 @@ impl DriveState {
         self.entered
     }
 
-    /// Whether a step or a flush answered an error. Then the pipe stands at no state any more.
+    /// Returns whether a step or a flush returned an error. Then the pipe is at no state any more.
     pub fn failed(&self) -> bool
         ensures { result ≡ self.now.failed }
     {

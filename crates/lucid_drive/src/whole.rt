@@ -17,9 +17,9 @@ use lucid_core::{Core, cells_stay_fit};
 use lucid_io::{Sink, WriteFault};
 use lucid_pipe::{Pipe, Watch};
 
-/// Drives a pipe without packets, in which all cells are 0, and whose code stands for the program and has its arrays: all steps, and then the
-/// oldest packet moves until none is in flight. It writes the drive log, or a proper prefix of it where a write failed. After each step the
-/// watch is shown the pipe, as switch 0 (`sights`); after an error it was shown the first of these sights. It takes no memory.
+/// Drives a pipe without packets, in which all cells are 0, and whose code represents the program and has its arrays: does all steps,
+/// then moves the oldest packet until none is in flight. Writes the drive log, or a proper prefix of it if a write failed. After each
+/// step the watch is shown the pipe, as switch 0 (`sights`); after an error it was shown the first of these sights. Allocates nothing.
 pub fn drive<S: Sink, V: Watch>(
     pipe: &mut Pipe,
     core: &Core,
@@ -46,8 +46,8 @@ pub fn drive<S: Sink, V: Watch>(
     drive_end(pipe, core, scene, &state, sink)
 }
 
-/// Does the first `count` steps and shows the watch the pipe after each, as switch 0. After an error the pipe stands at no state, a proper
-/// prefix of what these steps write was written, and the watch was shown the first of their sights.
+/// Does the first `count` steps and shows the watch the pipe after each, as switch 0. After an error the pipe is at no state, a proper
+/// prefix of the text of these steps was written, and the watch was shown the first of their sights.
 pub fn drive_steps<S: Sink, V: Watch>(
     pipe: &mut Pipe,
     core: &Core,
@@ -85,8 +85,8 @@ fn show<V: Watch>(pipe: &Pipe, core: &Core, scene: &Scene, watch: &mut V)
     watch.see(0, pipe);
 }
 
-/// Once all steps are done, the oldest packet moves until none is in flight, and the block of each is written where it leaves. After an error
-/// the pipe stands at no state, and a proper prefix of these blocks was written.
+/// After all steps, moves the oldest packet until none is in flight, and writes the block of each as it leaves. After an error the pipe
+/// is at no state, and a proper prefix of these blocks was written.
 fn drive_rest<S: Sink>(
     pipe: &mut Pipe,
     core: &Core,

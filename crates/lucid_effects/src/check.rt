@@ -20,7 +20,7 @@ use lucid_effects_spec::{Scheme, touches_rise};
 use std::alloc::Global;
 use std::sync::ledger::Ledger;
 
-/// What is found of the declarations so far.
+/// The findings for the declarations so far.
 #[derive(Drop)]
 struct Judged {
     schemes: Vec<Scheme>,

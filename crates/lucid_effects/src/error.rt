@@ -4,8 +4,8 @@ use lucid_base::{ArrayName, Memory};
 /// Why a program is refused.
 #[derive(Debug, Drop)]
 pub enum OrderError {
-    /// Function or handler `decl`, counted among all declarations from 1, is the first that isn't in order. In its cycle no name stands
-    /// twice, each is needed before the next and the last before the first, and the earliest stands first.
+    /// Function or handler `decl`, counted among all declarations from 1, is the first that isn't in order. In its cycle no name occurs
+    /// twice, each is needed before the next and the last before the first, and the earliest comes first.
     NoOrder { decl: u32, cycle: Vec<ArrayName> },
     /// Memory ran out.
     Memory,

@@ -1,6 +1,6 @@
 // The check of the order of arrays: one scheme for each function and handler, found by one walk along its body, however often functions
-// call one another. It promises that each scheme is principal, that a program passes exactly where all its bodies are in order, and that
-// a refusal names the first that isn't, with a cycle. Stands on lucid_effects_spec, lucid_constraints and lucid_core.
+// call one another. Each scheme is principal. A program passes exactly if all its bodies are in order, and a refusal names the first that
+// isn't, with a cycle. Depends on lucid_effects_spec, lucid_constraints and lucid_core.
 #![tactic(auto)]
 
 mod check;

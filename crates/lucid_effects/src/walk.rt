@@ -96,7 +96,7 @@ fn goes_through<L: Ledger>(
     }
 }
 
-/// After both branches of an `if`: the places where the first ended, and those where the walk stands after the second.
+/// After both branches of an `if`: the places at the end of the first, and those at the end of the second.
 fn stand_at_both(at: &mut Scheme, left: Items<Atom>) -> Result<(), Memory>
     ensures { OnOk result (at.new ≡ record at.old { ends = join_all same_atom left at.old.ends }) }
 {

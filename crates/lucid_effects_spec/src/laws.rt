@@ -4,8 +4,8 @@ ghost use Rattle.lucid_effects_spec.specs.Order.{IsAccepted};
 
 use lucid_core::{Core, Flat};
 
-/// In an accepted core every event calls each array at most once, in the order of their declarations: whatever the cells hold, at
-/// every tick, on every switch, and also where the event doesn't fit.
+/// In an accepted core every event calls each array at most once, in the order of their declarations: for all cells, at every tick, on
+/// every switch, and also if the event does not fit.
 pub fn touches_rise(core: &Core)
     ensures { IsAccepted core.now → TouchesRise core.now }
 {
@@ -41,7 +41,7 @@ pub fn paths_decide()
     ensures cycles { CyclesRefuse }
 {}
 
-/// What an event calls is one of the paths of its handler, in every program, valid or not.
+/// The calls of an event are one of the paths of its handler, in every program, valid or not.
 pub fn touches_follow_paths()
     ensures { TouchesFollowPaths }
 {}

@@ -1,4 +1,4 @@
-// What a body asks of the order of arrays.
+// The constraints of a body on the order of arrays.
 use lucid_base::Items;
 use lucid_constraints::{Atom, Order};
 

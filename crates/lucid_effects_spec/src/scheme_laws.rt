@@ -3,8 +3,8 @@ ghost use Rattle.lucid_effects_spec.specs.SchemeLaws.{SchemesArePrincipal, Cycle
 
 use lucid_core::Core;
 
-/// What a scheme asks holds exactly where its body has a derivation, for every numbering and place, and the greatest of its ends is
-/// where the body then ends.
+/// The constraints of a scheme hold exactly if its body has a derivation, for every numbering and place, and the greatest of its ends is
+/// the end of the body.
 pub fn schemes_are_principal()
     ensures { SchemesArePrincipal }
 {}

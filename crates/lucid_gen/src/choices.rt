@@ -1,14 +1,14 @@
-// What is drawn for a program and for a scenario.
+// The random choices for a program and for a scenario.
 ghost use Rattle.std.specs.Prelude.{◌≡◌};
 ghost use Rattle.lucid_gen.specs.Choices as spec;
 
 use crate::numbers::Numbers;
 
-/// What a handler does with an array.
+/// A handler's use of an array.
 #[derive(Clone, Copy)]
 pub(crate) enum Call {
     Nothing,
-    /// Adds to `v` what the cell holds.
+    /// Adds the cell to `v`.
     Get,
     /// Adds `v` to the cell.
     Set,
@@ -42,7 +42,7 @@ pub(crate) fn draw_size(numbers: &mut Numbers) -> u64
     1 + numbers.draw(64)
 }
 
-/// What a handler does with the next array.
+/// Draws a handler's use of the next array.
 pub(crate) fn draw_call(numbers: &mut Numbers) -> Call
     ensures gives { result ≡ (spec.call numbers.old.state).gives }
     ensures after { numbers.new.state ≡ (spec.call numbers.old.state).after }

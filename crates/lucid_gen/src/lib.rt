@@ -1,6 +1,6 @@
 // Large inputs from a number: a program, the limits of a target and a scenario, as texts that specs/ defines (Program.antt, Limits.antt,
-// Scene.antt). The same seed gives the same text: what is drawn from it is in specs/Draws.antt and specs/Choices.antt. Stands on
-// lucid_base for want of memory.
+// Scene.antt). The same seed gives the same text: its choices are in specs/Draws.antt and specs/Choices.antt. Depends on lucid_base for
+// the error of a failed allocation.
 #![tactic(auto)]
 
 mod choices;

@@ -8,7 +8,7 @@ use crate::numbers::Numbers;
 use lucid_base::Memory;
 use std::alloc::Global;
 
-/// The text of the scenario of this seed with so many events, at least one (`scene_text`), or Memory.
+/// The text of the scenario of this seed with `n` events, at least one (`scene_text`), or Memory.
 pub fn make_scene(alloc: Global, seed: u64, n: u32) -> Result<Vec<u8>, Memory>
     requires { 0 < n }
     ensures { IfOk result (λ text. text.items ≡ spec.scene_text seed n) }

@@ -1,4 +1,4 @@
-// Bodies with their calls put in: a function a form. How much deeper parts may stand in one another, `left` says.
+// Bodies with their calls inlined: a function for each form. `left` is the depth to which parts may still nest.
 ghost use Rattle.std.specs.Prelude.{◌≡◌, IfOk, OnOk, map, option_map, slice_get};
 ghost use Rattle.lucid_core.specs.declared.body.Expr.TheViews.{roll-Expr};
 ghost use Rattle.lucid_inline_spec.specs.Flat.{block as block_of, both, each, flat_expr, flat_stmt, flat_touch, optional as optional_of};
@@ -60,7 +60,7 @@ fn expr(site: Site, left: u32, locals: &mut Items<Width>, e: &Expr) -> Result<Ex
     }
 }
 
-/// An operand. It is a function of its own, so that `expr` holds no expression on the stack, where it stands as often as these are deep.
+/// An operand. It is a function of its own, so that `expr` holds no expression on the stack, where it is as often as these are deep.
 #[cycle(flatten)]
 #[inline(never)]
 fn boxed(site: Site, left: u32, locals: &mut Items<Width>, e: &Expr) -> Result<Boxed<Expr>, Memory>

@@ -1,4 +1,4 @@
-// Why a core isn't put in.
+// The reason why a core is not inlined.
 use lucid_base::Memory as NoMemory;
 
 /// Why a core has no flat form here. Counts stop at the last `u64`.

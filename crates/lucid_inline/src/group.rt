@@ -1,4 +1,4 @@
-// Statements that the flat form makes: what a group becomes once its calls are taken.
+// Statements of the flat form for a group whose calls are taken out.
 ghost use Rattle.std.specs.Prelude.{◌≡◌, ◌≤◌, ◌+◌, ◌++◌, IfOk, OnOk, map, length};
 ghost use Rattle.std.specs.List.{enumerate_from};
 ghost use Rattle.lucid_core.specs.declared.body.Expr.TheViews.{roll-Stmt};
@@ -26,7 +26,7 @@ pub fn numbered(alloc: Global, first: u32, args: Vec<Expr>) -> Result<Items<(u32
     Ok(given)
 }
 
-/// The widths of what is held, where the handler has these locals.
+/// The widths of these values, given the locals of the handler.
 fn widths(alloc: Global, locals: &[Width], held: &[Expr]) -> Result<Items<Width>, Memory>
     ensures { IfOk result (λ ws. ws ≡ map (width_in locals.now) held.now) }
 {
@@ -46,7 +46,7 @@ fn width_held(locals: &[Width], e: &Expr) -> Width
     }
 }
 
-/// So many locals, from `first` on.
+/// `n` locals, from `first` on.
 fn locals_read(alloc: Global, first: u32, n: usize) -> Result<Items<Expr>, Memory>
     requires { first + n ≤ most }
     ensures { IfOk result (λ xs. xs ≡ locals_from first n) }

@@ -19,10 +19,10 @@ fn most() -> u64
     262_144
 }
 
-/// The flat form of a core. Both counts are found first, in proportion to the core, and nothing is built where one passes its bound:
-/// `TooMany` where the normal form has more than `room` ops, else `TooLarge` where the flat form has more than 262,144 statements and
-/// calls. The flat form does at each event what the core does, calls the same arrays in the same order, and is in order where the core is;
-/// that of an accepted core is accepted.
+/// Inlines a core. Both counts are found first, in proportion to the core, and nothing is built if one exceeds its bound: `TooMany` if
+/// the normal form has more than `room` ops, otherwise `TooLarge` if the flat form has more than 262,144 statements and calls. The flat
+/// form has the effect of the core at each event, calls the same arrays in the same order, and is in order if the core is; that of an
+/// accepted core is accepted.
 pub fn inline(alloc: Global, core: &Core, room: usize) -> Result<Flat, InlineError>
     ensures flat { IfOk result (λ flat. flat ≡ flat_of core.now) }
     ensures fits { IfOk result (λ flat. Fits core.now room) }

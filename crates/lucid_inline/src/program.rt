@@ -83,7 +83,7 @@ fn flat_handlers(
     Ok(made)
 }
 
-/// A handler with its calls put in.
+/// Inlines the calls of a handler.
 fn put_in_calls(alloc: Global, funs: &[FunDef], handler: &HandlerDef) -> Result<HandlerDef, Memory>
     requires { FewStmts (flat_body funs.now handler.now) }
     ensures { IfOk result (λ made. made ≡ flat_handler funs.now handler.now) }

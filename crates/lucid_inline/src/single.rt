@@ -1,5 +1,5 @@
-// Statements that become one statement. Each is made in a function of its own, so that `stmt` holds no statement on the stack, where it stands
-// as often as these are deep.
+// Statements that become one statement. Each is made in a function of its own, so that `stmt` holds no statement on the stack, where it
+// is as often as these are deep.
 ghost use Rattle.std.specs.Prelude.{◌≡◌, [], ◌∷◌, IfOk};
 ghost use Rattle.lucid_core.specs.declared.body.Stmt.TheVariants as core;
 

@@ -1,4 +1,4 @@
-// Where a body is put in.
+// The position of an inlined body.
 ghost use Rattle.std.specs.Prelude.{◌≡◌, ◌≤◌, IfOk, IfSome, map, slice_get, take};
 ghost use Rattle.std.specs.Option.{option_map};
 ghost use Rattle.lucid_core.specs.Computations.{array_of};
@@ -8,7 +8,8 @@ use lucid_base::{ArrayName, Items, Memory};
 use lucid_core::FunDef;
 use std::alloc::Global;
 
-/// Where a body is put in: the arrays that its array parameters stand for, the number of its first local, and the functions before it.
+/// The position of an inlined body: the arrays passed for its array parameters, the number of its first local, and the functions before
+/// it.
 #[derive(Clone, Copy)]
 pub struct Site<'a> {
     pub alloc: Global,
@@ -38,7 +39,7 @@ pub fn earlier(funs: &[FunDef], k: u32) -> Option<(&[FunDef], &FunDef)>
     }
 }
 
-/// What names of arrays stand for, where array parameters stand for these.
+/// The arrays that these names denote, given the arrays passed for the parameters.
 #[inline(never)]
 pub fn arrays_at(alloc: Global, arrays: &[u32], names: &[ArrayName]) -> Result<Items<u32>, Memory>
     ensures { IfOk result (λ found. found ≡ map (array_of arrays.now) names.now) }
@@ -50,7 +51,7 @@ pub fn arrays_at(alloc: Global, arrays: &[u32], names: &[ArrayName]) -> Result<I
     Ok(found)
 }
 
-/// What a name stands for.
+/// The array that a name denotes.
 pub fn array_at(arrays: &[u32], name: ArrayName) -> u32
     ensures { result ≡ array_of arrays.now name }
 {

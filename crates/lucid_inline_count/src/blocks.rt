@@ -11,7 +11,7 @@ use lucid_base::Memory;
 use lucid_core::{Stmt, below};
 use std::alloc::Global;
 
-/// What neither assigns nor returns.
+/// The part of a statement that neither assigns nor returns.
 fn plainly(counts: Counts) -> Part
     ensures { result ≡ without_returns counts }
 {
@@ -42,7 +42,7 @@ fn joins(
     }
 }
 
-/// Statements, each behind those before it. Memory where ifs stand deeper than `left` in one another.
+/// Counts statements, one after another. Returns Memory if ifs nest deeper than `left`.
 #[cycle(blocks)]
 pub fn block(
     alloc: Global,

@@ -1,7 +1,7 @@
 // A body that is counted: which of its locals are held, and which were assigned.
 use crate::counts::Counts;
 
-/// What statements count, the local that they assign for what follows, and whether they return on some path, and with a value.
+/// The counts of statements, the local that they assign for later ones, and whether they return on some path, and with a value.
 #[derive(Clone, Copy)]
 pub struct Part {
     pub counts: Counts,
@@ -10,7 +10,7 @@ pub struct Part {
     pub value: bool,
 }
 
-/// Which locals are held, that is parameters or assigned earlier in a block round, and what was assigned so far, in that order.
+/// The locals that have a value, being parameters or assigned earlier in an enclosing block, and those assigned so far, in that order.
 #[derive(Drop)]
 pub struct Body {
     pub held: Vec<bool>,

@@ -6,7 +6,7 @@ ghost use Rattle.lucid_inline_count.specs.Counts.{counts_at};
 use crate::counts::{Counts, count};
 use lucid_core::{Expr, Touch};
 
-/// What an expression counts, behind functions that count this much. A core has no call with its body put in.
+/// Counts an expression, given the counts of the functions before it. A core has no inlined call.
 #[cycle(exprs)]
 pub fn expr(funs: &[Counts], e: &Expr) -> Counts
     ensures { result ≡ (expr_found e.now).counts funs.now }
@@ -35,7 +35,7 @@ fn touch(funs: &[Counts], t: &Touch) -> Counts
     index.and(get_arg).and(set_arg).and(count(1, 0))
 }
 
-/// What these count together.
+/// Counts these together.
 #[cycle(exprs)]
 pub fn total(funs: &[Counts], es: &[Expr]) -> Counts
     ensures { result ≡ total_of (map expr_found es.now) funs.now }
@@ -57,7 +57,7 @@ pub fn optional(funs: &[Counts], e: &Option<Expr>) -> Counts
     }
 }
 
-/// What an `if` counts without its branches: its condition, with a move where that is fixed, a local or a call.
+/// Counts an `if` without its branches: its condition, with a move if that is fixed, a local or a call.
 pub fn condition(funs: &[Counts], e: &Expr) -> Counts
     ensures { result ≡ condition_of (expr_found e.now) funs.now }
 {
@@ -85,7 +85,7 @@ pub fn group(funs: &[Counts], args: &[Expr], delay: &Option<Expr>, members: &[u3
         .and(each(members.len() as u64))
 }
 
-/// So many statements of one op each.
+/// `n` statements of one op each.
 fn each(n: u64) -> Counts
     ensures { result ≡ ops n }
 {

@@ -6,7 +6,7 @@ ghost use Rattle.lucid_inline_count.specs.Flags.{put_back as before};
 use lucid_base::Memory;
 use std::alloc::Global;
 
-/// What a flag was before it was set.
+/// The old value of a flag.
 #[derive(Clone, Copy)]
 pub struct Note {
     local: u32,
@@ -22,7 +22,7 @@ fn is_held(held: &[bool], i: u32) -> bool
     }
 }
 
-/// Sets the flag, and notes what it was. A local that isn't there has none.
+/// Sets the flag and notes its old value. A local that does not exist has none.
 pub fn set(held: &mut Vec<bool>, notes: &mut Vec<Note>, i: u32, flag: bool) -> Result<(), Memory>
     ensures set { OnOk result (held.new.items ≡ slice_set held.old.items i flag) }
     ensures noted { OnOk result (i < length held.old.items → length notes.new.items ≡ length notes.old.items + 1) }

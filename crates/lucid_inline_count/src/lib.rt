@@ -1,7 +1,6 @@
-// The counts of a core, found without building anything: how long the normal form of each handler is, and how large its flat form
-// (lucid_inline_spec's specs/Counts.antt). Each function is counted once, and the work is in proportion to the core, a local that is assigned
-// counting once for each `if` that it stands in.
-// Stands on lucid_base, lucid_core and lucid_inline_spec.
+// The counts of a core, found without building anything: the length of the normal form of each handler, and the size of its flat form
+// (lucid_inline_spec's specs/Counts.antt). Each function is counted once. The work is in proportion to the core, where an assigned local
+// counts once for each enclosing `if`. Depends on lucid_base, lucid_core and lucid_inline_spec.
 #![tactic(auto)]
 
 mod blocks;

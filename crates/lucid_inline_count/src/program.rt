@@ -38,7 +38,7 @@ pub fn count_core(alloc: Global, core: &Core, room: u64, most: u64) -> Result<To
     )
 }
 
-/// What functions count, each behind those before it. One that isn't there counts nothing.
+/// Counts functions, each given those before it. One that does not exist counts nothing.
 pub fn count_functions(alloc: Global, funs: &[FunDef]) -> Result<Vec<Counts>, Memory>
     ensures { IfOk result (λ found. found.items ≡ funs_found funs.now) }
 {
@@ -89,7 +89,7 @@ fn next(number: u32, larger: u32) -> u32
     number + 1
 }
 
-/// What a body counts behind these functions, with so many locals, of which the first are parameters.
+/// Counts a body after these functions, with `locals` locals, of which the first are parameters.
 pub fn count_body(
     alloc: Global,
     funs: &[Counts],

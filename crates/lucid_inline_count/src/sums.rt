@@ -23,7 +23,7 @@ impl Sum {
         }
     }
 
-    /// With what this handler adds, the next one.
+    /// Adds the counts of the next handler.
     pub fn with(self, n: u64, handler: u32) -> Sum
         ensures bound { result.bound ≡ self.bound }
         ensures sum { (ns : List ℕ) → length ns ≡ handler → IsSum self.bound ns self → IsSum self.bound (ns ++ n ∷ []) result }

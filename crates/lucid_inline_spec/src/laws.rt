@@ -5,8 +5,8 @@ ghost use Rattle.lucid_inline_spec.specs.Laws.{HasFewLocals, KeepsCounts, KeepsO
 
 use lucid_core::Core;
 
-/// The flat form of a core does at each event that fits what the core does, and calls the same arrays in the same order: whatever the
-/// cells hold, at every tick and on every switch.
+/// At each event that fits, the flat form of a core has the effect of the core, and calls the same arrays in the same order: for all
+/// cells, at every tick and on every switch.
 pub fn keeps_steps(core: &Core)
     ensures { KeepsSteps core.now }
 {

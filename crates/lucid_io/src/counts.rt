@@ -1,8 +1,8 @@
-// Counts that stand still at the last u64: of faults, and of the calls that a fake numbers.
+// Counts that stop at the last u64: of faults, and of the calls that a fake numbers.
 ghost use Rattle.std.specs.Prelude.{◌≡◌, ℕ, ◌-◌, ◌^◌, ◌<◌, ◌≤◌};
 ghost use Rattle.lucid_io.specs.Counts.{raised, is_failing, Rose};
 
-// One more; at the last u64 a count stands still.
+// Adds one; at the last u64 a count stops.
 pub(crate) fn raise(count: &mut u64)
     ensures { count.new ≡ raised count.old }
 {
@@ -19,7 +19,7 @@ pub(crate) fn next_fails(fails: &Vec<u64>, calls: &mut u64) -> bool
     fails
 }
 
-/// A count that rose is greater than it was, unless it stood at the last u64; and so only there it may rise and be the same.
+/// A count that rose is greater than before, unless it was at the last u64; only there it may rise and be the same.
 pub fn rises_are_seen()
     ensures greater { (before now : ℕ) → Rose before now → before < 2 ^ 64 - 1 → before < now }
     ensures still { (n : ℕ) → Rose n n → 2 ^ 64 - 1 ≤ n }

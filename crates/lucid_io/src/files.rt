@@ -10,17 +10,17 @@ ghost use Rattle.lucid_io.specs.Contents.{SameHeld, Tells};
 #[derive(Clone, Copy, Debug, PartialEq, Eq)]
 pub struct Failed;
 
-/// Files by name. `begin` turns to the first byte of one, and `read` gives the next bytes of the one begun.
+/// Files by name. `begin` opens one at its first byte, and `read` returns the next bytes of the one begun.
 ///
-/// What is told is `Some` of it; a type that leaves content to the machine tells `None`, and then nothing is claimed of it.
+/// Specified contents are `Some`; a type that leaves content to the machine has `None`, and nothing is claimed of it.
 pub trait Files {
-    /// The bytes of a name, where they are told. No call changes them.
+    /// The bytes of a name, if they are specified. No call changes them.
     ghost held: { Self → List ℕ → Option (List ℕ) };
 
     /// Whether the file that was begun has this name.
     ghost begun: { Self → List ℕ → Type 0 };
 
-    /// The bytes of the begun file that are still unread, where they are told.
+    /// The unread bytes of the begun file, if they are specified.
     ghost left: { Self → Option (List ℕ) };
 
     /// How many bytes the begun file gave since its `begin`. It stops at the last u64.
@@ -32,16 +32,16 @@ pub trait Files {
     /// Whether a file of this name was ever to be begun.
     ghost tried: { Self → List ℕ → Type 0 };
 
-    /// How many faults each name has met. A count never falls, and stands still at the last u64.
+    /// The number of faults of each name. A count never falls, and stops at the last u64.
     ghost faults: { Self → List ℕ → ℕ };
 
-    /// Begins the file of this name anew. `Failed` comes only where the name's count rose in this call.
+    /// Begins the file of this name from its start. Returns `Failed` only if the name's count rose in this call.
     fn begin(&mut self, name: &str) -> Result<(), Failed>
         ensures held { SameHeld (held self.old) (held self.new) }
         ensures begun { OnOk result (begun self.new name.now) }
 
-        // Two names may mean one begun file only where one of them isn't told. So a reader can say that it leaves the
-        // counts of all other told names alone.
+        // Two names may mean one begun file only if one of them is unspecified. So a reader can say that it leaves the counts of all
+        // other specified names alone.
         ensures one { OnOk result ((other : List ℕ) → begun self.new other → IsSome (held self.old other) → other ≡ name.now) }
         ensures left { OnOk result (Tells (held self.old name.now) (left self.new)) }
         ensures given { given self.new ≡ 0 }

@@ -1,6 +1,6 @@
-// Files that are read and sinks that are written, as every program above sees them: two traits whose clauses say what each
-// call does to the bytes and to a count of faults, fakes in memory that tell all, and adapters of the machine that tell no content.
-// A fault is answered only where the count of what was handed in rose in that call. Stands on lucid_base alone.
+// Files that are read and sinks that are written, as every program above sees them: two traits whose clauses define the effect of each
+// call on the bytes and on a count of faults; in-memory fakes with fully specified contents; and OS adapters whose contents are
+// unspecified. A call returns a fault only if the count of its object rose in that call. Depends on lucid_base alone.
 #![tactic(auto)]
 
 mod counts;

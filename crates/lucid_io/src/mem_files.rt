@@ -1,4 +1,4 @@
-// Files in memory, which fail at the calls that their maker chooses. They tell everything.
+// Files in memory, which fail at the calls that their maker chooses. All their contents are specified.
 ghost use Rattle.std.specs.Prelude.{◌≡◌, ◌↔◌, ◌⊎◌, ℕ, ◌+◌, ◌-◌, ◌^◌, ◌<◌, ◌≤◌, ◌++◌, List, [], Option, Some, length, map, min, take, drop, IsTrue, IsErr, IsSome, IfOk, OnOk, OnErr, MatchResult};
 ghost use Rattle.std.specs.Io.{ReadsAtMost};
 ghost use Rattle.std.specs.Io.KnownBytes.{ReadConsumes};
@@ -27,10 +27,10 @@ struct CountedFile {
     faults: u64,
 }
 
-/// Files by name. Of two with one name the first counts. One count of faults is kept for each file, and one for all names
-/// that aren't there; a read that fails with nothing begun raises the latter.
+/// Files by name. Of two with one name the first counts. One count of faults is kept for each file, and one for all names that don't
+/// exist; a read that fails with nothing begun raises the latter.
 ///
-/// Contracts see a `MemFilesView` of specs/MemFiles, which also says what each call makes of it.
+/// Contracts see a `MemFilesView` of specs/MemFiles, which also defines the effect of each call.
 #[derive(Drop)]
 pub struct MemFiles {
     files: Vec<CountedFile>,
@@ -58,8 +58,8 @@ impl Model for MemFiles {
 impl MemFiles {
     ghost use Rattle.lucid_io.specs.MemFilesFields.{new_files};
 
-    /// These files, with nothing begun and no count above 0. The calls of `begin` and `read` whose numbers stand in `fails`
-    /// fail; they are numbered together from 0, and the number stays at the last u64.
+    /// Makes these files, with nothing begun and no count above 0. The calls of `begin` and `read` whose numbers are in `fails` fail;
+    /// they are numbered together from 0, and the number stays at the last u64.
     pub fn new(alloc: Global, files: Vec<MemFile>, fails: Vec<u64>) -> Result<MemFiles, Memory>
         ensures { IfOk result (λ s. s ≡ new_files files.items fails.items) }
     {
@@ -123,12 +123,12 @@ impl Files for MemFiles {
 
     ghost reads = { λ s. s.reads };
 
-    // of names nothing is told
+    // names are unspecified
     ghost tried = { λ _ name. Unit {0} };
 
     ghost faults = { faults_of };
 
-    /// Fails exactly where the call's number stands in `fails`, or no file has the name; then nothing is begun.
+    /// Fails exactly if the call's number is in `fails` or no file has the name; then nothing is begun.
     fn begin(&mut self, name: &str) -> Result<(), Failed>
         // exactly
         ensures fails { IsErr result ↔ IsTrue (begin_fails self.old name.now) }
@@ -152,7 +152,7 @@ impl Files for MemFiles {
         self.turn_to(name)
     }
 
-    /// Fails exactly where the call's number stands in `fails`; else gives as many bytes as are left and fit the room.
+    /// Fails exactly if the call's number is in `fails`; otherwise returns the unread bytes that fit the buffer.
     fn read(&mut self, room: &mut [u8]) -> Result<usize, Failed>
         // exactly
         ensures fails { IsErr result ↔ IsTrue (is_failing self.old.fails self.old.calls) }
@@ -216,7 +216,7 @@ fn blame(files: &mut Vec<CountedFile>, absent: &mut u64, place: Option<usize>)
     }
 }
 
-// Copies what the begun file has left into the front of the room, as much as fits, and answers how much.
+// Copies the unread bytes of the begun file into the front of the buffer, as many as fit, and returns their number.
 fn copy_rest(files: &Vec<CountedFile>, begun: Option<usize>, given: usize, room: &mut [u8]) -> usize
     requires there { IsThere (map file_view files.now.items) begun }
     requires within { IsWithin (map file_view files.now.items) begun given }

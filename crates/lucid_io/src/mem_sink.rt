@@ -1,4 +1,4 @@
-// A sink in memory with a bounded room, which fails at the writes that its maker chooses. It tells everything.
+// A sink in memory with a bounded capacity, which fails at the writes that its maker chooses. Its content is specified.
 ghost use Rattle.std.specs.Prelude.{◌≡◌, ◌↔◌, ◌-◌, ◌<◌, ◌≤◌, Some, [], length, IsTrue, IsErr, IfOk, OnOk, OnErr};
 ghost use Rattle.std.specs.Io.{WritesAtMost};
 ghost use Rattle.std.specs.Io.KnownBytes.{WriteAppends};
@@ -12,9 +12,9 @@ use lucid_base::Memory;
 use std::alloc::Global;
 use std::marker::Model;
 
-/// Bytes in memory, at most as many as there is room for.
+/// Bytes in memory, up to a capacity.
 ///
-/// Contracts see a `MemSinkView` of specs/MemSink, which also says what each write makes of it.
+/// Contracts see a `MemSinkView` of specs/MemSink, which also defines the effect of each write.
 #[derive(Drop)]
 pub struct MemSink {
     bytes: Vec<u8>,
@@ -36,8 +36,8 @@ impl Model for MemSink {
 }
 
 impl MemSink {
-    /// An empty sink with room for `room` bytes, whose memory is taken here. The writes whose numbers stand in `fails` fail;
-    /// they are numbered from 0, and the number stays at the last u64.
+    /// Makes an empty sink for `room` bytes, which are allocated here. The writes whose numbers are in `fails` fail; they are numbered
+    /// from 0, and the number stays at the last u64.
     pub fn new(alloc: Global, room: usize, fails: Vec<u64>) -> Result<MemSink, Memory>
         ensures { IfOk result (λ s. s ≡ record { bytes = []; room = room; fails = fails.items; calls = 0; faults = 0 }) }
     {
@@ -50,7 +50,7 @@ impl MemSink {
         })
     }
 
-    /// What was written, in order.
+    /// The bytes written, in order.
     pub fn bytes(&self) -> &[u8]
         ensures { result.now ≡ self.now.bytes }
     {
@@ -83,8 +83,8 @@ impl Sink for MemSink {
 
     ghost faults = { λ s. s.faults };
 
-    /// Takes no memory. Fails exactly where the write's number stands in `fails`, or its piece isn't empty and the room is full;
-    /// else takes as many bytes of the piece as there is room for.
+    /// Allocates nothing. Fails exactly if the write's number is in `fails`, or its piece isn't empty and the sink is full; otherwise
+    /// takes as many bytes of the piece as fit.
     fn write(&mut self, piece: &[u8]) -> Result<usize, Failed>
         // exactly
         ensures fails { IsErr result ↔ IsTrue (write_fails self.old piece.now) }

@@ -31,12 +31,12 @@ impl From<AllocError> for Take {
 // How many bytes one read may give.
 const CHUNK: usize = 4096;
 
-/// The bytes of a file, from its start to its end, which are at most `limit`.
+/// Reads a file from its start to its end, at most `limit` bytes.
 ///
-/// `ReadFault` comes only where the name's count of faults rose in this call, and no other answer changes a count. `TooLong` comes exactly
-/// where the file gave `limit + 1` bytes, unless memory ran out. So where no count of the name rose and the file tells at most `limit` bytes,
-/// the answer is those bytes, or want of memory. No more than `limit + 1` bytes are ever taken, by at most `limit + 2` reads, and no file of
-/// another name is begun.
+/// Returns `ReadFault` only if the name's count of faults rose in this call, and changes no count with any other answer. Returns
+/// `TooLong` exactly if the file gave `limit + 1` bytes, unless memory ran out. So if no count of the name rose and the file's specified
+/// content has at most `limit` bytes, the answer is that content, or out of memory. Takes no more than `limit + 1` bytes, by at most
+/// `limit + 2` reads, and begins no file of another name.
 pub fn read_all<F: Files>(
     alloc: Global,
     files: &mut F,
@@ -61,7 +61,7 @@ pub fn read_all<F: Files>(
     ensures gave_more { F.given files.new ≡ limit + 1 → (result ≡ Err Take.TooLong) ⊎ (result ≡ Err Take.Memory) }
     ensures longer { result ≡ Err Take.TooLong → IfSome (F.held files.old name.now) (λ bytes. limit < length bytes) }
 
-    // what stays the same
+    // the specified contents are unchanged
     ensures held { SameHeld (F.held files.old) (F.held files.new) }
     ensures later { NoneFell (F.faults files.old) (F.faults files.new) }
     ensures quiet { result ≢ Err Take.ReadFault → SameCounts (F.faults files.old) (F.faults files.new) }
@@ -73,7 +73,7 @@ pub fn read_all<F: Files>(
     }
 }
 
-// What the begun file has left, which is at most `limit` bytes. Each read but the last takes a byte.
+// Reads the rest of the begun file, at most `limit` bytes. Each read but the last takes a byte.
 fn take_rest<F: Files>(alloc: Global, files: &mut F, limit: usize) -> Result<Vec<u8>, Take>
     requires small { limit < 2 ^ 32 }
     requires start { F.given files.old ≡ 0 }

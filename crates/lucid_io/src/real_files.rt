@@ -1,4 +1,4 @@
-// The machine's files. Of the begun one is told to be left what its reader tells, of names nothing, and every error is counted.
+// The machine's files. The unread bytes of the begun one are as its reader specifies, names are unspecified, and every error is counted.
 ghost use Rattle.std.specs.Prelude.{◌≡◌, ℕ, List};
 ghost use Rattle.lucid_io.specs.Counts.{raised};
 
@@ -7,7 +7,7 @@ use crate::files::{Failed, Files};
 use std::fs;
 use std::io::Read;
 
-/// Files by path, opened for reading. One count of faults serves all names, what is begun has every name, and every name counts as tried.
+/// Files by path, opened for reading. One count of faults serves all names, a begun file has every name, and every name counts as tried.
 #[derive(Drop)]
 pub struct RealFiles<R: fs::Files + Drop> {
     rt: R,
@@ -63,7 +63,7 @@ impl<R: fs::Files + Drop> Files for RealFiles<R> {
 
     ghost faults = { λ s name. s.faults };
 
-    /// Opens the file. One that was begun before is closed. Want of memory that the machine meets here is a fault too.
+    /// Opens the file and closes the one begun before. A failed allocation of the machine here is a fault too.
     fn begin(&mut self, name: &str) -> Result<(), Failed> {
         self.given = 0;
         self.file = None;

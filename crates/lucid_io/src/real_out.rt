@@ -1,4 +1,4 @@
-// A stream of the machine, as its standard output or error. No content is told, and every error is counted.
+// A stream of the machine, as its standard output or error. Its content is unspecified, and every error is counted.
 ghost use Rattle.std.specs.Prelude.{◌≡◌};
 
 use crate::counts::raise;

@@ -39,7 +39,7 @@ impl<const N: usize> Room<N> {
         }
     }
 
-    // Lets the piece wait behind what waits already, and says whether there was room for it.
+    // Appends the piece to the buffer and returns true, if it fits.
     #[inline(always)]
     fn admit(&mut self, piece: &[u8]) -> bool
         ensures fits { result ≡ nat_le (length self.old + length piece.now) N }
@@ -56,11 +56,11 @@ impl<const N: usize> Room<N> {
     }
 }
 
-/// Lets the piece wait in the room, behind what waits there already. Where it doesn't fit, what waits is written first, and a piece that is
-/// longer than the room is written too.
+/// Appends the piece to the buffer. If it doesn't fit, the buffer is flushed first, and a piece that is longer than the buffer is written
+/// too.
 ///
-/// Of both together all was put but what waits then; or, where the sink's count of faults rose in this call, a proper prefix
-/// was put, and nothing waits. Nothing is written where both fit the room, as nearly all pieces do: so that much is inlined.
+/// Of both together all was written except the bytes still in the buffer; or, if the sink's count of faults rose in this call, a proper
+/// prefix was written, and the buffer is empty. Nothing is written if both fit, as nearly all pieces do, so that case is inlined.
 #[inline(always)]
 pub fn hold<S: Sink, const N: usize>(
     sink: &mut S,
@@ -78,7 +78,7 @@ pub fn hold<S: Sink, const N: usize>(
     hold_behind(sink, room, piece)
 }
 
-// Writes what waits, and then lets the piece wait, or writes it too where it is longer than the room.
+// Flushes the buffer, then appends the piece, or writes it too if it is longer than the buffer.
 #[inline(never)]
 fn hold_behind<S: Sink, const N: usize>(
     sink: &mut S,

@@ -6,12 +6,12 @@ ghost use Rattle.lucid_io.specs.Counts.{Rose};
 
 use crate::files::Failed;
 
-/// A sink of bytes. What was written stays, and grows only at its end.
+/// A sink of bytes. Written bytes stay, and more are added only at the end.
 pub trait Sink {
-    /// All bytes that were written, where they are told.
+    /// All bytes that were written, if they are specified.
     ghost written: { Self → Option (List ℕ) };
 
-    /// How many faults the sink has met. The count never falls, and stands still at the last u64.
+    /// The number of faults of the sink. It never falls, and stops at the last u64.
     ghost faults: { Self → ℕ };
 
     /// Appends the first bytes of the piece, at least one of a piece that isn't empty, and answers how many.

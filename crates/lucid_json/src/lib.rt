@@ -1,6 +1,6 @@
-// JSON values, read by serde_json, and the functions that look into them.
-// Each function returns what serde_json's definition of its name gives of the value, and its clause says so. The condition on the keys of an
-// object is in specs/Keys.antt, for every file that is read. Depends on serde_json alone.
+// JSON values, read by serde_json, and the functions that look into them. Each function returns the result of serde_json's definition of
+// its name, and its clause says so. The condition on the keys of an object is in specs/Keys.antt, for every file that is read. Depends on
+// serde_json alone.
 #![tactic(auto)]
 
 mod look;

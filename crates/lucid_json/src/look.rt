@@ -1,4 +1,4 @@
-// Looking into a value. Each function returns what serde_json's definition of its name gives of the value.
+// Looking into a value. Each function returns the result of serde_json's definition of its name.
 ghost use Rattle.std.specs.Prelude.{◌≡◌, option_map, option_and_then};
 ghost use Rattle.serde_json.specs.Find.{get as get_of, at as at_of, as_array, as_number, as_object, as_str, as_u64};
 ghost use Rattle.serde_json.specs.View.{view, items_view, members_view};

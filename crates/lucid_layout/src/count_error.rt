@@ -7,9 +7,9 @@ use lucid_base::Memory;
 /// Why the counts of code pass limits (`CountsFail` of specs/Counts), in the order in which the causes are tried.
 #[derive(Clone, Copy)]
 pub enum CountError {
-    /// The code has more than 4,096 operations: so many.
+    /// The code has this many operations, more than 4,096.
     Ops(u64),
-    /// A packet carries more bits than `limits.bits`: so many.
+    /// A packet carries this many bits, more than `limits.bits`.
     Fields(u64),
     /// An array has more calls than `limits.arms`: the first such array.
     Arms(u32),

@@ -1,4 +1,4 @@
-// The least place for a node among stages as they stand.
+// Finds the least place for a node among the stages so far.
 ghost use Rattle.std.specs.Prelude.{◌≡◌, ◌<◌, ◌≤◌, ℕ, true, None, Ok, length, IfOk, IfSome, IsSome};
 ghost use Rattle.lucid_tables.specs.Rows.{table as table_of_rows};
 ghost use Rattle.lucid_merge.specs.Product.{product};

@@ -1,4 +1,4 @@
-// Tables that grow: what a table refused is remembered, so that it is not merged in vain again.
+// Tables that grow: a table's refusals are remembered, so that nothing is merged in vain again.
 ghost use Rattle.std.specs.Prelude.{◌≡◌, ◌<◌, [], ◌∷◌, map, length, IfOk, OnOk, IsTrue};
 ghost use Rattle.std.specs.List.{list_all};
 ghost use Rattle.lucid_tables.specs.Numbers.{is_in, rises, with_numbers};
@@ -113,7 +113,7 @@ fn patterns_of(alloc: Global, rows: &[Row]) -> Result<Items<Items<Literal>>, Mem
     Ok(patterns)
 }
 
-/// Whether it is remembered that a table has more than so many rows with this row.
+/// Returns whether a remembered refusal applies: this table has more than `rows` rows with this row.
 fn is_refused(
     alloc: Global,
     known: &Option<Refusal>,
@@ -129,7 +129,7 @@ fn is_refused(
     }
 }
 
-/// Whether a refusal tells that a table has more than so many rows with this row.
+/// Returns whether a refusal implies that a table has more than `rows` rows with this row.
 fn refuses(
     alloc: Global,
     known: &Refusal,
@@ -158,7 +158,7 @@ fn refuses(
     Ok(includes(row.pattern.as_slice(), known.literals.as_slice()))
 }
 
-/// What is to be remembered of a table that refused a row: nothing where the row names fields of the table alone.
+/// The refusal to remember for a table that refused a row; none if the row names fields of the table alone.
 fn refusal(alloc: Global, table: &[Row], row: &Row, rows: usize) -> Result<Option<Refusal>, Memory>
     requires { rows < length (product table.now (row.now ∷ [])) }
 {
@@ -180,7 +180,7 @@ fn refusal(alloc: Global, table: &[Row], row: &Row, rows: usize) -> Result<Optio
     }))
 }
 
-/// A table merged with a row, where it then has few enough rows; what it refuses is remembered.
+/// Merges a table with a row, if it then has few enough rows; otherwise remembers the refusal.
 fn with_row(
     alloc: Global,
     known: &mut Option<Refusal>,
@@ -204,14 +204,14 @@ fn with_row(
     }
 }
 
-/// What is remembered of each table of each stage, by number.
+/// The remembered refusals of each table of each stage, by number.
 #[derive(Drop)]
 pub(crate) struct Known {
     tables: Vec<Option<Refusal>>,
 }
 
 impl Known {
-    /// Nothing yet, with room for so many stages of 64 tables.
+    /// No refusals yet, for `stages` stages of 64 tables.
     pub(crate) fn new(alloc: Global, stages: u32) -> Result<Known, Memory> {
         let mut tables = Vec::new(alloc);
         for _turn in 0..64 * u64::from(stages) {

@@ -18,8 +18,9 @@ use lucid_merge::{guards_contradict, products_act, products_name};
 use lucid_tables::Placed;
 use std::alloc::Global;
 
-/// The code in stages and tables by first fit: Ok exactly where its counts keep their limits and each node has a place (`IsLayout` of
-/// specs/Layout), and else the first cause (`IsRefused`). A pass through the stages does what the code does, as `Placed::code` tells.
+/// Lays code out in stages and tables by first fit. Returns Ok exactly if its counts keep their limits and each node has a place
+/// (`IsLayout` of specs/Layout), and otherwise the first cause (`IsRefused`). By `Placed::code`, a pass through the stages has the effect
+/// of the code.
 #[tactic(auto, using(crate::proofs::CountsRefuse::counts_refuse))]
 pub fn place(alloc: Global, code: &Code, limits: &Limits) -> Result<Placed, FitError>
     requires { AreLimits limits.now }

@@ -1,4 +1,4 @@
-// What is told of each table of the stages.
+// The line of each table of the stages.
 ghost use Rattle.std.specs.Prelude.{◌≡◌, ◌++◌, ℕ, length, IfOk, OnOk, IsTrue};
 ghost use Rattle.lucid_tables.specs.Numbers.{rising, rises, with_numbers};
 ghost use Rattle.lucid_tables.specs.Placed.{named_by};
@@ -49,7 +49,7 @@ fn push_lines(
     Ok(())
 }
 
-/// What is told of a table.
+/// The line of a table.
 fn line(
     alloc: Global,
     ops: &[Op],

@@ -1,4 +1,4 @@
-// What is told of a table.
+// The line of a table.
 use lucid_base::Items;
 
 /// A table by its stage and its number there, both from 0: how many rows it has, how many operations they name, each counted once, and the

@@ -1,4 +1,4 @@
-// The bytes that a piece of a text may have, and what the first of them tells.
+// The bytes that a piece of a text may have, and the kind of piece that a first byte begins.
 ghost use Rattle.std.specs.Prelude.{◌≡◌};
 ghost use Rattle.std.specs.Char.{digit_value};
 ghost use Rattle.lucid_lex.specs.Byte.{is_blank, is_name_start, is_name_byte, is_quotable, class_of};
@@ -56,7 +56,7 @@ pub(crate) fn is_name_byte(b: u8) -> bool
     b.is_ascii_alphanumeric() || b == b'_'
 }
 
-/// Whether the byte may stand between quotes.
+/// Returns whether the byte may be between quotes.
 pub(crate) fn is_quotable(b: u8) -> bool
     ensures { result ≡ is_quotable b }
 {

@@ -1,5 +1,5 @@
-// The piece that begins a text: one function for each way in which one may begin. Each gives what specs/Front.antt computes;
-// that this is the longest piece there is a law about those definitions.
+// The piece that begins a text: one function for each way in which one may begin. Each returns the result of specs/Front.antt; that this
+// is the longest piece there is a law about those definitions.
 ghost use Rattle.std.specs.Prelude.{◌≡◌, ◌+◌, ◌*◌, ◌^◌, ◌<◌, ◌≤◌, ◌&&◌, ◌==◌, length, option_map, SomeIff, IfSome};
 ghost use Rattle.std.specs.Char.{digit_value};
 ghost use Rattle.std.specs.List.{prefix_len};
@@ -18,14 +18,14 @@ pub(crate) struct Front {
     pub(crate) kind: Option<Kind>,
 }
 
-/// A blank or a comment of so many bytes.
+/// A blank or a comment of `len` bytes.
 fn gap(len: usize) -> Option<Front>
     ensures { result ≡ gap len }
 {
     Some(Front { len, kind: None })
 }
 
-/// A token of so many bytes.
+/// A token of `len` bytes.
 fn token(len: usize, kind: Kind) -> Option<Front>
     ensures { result ≡ token len kind }
 {
@@ -106,7 +106,7 @@ fn after_prefix(text: &[u8]) -> Option<&[u8]>
     }
 }
 
-/// The number that the digits begin with, behind a prefix of so many bytes.
+/// The number at the start of the digits, after a prefix of `skipped` bytes.
 fn numeral_front(digits: &[u8], base: u8, skipped: usize) -> Option<Front>
     requires room { length digits.now + skipped < 2 ^ 64 }
     requires positive { 0 < base }
@@ -146,7 +146,7 @@ fn with_digit(number: u64, base: u8, digit: u8) -> Option<u64>
         .checked_add(u64::from(byte::digit_value(digit)))
 }
 
-/// A text, from its quote to the next, if nothing else stands between than what may.
+/// A text, from its quote to the next, if only quotable bytes are between.
 #[tactic(auto, unfolding(crate::specs::Front::quoted_front))]
 fn quoted_front(text: &[u8]) -> Option<Front>
     ensures { result ≡ quoted_front text.now }

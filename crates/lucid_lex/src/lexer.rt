@@ -1,4 +1,4 @@
-// A text as its tokens. The loop cuts off one piece after another; what a reading is, specs/Reading.antt says of whole texts.
+// A text as its tokens. The loop cuts off one piece after another; specs/Reading.antt defines the reading of a whole text.
 ghost use Rattle.std.specs.Prelude.{◌≡◌, ◌≢◌, ℕ, ◌+◌, ◌^◌, ◌<◌, ◌++◌, [], List, IfOk, IfErr, OnOk, IsErrOf, MatchResult};
 ghost use Rattle.lucid_lex.specs.declared.token.Token.{Token};
 ghost use Rattle.lucid_lex.specs.Reading.{Reads, StopsAt, with_token};
@@ -13,11 +13,11 @@ use std::alloc::Global;
 /// its place (`Reads`). Where it is no such list, `NoToken` has the offset, in bytes from 0, up to which it is one and at
 /// which nothing begins (`StopsAt`). Memory is the one answer without a cause.
 pub fn lex(alloc: Global, text: &[u8]) -> Result<Vec<Token>, LexError>
-    // What is answered is so: the text is read as these tokens, or up to this offset and no further.
+    // The answer is true: the text is read as these tokens, or up to this offset and no further.
     ensures ok { IfOk result (λ tokens. Reads text.now tokens.items) }
     ensures no_token { (at : ℕ) → IsErrOf result (LexError.NoToken at) → StopsAt text.now at }
 
-    // What is so is answered, unless memory runs out.
+    // The truth is answered, unless memory runs out.
     ensures reads { (ts : List Token) → Reads text.now ts
         → MatchResult result (λ tokens. tokens.items ≡ ts) (λ e. e ≡ LexError.Memory) }
     ensures stops { (at : ℕ) → StopsAt text.now at

@@ -1,6 +1,6 @@
-// The tokens of a text. `lex` answers exactly how a text is read, or the first offset at which nothing can be; the rest
-// gives the bytes of a token. What "read" means is said in specs/: Piece.antt has the pieces of a text, each by the bytes
-// that write it, and Reading.antt has whole texts. Stands on std, and on lucid_base for places in a text.
+// The tokens of a text. `lex` returns exactly the reading of a text, or the first offset at which nothing can be read; the rest returns
+// the bytes of a token. Reading is defined in specs/: Piece.antt has the pieces of a text, each by the bytes that write it, and
+// Reading.antt has whole texts. Depends on std, and on lucid_base for positions in a text.
 #![tactic(auto)]
 
 mod byte;

@@ -1,11 +1,11 @@
-// What a token says: its bytes, which stand in its text.
+// The content of a token: its bytes, which are in its text.
 ghost use Rattle.std.specs.Prelude.{◌≡◌, ◌<◌, All};
 ghost use Rattle.lucid_lex.specs.Piece.{IsToken, IsQuoted};
 ghost use Rattle.lucid_lex.specs.Reading.{Reads, IsTokenOf, bytes_of};
 
 use crate::token::{Kind, Token};
 
-/// A law, for whoever is handed a text with its tokens: each of them stands in the text. Nothing runs.
+/// A law for callers that get a text with its tokens: each token is in the text. Nothing runs.
 pub fn tokens_stand(text: &[u8], tokens: &[Token])
     requires { Reads text.now tokens.now }
     ensures { All (IsTokenOf text.now) tokens.now }

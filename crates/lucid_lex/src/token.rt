@@ -1,4 +1,4 @@
-// What a text is cut into, and what a refusal says.
+// The pieces of a text, and the content of a refusal.
 ghost use Rattle.std.specs.Prelude.{◌≡◌};
 ghost use Rattle.lucid_lex.specs.declared.token.LexError.TheVariants.{Memory};
 
@@ -7,7 +7,7 @@ use crate::word::Word;
 use lucid_base::Span;
 use std::alloc::AllocFailed;
 
-/// What a token is. Two names, and two texts, differ by their bytes alone, which stand in the text at the span.
+/// The kind of a token. Two names, and two texts, differ only by their bytes, which are in the text at the span.
 #[derive(Clone, Copy, Debug)]
 pub enum Kind {
     /// A name, which is no reserved word.
@@ -22,7 +22,7 @@ pub enum Kind {
     Sign(Sign),
 }
 
-/// A token and where it stands. The span of a text has both its quotes.
+/// A token and its position. The span of a text has both its quotes.
 #[derive(Clone, Copy)]
 pub struct Token {
     pub kind: Kind,

@@ -69,7 +69,7 @@ impl Word {
     }
 }
 
-/// The reserved words of so many bytes.
+/// The reserved words of `len` bytes.
 fn words_of(len: usize) -> &'static [Word]
     ensures { result.now ≡ words_of len }
 {

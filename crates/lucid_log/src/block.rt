@@ -1,4 +1,4 @@
-// Blocks: an event that ran, and what it sent out.
+// Blocks: an event that ran, and its outs.
 ghost use Rattle.std.specs.Prelude.{◌≡◌, ◌<◌, ◌≤◌, [], ◌++◌, length, IsTrue, OnOk, OnErr};
 ghost use Rattle.std.specs.List.{All};
 ghost use Rattle.lucid_core.specs.Fits.{event_fits, out_fits};
@@ -12,9 +12,9 @@ use lucid_base::{Event, Out, Outs, Target};
 use lucid_core::Core;
 use lucid_io::{ROOM, Room, Sink, WriteFault, hold, release};
 
-/// Writes the block of an event that fits the core and ran at this tick on this switch, with what it sent out (`block_text`): all of it,
-/// or a proper prefix of it where the sink's count of faults rose in this call. Bit `i` of `lost` marks out `i` as lost. The events sent out
-/// fit the core too, and a text that is printed is there and has a `%d` for each of its numbers.
+/// Writes the block of an event that fits the core and ran at this tick on this switch, with its outs (`block_text`): all of it, or a
+/// proper prefix of it if the sink's count of faults rose in this call. Bit `i` of `lost` marks out `i` as lost. The outs fit the core
+/// too: a printed text exists and has a `%d` for each of its numbers.
 pub fn put_block<S: Sink>(
     sink: &mut S,
     core: &Core,
@@ -94,7 +94,7 @@ fn put_through<S: Sink, const N: usize>(
     release(sink, room)
 }
 
-// How many bytes a block has at most. No clause needs it: it only tells how large a room is worth its zeroing.
+// The most bytes of a block. No clause needs it: it only decides which buffer size is worth its zeroing.
 fn most_of(core: &Core, event: &Event, outs: &[Out]) -> usize {
     let mut most = most_of_event(core, event);
     for out in outs {

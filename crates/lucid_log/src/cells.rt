@@ -9,12 +9,12 @@ use lucid_base::ArrayDef;
 use lucid_core::Cells;
 use lucid_io::{ROOM, Room, Sink, WriteFault, release};
 
-/// What cells hold, by the number of their array and their own, as a core's cells or a pipeline's registers do.
+/// The values of cells, by the number of their array and their own, as a core's cells or a pipeline's registers have them.
 pub trait ArrayCells {
-    /// What the cells of each array hold.
+    /// The cells of each array.
     ghost held: { Self → List (List ℕ) };
 
-    /// What a cell of an array holds. Cell `i` is `i` modulo the size; an array that isn't there, or has no cells, holds 0.
+    /// Returns a cell of an array. Cell `i` is `i` modulo the size; an array that does not exist or has no cells holds 0.
     fn value(&self, array: u32, cell: u64) -> u64
         ensures { result ≡ cell_at (held self.now) array cell };
 }

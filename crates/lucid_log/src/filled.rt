@@ -27,7 +27,7 @@ pub(crate) fn hold_filled<S: Sink, const N: usize>(
     hold(sink, room, rest)
 }
 
-// What stands before the first `%d`, and what stands after it.
+// Splits a text at its first `%d`.
 fn split_at_hole(text: &[u8]) -> (&[u8], &[u8])
     requires { 0 < holes_of text.now }
     ensures none_before { holes_of result.0.now ≡ 0 }

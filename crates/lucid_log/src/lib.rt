@@ -1,6 +1,6 @@
-// The texts of a run: blocks, cells and endings. All of a text is written, or a proper prefix of it where the sink's count of faults rose
-// in that call; its pieces wait in a room, and each call releases what it let wait. The texts are defined in specs/, beside their formats.
-// Stands on lucid_base, lucid_io, lucid_core and itoa. Nothing here takes memory.
+// The texts of a run: blocks, cells and endings. All of a text is written, or a proper prefix of it if the sink's count of faults rose in
+// that call. Pieces are buffered, and each call flushes its own buffer. The texts are defined in specs/, beside their formats. Depends on
+// lucid_base, lucid_io, lucid_core and itoa. Nothing here allocates.
 #![tactic(auto)]
 
 mod block;

@@ -90,7 +90,7 @@ fn put_through<S: Sink, const N: usize>(
     release(sink, room)
 }
 
-// How many bytes the text of the pieces has at most. No clause needs it: it only tells how large a room is worth its zeroing.
+// The most bytes of the text of the pieces. No clause needs it: it only decides which buffer size is worth its zeroing.
 fn most_of(pieces: &[Piece]) -> usize {
     let mut most: usize = 0;
     for piece in pieces {
@@ -108,7 +108,8 @@ fn most_of_piece(piece: &Piece) -> usize {
     }
 }
 
-// Lets the pieces wait in the room, or writes them on the way: of what waited and their text all was put but what waits then.
+// Buffers the pieces, or writes them on the way. Of the buffered bytes and the new text all was written except the bytes still in the
+// buffer.
 pub(crate) fn hold_pieces<S: Sink, const N: usize>(
     sink: &mut S,
     room: &mut Room<N>,

@@ -1,4 +1,4 @@
-// The line that tells a network's log.
+// The line that summarizes a network's log.
 ghost use Rattle.std.specs.Prelude.{OnOk, OnErr};
 ghost use Rattle.lucid_io.specs.Puts.{PutsAll, PutsPart};
 ghost use Rattle.lucid_log_tally.specs.Bench.{bench_line};

@@ -35,7 +35,7 @@ impl Line {
         }
     }
 
-    /// What is kept.
+    /// The kept bytes.
     pub(crate) fn bytes(&self) -> &[u8]
         ensures { result.now ≡ self.now }
     {

@@ -1,4 +1,4 @@
-// A sink that counts and hashes what is written, and keeps the beginning of the last line.
+// A sink that counts and hashes its bytes, and keeps the beginning of the last line.
 ghost use Rattle.std.specs.Prelude.{◌≡◌, ◌<◌, ◌+◌, ◌^◌, [], Some, length};
 ghost use Rattle.lucid_base.specs.Hash.{fnv_1a};
 ghost use Rattle.lucid_log_tally.specs.Line.{last_line};
@@ -59,7 +59,7 @@ impl Tally {
         self.count
     }
 
-    /// FNV-1a of 64 bits over what was written.
+    /// FNV-1a of 64 bits over all written bytes.
     pub fn hash(&self) -> u64
         ensures { result ≡ fnv_1a self.now.bytes }
     {

@@ -29,7 +29,7 @@ fn main(rt: HostRuntime) -> ExitCode {
     ExitCode::from(status.code())
 }
 
-/// Does what the words ask for. Reports out of memory if there is no memory for the passes.
+/// Runs the command of the words. Reports out of memory if there is no memory for the passes.
 fn answered<F: Files, W: Sink, E: Sink>(
     alloc: Global,
     words: &[String],

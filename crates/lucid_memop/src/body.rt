@@ -61,7 +61,7 @@ fn choice(width: Width, test: &Expr, yes: &[Stmt], no: &[Stmt]) -> Option<MemAlu
     }
 }
 
-/// What a block of one return gives.
+/// The memop side of a block of one return.
 fn returned_side(width: Width, body: &[Stmt]) -> Option<MemSide>
     ensures { result ≡ returned width body.now }
 {

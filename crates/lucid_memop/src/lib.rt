@@ -1,5 +1,4 @@
-// Memops: which bodies the memory of one stage can compute, as specs/Shape.antt says.
-// Stands on lucid_base and lucid_core.
+// Memops: the bodies that the memory of one stage can compute, by specs/Shape.antt. Depends on lucid_base and lucid_core.
 #![tactic(auto)]
 
 mod body;

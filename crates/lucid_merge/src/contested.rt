@@ -17,7 +17,7 @@ fn field_slot(literal: Literal) -> usize
     (literal.field % 1024) as usize
 }
 
-/// Whether another literal stands at the place of the literal's field.
+/// Returns whether another literal is at the place of the literal's field.
 fn is_contested(lone: &[Literal], literal: Literal) -> bool
     ensures { result ≡ is_contested lone.now literal }
 {
@@ -80,7 +80,7 @@ fn note_row(lone: &mut Vec<Literal>, pattern: &[Literal]) {
     }
 }
 
-/// Puts a literal at its field's place if none stands there, and one of another place where another stands there.
+/// Puts a literal at its field's place if that is free, and a literal of another place if another one is there.
 fn note(lone: &mut Vec<Literal>, literal: Literal) {
     let place = field_slot(literal);
     if place < lone.len() {

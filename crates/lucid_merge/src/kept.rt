@@ -1,4 +1,4 @@
-// The rows of a product that are kept, and marks that tell where a row may stand whose pattern a pair includes.
+// The kept rows of a product, and marks that locate a row whose pattern a pair may include.
 ghost use Rattle.std.specs.Prelude.{◌≡◌, ◌+◌, ◌<◌, ◌≤◌, ◌++◌, [], ◌∷◌, ℕ, true, length, bit_or, nat_eq, slice_index_or, IfOk, OnOk};
 ghost use Rattle.std.specs.List.{list_any};
 ghost use Rattle.lucid_tables.specs.declared.table.Row.{Row as TableRow};
@@ -47,14 +47,14 @@ impl Model for Kept {
     ghost invariant = { λ k. AreTold k.marks.items (rows_of k.rows.items) × AreSigned k.bits.items k.rows.items };
 }
 
-/// Where a literal's mark stands of patterns that have no other.
+/// The index of a literal's mark among patterns of this literal alone.
 pub(crate) fn slot(literal: Literal) -> usize
     ensures { result ≡ slot literal }
 {
     ((literal.value ^ (u64::from(literal.field) * 521)) % 4096) as usize + 1
 }
 
-/// Where a literal's mark stands of patterns that have others.
+/// The index of a literal's mark among patterns with several literals.
 fn long_slot(literal: Literal) -> usize
     ensures { result ≡ long_slot literal }
 {
@@ -94,7 +94,7 @@ fn own_slot(pattern: &[Literal], literal: Literal) -> usize
     }
 }
 
-/// Whether the marks of a literal of two patterns tell that these may include a row's.
+/// Returns whether the marks of a literal of two patterns allow that these include a row's.
 fn tells(marks: &[usize], p: &[Literal], q: &[Literal], literal: Literal) -> bool
     ensures { result ≡ tells marks.now p.now q.now literal }
 {
@@ -116,7 +116,7 @@ fn may_cover(marks: &[usize], p: &[Literal], q: &[Literal]) -> bool
     is_marked(marks, 0) || any_tells(marks, p, q, p) || any_tells(marks, p, q, q)
 }
 
-/// The greatest number that a mark of one of these literals has: where the row may stand that is included.
+/// The greatest mark of these literals: the likely position of the included row.
 fn likely(marks: &[usize], pattern: &[Literal]) -> usize {
     let mut number = mark(marks, 0);
     for literal in pattern {
@@ -157,7 +157,7 @@ fn has_bits(sign: u64, own: u64) -> bool
     (sign | own) == sign
 }
 
-/// Whether two patterns together include that of a row, where their signature tells where they don't.
+/// Returns whether two patterns together include that of a row. Their signature rules most rows out.
 fn covers(p: &[Literal], q: &[Literal], sign: u64, row: &Signed) -> bool
     requires { is_heard p.now q.now sign row.now ≡ true }
     ensures { result ≡ covers p.now q.now row.now }

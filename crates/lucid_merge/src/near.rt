@@ -1,5 +1,5 @@
-// Which rows of a table may stand beside a row that asks a field for a value: found once a table, by the rest that the value leaves, so
-// that most rows which ask the field for another value are never tried.
+// The rows of a table that are compatible with a row that tests a field for a value. They are found once for each table, by the value's
+// remainder, so most rows that test the field for another value are never tried.
 ghost use Rattle.std.specs.Prelude.{◌≡◌, IfOk};
 ghost use Rattle.std.specs.List.{list_any, All};
 ghost use Rattle.lucid_merge.specs.Standing.{asks, asks_other, IsNear};
@@ -9,7 +9,7 @@ use lucid_code::Literal;
 use lucid_tables::Row;
 use std::alloc::Global;
 
-/// The places of the rows that may stand beside one that asks the field for a value which leaves this rest by 32.
+/// The positions of the rows that are compatible with a test of the field for a value with this remainder by 32.
 #[derive(Drop)]
 pub(crate) struct Near {
     pub(crate) field: u32,
@@ -46,7 +46,7 @@ fn avoids(field: u32, rest: u64, row: &Row) -> bool
     pattern.iter().any(|l| asks_other(field, rest, *l))
 }
 
-/// The rows that may stand beside one that asks the field for a value with the rest.
+/// The rows that are compatible with a test of the field for a value with this remainder.
 fn rows_near(alloc: Global, rows: &[Row], field: u32, rest: u64) -> Result<Near, Memory>
     ensures { IfOk result (λ n. IsNear rows.now n) }
 {

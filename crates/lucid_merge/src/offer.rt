@@ -13,7 +13,7 @@ use lucid_tables::Row;
 use std::alloc::Global;
 use std::sync::ledger::Ledger;
 
-/// Makes a pair of two rows where it has to be kept, and tells whether there are still at most so many.
+/// Makes a pair of two rows if it must be kept. Returns whether there are still at most `rows`.
 fn offer<L: Ledger>(
     alloc: Global,
     kept: &mut Kept,
@@ -57,7 +57,7 @@ pub(crate) fn offer_each<L: Ledger>(
     Ok(true)
 }
 
-/// Pairs a row with each of these that may stand beside it: those at the places, in their order.
+/// Pairs a row with each of these that is compatible with it: those at the positions, in their order.
 fn offer_near<L: Ledger>(
     alloc: Global,
     kept: &mut Kept,
@@ -99,8 +99,7 @@ fn offer_at<L: Ledger>(
     }
 }
 
-/// Pairs a row with each of these, and stops as soon as there are too many. Those that can't stand beside it are passed over where it is
-/// known which they are.
+/// Pairs a row with each of these, and stops as soon as there are too many. Skips those that are known to be incompatible.
 fn offer_beside<L: Ledger>(
     alloc: Global,
     kept: &mut Kept,

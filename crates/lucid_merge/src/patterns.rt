@@ -1,4 +1,4 @@
-// Patterns: which contradict, which include another, and what two are together.
+// Patterns: contradiction, inclusion, and the union of two.
 ghost use Rattle.std.specs.Prelude.{◌≡◌, ◌++◌, OnOk, IfOk};
 ghost use Rattle.std.specs.List.{list_any, fold};
 ghost use Rattle.lucid_code.specs.Guards as guards;
@@ -42,7 +42,7 @@ fn has(pattern: &[Literal], literal: Literal) -> bool
     pattern.iter().any(|m| is_same(literal, *m))
 }
 
-/// Whether all literals of the second pattern stand in the first.
+/// Returns whether all literals of the second pattern are in the first.
 pub fn includes(p: &[Literal], q: &[Literal]) -> bool
     ensures { result ≡ includes p.now q.now }
 {
@@ -57,7 +57,7 @@ fn has_either(p: &[Literal], q: &[Literal], literal: Literal) -> bool
     has(p, literal) || has(q, literal)
 }
 
-/// Whether all literals of the third pattern stand in the first two together.
+/// Returns whether all literals of the third pattern are in the first two together.
 pub(crate) fn include_together(p: &[Literal], q: &[Literal], r: &[Literal]) -> bool
     ensures { result ≡ includes (union p.now q.now) r.now }
 {

@@ -1,4 +1,4 @@
-// Signatures of patterns: 64 bits that tell of most rows that two patterns don't include theirs.
+// Signatures of patterns: 64 bits that exclude, for most rows, that two patterns include theirs.
 ghost use Rattle.std.specs.Prelude.{◌≡◌};
 ghost use Rattle.lucid_merge.specs.Signs.{bits_at, with_bits};
 
@@ -28,8 +28,8 @@ pub(crate) fn with_bits(bits: &[u64], from: u64, pattern: &[Literal]) -> u64
     sign
 }
 
-/// A bit for each literal of these rows, by its slot: mostly one for those that stand in the same rows, and another for others, so that
-/// what most rows have takes few bits. Any bits would serve; these tell most.
+/// A bit for each literal of these rows, by its slot: mostly one for literals of the same rows, and another for others, so that the
+/// common literals of most rows take few bits. Any bits would be right; these exclude the most.
 pub(crate) fn bits_for(alloc: Global, a: &[Row], b: &[Row]) -> Result<Vec<u64>, Memory> {
     let mut bits = vec![in alloc; 0u64; 4097]?;
     stir_rows(&mut bits, a, 1);
@@ -40,7 +40,7 @@ pub(crate) fn bits_for(alloc: Global, a: &[Row], b: &[Row]) -> Result<Vec<u64>, 
     Ok(bits)
 }
 
-/// Stirs the number of each row into what its literals have.
+/// Mixes the number of each row into the bits of its literals.
 fn stir_rows(bits: &mut Vec<u64>, rows: &[Row], first: u64) {
     let mut number = first;
     for row in rows {

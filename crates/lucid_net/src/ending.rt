@@ -1,4 +1,4 @@
-// What is written at the end: the cells that aren't 0, and the counts.
+// The text at the end: the cells that aren't 0, and the counts.
 ghost use Rattle.std.specs.Prelude.{◌≤◌, OnOk, OnErr, length, map};
 ghost use Rattle.lucid_io.specs.Puts.{PutsAll, PutsPart};
 ghost use Rattle.lucid_net_spec.specs.Log.{all_cells, end_text};

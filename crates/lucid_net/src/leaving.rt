@@ -33,7 +33,7 @@ pub(crate) struct Counts {
     pub(crate) lost: u64,
 }
 
-/// What a packet sent out that left waits or is lost, and its block is written.
+/// Queues (or drops) the events sent by a packet that has left the pipe, and writes its log block.
 fn leave<S: Sink>(
     world: &World,
     queue: &mut Queue,
@@ -76,7 +76,7 @@ fn leave<S: Sink>(
     }
 }
 
-/// The same of what left, if something did.
+/// Like `leave`, for an optional packet.
 fn leave_any<S: Sink>(
     world: &World,
     queue: &mut Queue,
@@ -129,7 +129,8 @@ fn let_in(
     }
 }
 
-/// The turn of a switch with a pipe: its packets move, what leaves is written and what it sent out waits, and then one may enter.
+/// The turn of a switch with a pipe: its packets move, a leaving packet's block is written and its events are queued, and then one event
+/// may enter.
 pub(crate) fn pipe_turn<S: Sink>(
     world: &World,
     placed: &Placed,

@@ -1,12 +1,13 @@
-// A network of switches over time, in code: tick after tick, and at each switch after switch, the pending event with the least key that is
-// ready enters, and what it sends out is pending or lost. It runs whole and its block is written at once (src/turns.rt), or it enters the pipe
-// of its switch, whose packets move by one stage a tick, and all of it is told as its packet leaves (src/pipes.rt).
-// It promises the log that lucid_net_spec defines, in either mode, or the part of it that was written when a write or memory failed; what a watch
-// is shown of pipes; and that a network with pipes takes memory, once it is made, only for events that wait. No cells are copied.
-// What is to be read: specs/Seen (what contracts see of a network), Writes, Sights, Wanting, Rows and Holds (what pipe a switch has). What is
-// in Kept, Entering, Leaving, Pairs, Pipes, Stands, Numbered, Sent and Ways is said of functions within the crate.
-// Stands on lucid_core for programs, lucid_conf for scenarios and limits, lucid_queue for what waits, lucid_tables and lucid_pipe for pipes,
-// lucid_net_laws and lucid_net_laws for what they come to, and lucid_log and lucid_io for what is written.
+// A network of switches, run tick by tick: each handler runs whole, or each switch has a pipeline on which packets overlap.
+// In a tick the switches take turns by number. A switch takes the ready event with the least key; the events that it sends are queued or lost.
+// Run whole, the handler runs at once and its log block is written (src/turns.rt). On a pipeline, the event enters as a packet, packets move one
+// stage a tick, and the block is written when the packet departs (src/pipes.rt).
+// Promises: in both modes the log that lucid_net_spec defines, or a prefix of it if a write or an allocation failed; the sights that a watch is
+// shown; and that a network with pipelines, once made, takes memory only for queued events. Cells are never copied.
+// Read specs/Seen (the model of a network), Writes, Sights, Wanting, Rows and Holds (the pipeline of a switch). The other files of specs/
+// describe functions within the crate.
+// Depends on lucid_core and lucid_core_run (programs), lucid_conf (scenarios, limits), lucid_queue (pending events), lucid_tables and lucid_pipe
+// (pipelines), lucid_net_spec and lucid_net_laws (the log and its laws), and lucid_log and lucid_io (output).
 #![tactic(auto)]
 
 mod ending;

@@ -72,7 +72,7 @@ fn link_at(links: &[Link], place: usize) -> Option<Link>
     }
 }
 
-/// The place of the first link that joins two switches, for each pair of so many.
+/// The index of the first link that joins two switches, for each pair of switches.
 fn places(alloc: Global, links: &[Link], switches: usize) -> Result<Vec<usize>, Memory>
     requires few { switches < 2 ^ 32 }
     requires within { All (IsLink switches) links.now }

@@ -32,7 +32,7 @@ fn stages(placed: &Placed, pipe: &Pipe<'_>) -> usize
     placed.stages().len()
 }
 
-/// What is in slot k, if anything, moves on, and `gone` is what leaves. The next slot is free.
+/// Moves the packet in slot `k`, if any, to slot `k + 1`; `gone` receives it if it leaves the pipe. The next slot is free.
 fn move_at(placed: &Placed, pipe: &mut Pipe<'_>, k: usize, gone: &mut Option<Passed>)
     requires same { pipe.old.placed ≡ placed.now }
     requires free { packet_at pipe.old (k + 1) ≡ None }
@@ -49,7 +49,7 @@ fn move_at(placed: &Placed, pipe: &mut Pipe<'_>, k: usize, gone: &mut Option<Pas
     }
 }
 
-/// What is in slot k, which isn't the last, moves on, if anything is there. The next slot is free.
+/// Moves the packet in slot `k`, which isn't the last, if there is one. The next slot is free.
 fn move_within(placed: &Placed, pipe: &mut Pipe<'_>, k: usize)
     requires same { pipe.old.placed ≡ placed.now }
     requires within { k + 1 < length pipe.old.slots }
@@ -70,7 +70,7 @@ fn move_within(placed: &Placed, pipe: &mut Pipe<'_>, k: usize)
     }
 }
 
-/// From the last stage to the first, each packet moves by one, and `gone` is what leaves.
+/// Moves each packet by one stage, from the last to the first; `gone` receives the packet that leaves.
 pub(crate) fn move_on(placed: &Placed, pipe: &mut Pipe<'_>, gone: &mut Option<Passed>)
     requires same { pipe.old.placed ≡ placed.now }
     requires some { 0 < length (rows_in pipe.old) }

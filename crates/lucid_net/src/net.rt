@@ -37,8 +37,8 @@ use lucid_tables::Placed;
 use std::alloc::Global;
 use std::marker::Model;
 
-/// A network of switches that run the handlers of a program whole, or that have a pipe each. Contracts see what it runs, the placed code of its
-/// pipes, how many ticks are done, and whether one failed (`Seen`): until then its switches are those of the definition (`Stands`).
+/// A network of switches that run the handlers of a program whole, or that have a pipe each. Contracts see its world, the placed code of
+/// its pipes, the number of ticks done, and whether one failed (`Seen`): until then its switches are those of the definition (`Stands`).
 #[derive(Drop)]
 pub struct Net<'a> {
     world: World<'a>,
@@ -63,8 +63,8 @@ impl<'a> Model for Net<'a> {
 }
 
 impl<'a> Net<'a> {
-    /// The network before tick 0 (`IsStart`): all cells are 0, and the events of the scenario wait. Memory is its one error; it also stands for
-    /// more events than 32 bits can number.
+    /// Makes the network before tick 0 (`IsStart`): all cells are 0, and the events of the scenario are queued. Memory is its one error;
+    /// it is also returned for more events than 32 bits can number.
     pub fn whole(
         alloc: Global,
         core: &'a Core,
@@ -97,9 +97,9 @@ impl<'a> Net<'a> {
         })
     }
 
-    /// The network before tick 0 (`IsStart`) where each switch has a pipe of this placed code, with no packet and all cells 0. The code stands for
-    /// the program, has its arrays, and is placed in as many stages as the limits have. Memory is its one error; it also stands for more events
-    /// of the scenario, or of the program, than 32 bits can number.
+    /// Makes the network before tick 0 (`IsStart`) with a pipe of this placed code for each switch, with no packet and all cells 0. The
+    /// code represents the program, has its arrays, and is placed in as many stages as the limits have. Memory is its one error; it is
+    /// also returned for more events of the scenario, or of the program, than 32 bits can number.
     pub fn piped(
         alloc: Global,
         core: &'a Core,
@@ -167,10 +167,10 @@ impl<'a> Net<'a> {
         self.world.scene.stop
     }
 
-    /// The pipe of a switch. None exactly where handlers run whole. Until a tick fails it is the pipe in which all that entered this switch in the
-    /// network whose events run whole moved once a tick (`PipeStands`). So in flight is what entered in the last ticks, each packet at its place,
-    /// and cells are those of the network whose events run whole, at the tick to which a stage has come (`Holds`). It is seen as `sight_at` says,
-    /// which has no stage and no code in it. Of a network that failed only `whole` is said.
+    /// Returns the pipe of a switch; None exactly if handlers run whole. Until a tick fails it is the pipe in which all events that
+    /// entered this switch in the network of whole handlers moved once a tick (`PipeStands`). So the events of the last ticks are in
+    /// flight, each packet at its place, and the cells are those of the network of whole handlers, at the tick that a stage has reached
+    /// (`Holds`). `sight_at` describes it without stages and code. Of a network that failed only `whole` is said.
     pub fn pipe(&self, switch: u32) -> Option<&Pipe<'a>>
         requires { switch < self.now.scene.switches }
         ensures mode { self.now.failed ≡ false → is_some result ≡ is_some self.now.placed }
@@ -201,10 +201,10 @@ impl<'a> Net<'a> {
         show(&self.machines, watch);
     }
 
-    /// One tick, the turn of each switch in order. It writes what the tick so many ticks before it did in the definition (`late_text`): as many as
-    /// there are stages, none where handlers run whole. After an error a part of that was written, a proper one where a write failed, the
-    /// network has failed, and no tick was counted. A network with pipes finds no memory only where what left sent out an event that waits
-    /// (`SomeMade`).
+    /// Does one tick, the turn of each switch in order. Writes the text that the definition writes some ticks earlier (`late_text`): as
+    /// many ticks as there are stages, none if handlers run whole. After an error a part of that was written, a proper one if a write
+    /// failed, the network has failed, and no tick was counted. A network with pipes runs out of memory only if a packet that left sent
+    /// an event to queue (`SomeMade`).
     pub fn tick<S: Sink>(&mut self, sink: &mut S) -> Result<(), NetError>
         requires before { self.old.at < self.old.scene.stop }
         requires sound { self.old.failed ≡ false }

@@ -26,7 +26,7 @@ use lucid_pipe::{Passed, Pipe};
 use lucid_queue::Queue;
 use lucid_tables::Placed;
 
-/// The pipe of each switch, what waits, and how many events entered and were lost.
+/// The pipe of each switch, the queue, and the numbers of events that entered and were lost.
 #[derive(Drop)]
 pub(crate) struct Pipes<'a> {
     pub(crate) placed: &'a Placed,
@@ -88,7 +88,7 @@ pub(crate) fn all_turns<S: Sink>(
     Ok(())
 }
 
-/// What a packet sent out that left is told in its block, and waits nowhere. The answer says how many would wait.
+/// Logs the events of a packet that left after the last tick without queueing them; returns how many would have been queued.
 fn tell_block<S: Sink>(
     world: &World,
     counts: &mut Counts,
@@ -123,7 +123,7 @@ fn tell_block<S: Sink>(
     Ok(told.made)
 }
 
-/// The packets of a pipe move, and what leaves is told.
+/// Moves the packets of a pipe and logs one that leaves.
 fn drain_pipe<S: Sink>(
     world: &World,
     placed: &Placed,
@@ -149,7 +149,7 @@ fn drain_pipe<S: Sink>(
     tell_any(world, counts, sink, &gone)
 }
 
-/// What left, if something did, is told.
+/// Like `tell_block`, for an optional packet.
 fn tell_any<S: Sink>(
     world: &World,
     counts: &mut Counts,

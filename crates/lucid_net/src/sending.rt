@@ -1,4 +1,4 @@
-// What an event sends out: it waits, or is lost.
+// The events that a run sends: each is queued or lost.
 ghost use Rattle.std.specs.Prelude.{◌≡◌, ◌≢◌, ◌+◌, ◌<◌, ◌≤◌, ◌^◌, [], All, IfOk, IfSome, IsSome, IsTrue, OnErr, OnOk, false, true, if◌then◌else◌, length};
 ghost use Rattle.std.specs.List.{list_all, list_any};
 ghost use Rattle.std.specs.Option.{option_to_list};
@@ -56,7 +56,7 @@ pub(crate) fn push(queue: &mut Queue, p: Pending) -> Result<(), Memory>
     }
 }
 
-/// What an event makes pending that a run sends out as number `index`. None where it is lost.
+/// The queue entry for out number `index` of a run; None if it is lost.
 fn waiting(
     world: &World,
     ran: &Ran,
@@ -152,7 +152,7 @@ fn send_out(
     }
 }
 
-/// What a run sends out waits, or is lost.
+/// Queues the outs of a run, or drops them.
 pub(crate) fn send(world: &World, queue: &mut Queue, ran: &Ran) -> Result<Lost, Memory>
     requires few { length ran.now.outs.now ≤ 8 }
     requires fit { All (λ out. IsTrue (out_fits world.now.core.now out)) ran.now.outs.now }
@@ -172,7 +172,7 @@ pub(crate) fn send(world: &World, queue: &mut Queue, ran: &Ran) -> Result<Lost, 
     Ok(lost)
 }
 
-/// What becomes of the outs of a run: how many are lost, and which; and how many wait.
+/// The outcome of a run's outs: how many are lost, and which; and how many are queued.
 #[derive(Clone, Copy)]
 pub(crate) struct Told {
     pub(crate) lost: Lost,
@@ -207,7 +207,7 @@ fn is_made(world: &World, ran: &Ran, out: &Out) -> bool
     }
 }
 
-/// What a run sends out is counted, and waits nowhere. It takes no memory.
+/// Counts the outs of a run without queueing them. Allocates nothing.
 pub(crate) fn tell(world: &World, ran: &Ran) -> Told
     requires few { length ran.now.outs.now ≤ 8 }
     ensures made { result.made ≡ length (all_made (net_of world.now) (run_of ran.now)) }

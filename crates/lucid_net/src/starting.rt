@@ -19,7 +19,7 @@ use lucid_queue::{PendKey, Pending, Queue};
 use lucid_tables::Placed;
 use std::alloc::Global;
 
-/// The cells of so many switches, all 0.
+/// The cells of all switches, all 0.
 pub(crate) fn all_cells(alloc: Global, core: &Core, switches: u32) -> Result<Vec<Cells>, Memory>
     ensures { IfOk result (λ all. all.items ≡ replicate switches (zero_cells core.now.arrays)) }
 {
@@ -31,7 +31,7 @@ pub(crate) fn all_cells(alloc: Global, core: &Core, switches: u32) -> Result<Vec
     Ok(all)
 }
 
-/// The pipes of so many switches, with no packet and all cells 0.
+/// The pipes of all switches, with no packet and all cells 0.
 pub(crate) fn all_pipes<'a>(
     alloc: Global,
     placed: &'a Placed,
@@ -47,7 +47,7 @@ pub(crate) fn all_pipes<'a>(
     Ok(all)
 }
 
-/// What the event at this place of the file makes pending.
+/// The queue entry of the event at this position of the file.
 fn pending(e: &FileEvent, index: u32) -> Pending
     ensures { result ≡ file_event index e.now }
 {

@@ -18,7 +18,7 @@ use lucid_core_run::run_into;
 use lucid_io::Sink;
 use lucid_log::put_block;
 
-/// The event runs whole on the cells of the switch, and what it sends out is put where nothing was.
+/// Runs the event whole on the cells of the switch, and fills the caller's empty outs.
 fn run(
     world: &World,
     now: &mut Switches,

@@ -3,12 +3,13 @@ ghost use Rattle.lucid_net_spec.specs.Ways.{Network};
 ghost use Rattle.lucid_net_laws.specs.Behind.{StaysBehind};
 ghost use Rattle.lucid_net_laws.specs.Runs.{ComeLater};
 
-/// What waits is that of the network whose events run whole, but for what packets in flight make (`StaysBehind`).
+/// The queue is that of the network whose events run whole, without the events of packets in flight (`StaysBehind`).
 pub fn packets_are_behind()
     ensures { (net : Network) → StaysBehind net }
 {}
 
-/// However many ticks packets take, ticks write what the network whose events run whole wrote so many ticks before (`ComeLater`).
+/// For any number of ticks that packets take, ticks write the text that the network of whole handlers wrote that many ticks earlier
+/// (`ComeLater`).
 pub fn texts_come_later()
     ensures { (net : Network) → ComeLater net }
 {}

@@ -1,13 +1,13 @@
-// What a pass does, as a law on a function that does nothing.
+// The effect of a pass, as a law on a function that does nothing.
 ghost use Rattle.lucid_net_laws.specs.Does.{PassDoesAs, PassStepsAs, TakesAll};
 
 use lucid_core::{Core, cells_stay_fit};
 use lucid_pipe::moves_as_rows;
 use lucid_tables::Placed;
 
-/// Where placed code stands for a program and has its arrays, a pass through its stages, each on its own cells, does what the program's step
-/// does (`PassStepsAs`), at the ticks and switches of any network of the program (`PassDoesAs`), and each event that fits the program may enter
-/// (`TakesAll`).
+/// If placed code represents a program and has its arrays, a pass through its stages, each on its own cells, has the effect of the
+/// program's step (`PassStepsAs`), at the ticks and switches of any network of the program (`PassDoesAs`), and each event that fits the
+/// program may enter (`TakesAll`).
 pub fn pass_does_as(core: &Core, placed: &Placed)
     ensures steps { PassStepsAs core.now placed.now }
     ensures does { PassDoesAs core.now placed.now }

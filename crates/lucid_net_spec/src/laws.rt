@@ -1,10 +1,10 @@
-// Laws of the log, proved of every network, whatever its events do: nothing runs here.
+// Laws of the log, proved for every network and any effect of its events. Nothing runs here.
 ghost use Rattle.lucid_net_spec.specs.Free.{FileFindsFree, MadeFindsFree, StaysApart};
 ghost use Rattle.lucid_net_spec.specs.Laws.{EntersLeast, StaysInOrder, TurnsByNumber};
 ghost use Rattle.lucid_net_spec.specs.Ways.{Network};
 ghost use Rattle.lucid_net_spec.specs.Windows.{NoWindows};
 
-/// What waits is in order at each turn (`StaysInOrder`), and of what is ready the least enters (`EntersLeast`).
+/// The queue is in order at each turn (`StaysInOrder`), and the least of the ready events enters (`EntersLeast`).
 pub fn the_least_enters()
     ensures in_order { (net : Network) → StaysInOrder net }
     ensures least { (net : Network) → EntersLeast net }
@@ -15,8 +15,8 @@ pub fn turns_go_by_number()
     ensures { (net : Network) → TurnsByNumber net }
 {}
 
-/// Each event that comes to wait finds its place free, one of the file (`FileFindsFree`) and one that is made (`MadeFindsFree`), and no two
-/// that wait have one switch and one key (`StaysApart`).
+/// Each event finds its place in the queue free, one of the file (`FileFindsFree`) and one that is made (`MadeFindsFree`), and no two in
+/// the queue have one switch and one key (`StaysApart`).
 pub fn places_are_free()
     ensures file { (net : Network) → FileFindsFree net }
     ensures made { (net : Network) → MadeFindsFree net }

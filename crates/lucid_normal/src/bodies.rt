@@ -15,7 +15,7 @@ use lucid_normal_steps::{
     enter, hash, held_at, input, join, leave, needed, needs_move, say, send, turn, unary, within,
 };
 
-/// What holds the value of the expression, if it gives one.
+/// The operand of the expression's value, if it has one.
 #[cycle(walk)]
 #[tactic(auto, using(lucid_normal_steps::proofs::Adding::adding, std::proofs::lemmas::Grind::common_steps))]
 fn expr(context: Context, work: &mut Work, env: &mut Env, e: &Expr) -> Result<Option<Typed>, Memory>

@@ -20,7 +20,7 @@ pub struct Built {
     pub widths: Items<Width>,
 }
 
-/// What the handlers become, one behind the other, behind fields of these widths.
+/// Translates the handlers, one after the other, after fields of these widths.
 pub fn build(alloc: Global, flat: &Flat, widths: Items<Width>) -> Result<Built, Memory>
     ensures ops { IfOk result (λ b. b.ops.items ≡ (codes_of flat.now widths flat.now.handlers).ops) }
     ensures widths { IfOk result (λ b. b.widths ≡ (codes_of flat.now widths flat.now.handlers).widths) }

@@ -27,7 +27,7 @@ pub fn arg_widths(alloc: Global, events: &[EventDef]) -> Result<Items<Width>, Me
     Ok(widths)
 }
 
-/// At each place the greater width, and what is left of the longer list.
+/// The greater width at each position, and the rest of the longer list.
 fn widest(alloc: Global, xs: &[Width], ys: &[Width]) -> Result<Items<Width>, Memory>
     ensures { IfOk result (λ widths. widths ≡ widest_of xs.now ys.now) }
 {
@@ -46,7 +46,7 @@ fn wider(x: Width, y: Width) -> Width
     if x.get() < y.get() { y } else { x }
 }
 
-/// What is left of two lists, of which one has no more than `at` items.
+/// The rest of two lists, of which one has no more than `at` items.
 fn rest(alloc: Global, xs: &[Width], ys: &[Width], at: usize) -> Result<Items<Width>, Memory>
     requires { at ≡ min (length xs.now) (length ys.now) }
     ensures { IfOk result (λ widths. widths ≡ widest_of (drop at xs.now) (drop at ys.now)) }

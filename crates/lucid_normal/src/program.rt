@@ -18,8 +18,8 @@ use lucid_normal_laws::{
 };
 use std::alloc::Global;
 
-/// The normal form of an accepted flat core: valid code that stands for it, as many operations as are counted over it, in which every node
-/// that writes a field stands before each other node that reads it. Code is refused nowhere, so the one error is want of memory.
+/// Translates an accepted flat core into valid code that represents it, with as many operations as are counted over it, in which every
+/// node that writes a field precedes each other node that reads it. Translation never rejects a program; its only error is out of memory.
 pub fn normal(alloc: Global, flat: &Flat) -> Result<Code, Memory>
     requires { IsAccepted flat.now }
     ensures code { IfOk result (λ code. code ≡ translate flat.now) }
@@ -49,7 +49,7 @@ fn translated(alloc: Global, flat: &Flat) -> Result<Code, Memory>
     Ok(Code::of_valid(fields, inputs, arrays, built.ops))
 }
 
-/// The event, the tick and the switch, and then so many arguments.
+/// The event, the tick and the switch, and then this many arguments.
 fn inputs_of(args: usize) -> Result<Inputs, Memory>
     ensures { IfOk result (λ inputs. inputs ≡ record { event = 0; now = 1; me = 2; args = args }) }
 {

@@ -9,7 +9,7 @@ use lucid_base::{Items, Memory};
 use lucid_normal_spec::{Env, Typed};
 use std::alloc::Global;
 
-/// Where the branches begin, and what was noted before.
+/// The environment at the start of the branches, and the earlier notes.
 #[derive(Drop)]
 pub struct Begun {
     pub notes: Vec<Note>,
@@ -18,7 +18,7 @@ pub struct Begun {
     pub place: u32,
 }
 
-/// Where a branch ends: what it leads to from where it began, or None where nothing holds any local.
+/// The end of a branch: its changes since its start, or None if no local has an operand.
 #[derive(Drop)]
 pub struct Ended {
     pub notes: Option<Items<Note>>,
@@ -27,7 +27,7 @@ pub struct Ended {
     pub place: u32,
 }
 
-/// The first branch behind it, and what was noted before the if.
+/// The first branch after it ended, and the notes from before the if.
 #[derive(Drop)]
 pub struct Turned {
     pub notes: Vec<Note>,

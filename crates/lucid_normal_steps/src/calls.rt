@@ -1,4 +1,4 @@
-// Bodies that are put in: how one is entered, and left with what held the caller's locals.
+// Inlined bodies: entering one, and leaving it with the caller's bindings.
 ghost use Rattle.std.specs.Prelude.{◌≡◌, IfOk, OnOk};
 ghost use Rattle.lucid_normal_spec.specs.Translate.{holding};
 ghost use Rattle.lucid_normal_steps.specs.Notes.{before};
@@ -9,7 +9,7 @@ use lucid_base::{Items, Memory};
 use lucid_normal_spec::{Env, Typed};
 use std::alloc::Global;
 
-/// What the caller noted, and what holds its answer.
+/// The caller's notes, and the operand of its answer.
 #[derive(Drop)]
 pub struct Caller {
     pub notes: Vec<Note>,
@@ -48,7 +48,7 @@ fn hold_all(
     Ok(())
 }
 
-/// What the body answers; the caller's locals and answer are held as before.
+/// Returns the body's answer and restores the caller's locals and answer.
 pub fn leave(work: &mut Work, env: &mut Env, caller: Caller) -> Option<Typed>
     ensures value { result ≡ env.old.answer }
     ensures env { env.new ≡ record env.old { held = before work.old.notes.items env.old.held; answer = caller.answer } }

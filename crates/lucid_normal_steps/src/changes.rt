@@ -1,4 +1,4 @@
-// The locals that the branches of an if write, each with what holds it at the ends of the two.
+// The locals that the branches of an if write, each with its operands at the ends of the two.
 ghost use Rattle.std.specs.Prelude.{◌≡◌, ◌<◌, ◌++◌, ℕ, Contains, IfOk, None, OnOk, length, map, slice_index_or};
 ghost use Rattle.std.specs.List.Sorted.{IsStrictlyIncreasing};
 ghost use Rattle.lucid_normal_steps.specs.Changes.{AreChanges};
@@ -10,7 +10,7 @@ use lucid_base::{Items, Memory};
 use lucid_normal_spec::Typed;
 use std::alloc::Global;
 
-/// A local, and what holds it at the end of the first branch and of the second.
+/// A local, and its operands at the end of the first branch and of the second.
 #[derive(Clone, Copy)]
 pub struct Change {
     pub local: u32,
@@ -18,7 +18,7 @@ pub struct Change {
     pub second: Option<Typed>,
 }
 
-/// All of them, once each and in the order of their numbers, from what leads to the ends of the branches.
+/// All changes, once each and in the order of their numbers, from the ends of the branches.
 pub fn changes_of(
     alloc: Global,
     held: &mut Items<Option<Typed>>,
@@ -63,7 +63,7 @@ fn gather(locals: &mut Vec<u32>, notes: &[Note]) -> Result<(), Memory>
     Ok(())
 }
 
-/// What holds each of these locals.
+/// The operand of each of these locals.
 fn at_first(
     alloc: Global,
     held: &[Option<Typed>],
@@ -78,7 +78,7 @@ fn at_first(
     Ok(firsts)
 }
 
-/// What holds each of these locals, beside what holds it at the end of the first branch.
+/// The operand of each of these locals, beside that at the end of the first branch.
 fn at_both(
     alloc: Global,
     held: &[Option<Typed>],

@@ -1,4 +1,4 @@
-// The end of an if: what holds a local or the answer behind it, whichever branch was taken.
+// The end of an if: the operand of a local or of the answer after it, for either branch.
 ghost use Rattle.std.specs.Prelude.{◌≡◌, ◌<◌, [], ◌∷◌, ◌++◌, IfOk, OnOk, OnSome, length, slice_index_or};
 ghost use Rattle.lucid_code.specs.declared.op.Operand.TheVariants.{Field};
 ghost use Rattle.lucid_normal_spec.specs.Translate.{join_answer as answer_of, joins, moves, same_operand, same as same_of};
@@ -24,7 +24,7 @@ pub struct Meet {
     pub condition: u32,
 }
 
-/// Joins the locals and the answer behind the second branch. What was noted before goes on, and what held the locals is noted.
+/// Joins the locals and the answer after the second branch. The earlier notes continue, and the old operands of the locals are noted.
 #[tactic(auto, using(crate::proofs::Adding::adding, std::proofs::lemmas::Grind::common_steps))]
 pub fn join(
     context: Context,
@@ -57,7 +57,7 @@ pub fn join(
     Ok(())
 }
 
-/// The locals behind the if, from what leads to the ends of its branches. Behind a branch that returned nothing holds any.
+/// The locals after the if, from the ends of its branches. After a branch that returned no local has an operand.
 #[tactic(auto, using(crate::proofs::Written::no_first, crate::proofs::Written::no_second, std::proofs::lemmas::Grind::common_steps))]
 fn join_locals(
     context: Context,
@@ -83,7 +83,7 @@ fn join_locals(
     }
 }
 
-/// Only what a branch wrote is joined: any other local is held as it was.
+/// Joins only the locals that a branch wrote: any other local keeps its operand.
 fn join_written(
     context: Context,
     work: &mut Work,
@@ -152,7 +152,7 @@ fn join_change(
     hold(&mut env.held, &mut work.notes, change.local, now)
 }
 
-/// What holds one local. One that neither branch assigns is held as it was.
+/// The operand of one local. One that neither branch assigns keeps its operand.
 #[tactic(auto, using(crate::proofs::Adding::adding, std::proofs::lemmas::Grind::common_steps))]
 fn join_one(
     context: Context,
@@ -185,7 +185,7 @@ fn join_one(
     }
 }
 
-/// What holds the answer, where both branches return a value.
+/// The operand of the answer, if both branches return a value.
 #[tactic(auto, using(crate::proofs::Adding::adding, std::proofs::lemmas::Grind::common_steps))]
 fn join_answer(
     context: Context,

@@ -1,7 +1,6 @@
-// What the forms of a body become once their parts are made, one at a time, and how an if is joined; lucid_normal walks bodies by them.
-// What held a local before it is written is noted, so that a call that is put in and an if cost what they write, and not the locals of
-// their handler.
-// Stands on lucid_base, lucid_core, lucid_code and lucid_normal_spec.
+// The translation of each form of a body from its translated parts, and the join of an if; lucid_normal walks bodies with it. Overwritten
+// bindings are kept in an undo log, so an inlined call or an `if` costs its own writes, not all locals of the handler. Depends on
+// lucid_base, lucid_core, lucid_code and lucid_normal_spec.
 #![tactic(auto)]
 
 mod branches;

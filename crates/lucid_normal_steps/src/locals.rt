@@ -1,4 +1,4 @@
-// What holds locals, and the values that expressions give.
+// The operands of locals, and the values of expressions.
 ghost use Rattle.std.specs.Prelude.{◌≡◌, slice_index_or};
 ghost use Rattle.lucid_code.specs.declared.op.Operand.TheVariants.{Field};
 ghost use Rattle.lucid_normal_spec.specs.Translate.{expr_code, held_by};
@@ -8,7 +8,7 @@ use lucid_code::Operand;
 use lucid_core::Expr;
 use lucid_normal_spec::Typed;
 
-/// What holds the local.
+/// The operand of the local.
 pub fn held_at(held: &[Option<Typed>], i: u32) -> Option<Typed>
     ensures { result ≡ slice_index_or held.now i None }
 {

@@ -1,4 +1,4 @@
-// What held the locals before something was written, so that it can be given back.
+// The undo log: the operands of locals before something was written.
 ghost use Rattle.std.specs.Prelude.{◌≡◌, ◌<◌, [], IfOk, OnOk, OnSome, length, slice_set};
 ghost use Rattle.lucid_normal_steps.specs.Notes.{before, end_of, put_one as one_before};
 
@@ -7,14 +7,14 @@ use lucid_base::{Items, Memory};
 use lucid_normal_spec::Typed;
 use std::alloc::Global;
 
-/// What held one local, or all of them.
+/// The old operand of one local, or of all.
 #[derive(Drop)]
 pub enum Note {
     One(u32, Option<Typed>),
     All(Items<Option<Typed>>),
 }
 
-/// Lets the operand hold the local, or nothing, and notes what held it. A local that isn't there is held by nothing.
+/// Binds the local to the operand, or to none, and notes its old operand. A local that does not exist has none.
 pub fn hold(
     held: &mut Items<Option<Typed>>,
     notes: &mut Vec<Note>,
@@ -32,7 +32,7 @@ pub fn hold(
     Ok(())
 }
 
-/// Lets nothing hold any local, and notes what held them.
+/// Unbinds all locals, and notes their operands.
 #[tactic(auto, using(crate::proofs::Noted::before_last, std::proofs::lemmas::Grind::common_steps))]
 pub fn clear(
     alloc: Global,
@@ -47,7 +47,7 @@ pub fn clear(
     Ok(())
 }
 
-/// What held the locals before all that was noted.
+/// Restores the operands from before all notes.
 #[tactic(auto, using(crate::proofs::Noted::before_last, std::proofs::lemmas::Grind::common_steps))]
 pub fn put_back(held: &mut Items<Option<Typed>>, notes: Items<Note>)
     ensures { held.new ≡ before notes held.old }
@@ -75,7 +75,7 @@ fn put_one(held: &mut Items<Option<Typed>>, note: Note)
     }
 }
 
-/// Puts back what was noted, and gives what leads again to what holds the locals now: None where nothing holds any.
+/// Restores the noted operands, and returns the log that leads back to the current ones: None if no local has one.
 pub fn take_back(
     alloc: Global,
     held: &mut Items<Option<Typed>>,
@@ -92,7 +92,7 @@ pub fn take_back(
     Ok(Some(swap_back(alloc, held, notes)?))
 }
 
-/// Where locals are held, each note is of one of them, and so is each of those that lead again to what holds them now.
+/// If locals have operands, each note is of one of them, and so is each note of the returned log.
 #[tactic(auto, using(crate::proofs::Noted::before_last, std::proofs::lemmas::Grind::common_steps))]
 pub fn swap_back(
     alloc: Global,

@@ -1,4 +1,4 @@
-// What statements become once their operands are made.
+// The translation of statements from their operands.
 ghost use Rattle.std.specs.Prelude.{◌≡◌, ◌+◌, IfOk, OnOk};
 ghost use Rattle.lucid_code.specs.declared.op.Act.TheVariants as act;
 ghost use Rattle.lucid_normal_spec.specs.Translate.{assign as assigned, out_made, return_made, return_none};

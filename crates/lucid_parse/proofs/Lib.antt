@@ -1,1 +1,1 @@
-mod Programs
+pub mod Programs

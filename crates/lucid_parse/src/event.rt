@@ -1,4 +1,4 @@
-// What a `generate` generates.
+// The event of a `generate`.
 ghost use Rattle.std.specs.Prelude.{Some};
 ghost use Rattle.lucid_parse_expression.specs.Reads.{Reads, Gives};
 ghost use Rattle.lucid_parse_tree.specs.declared.tree.V.TheVariants as v;
@@ -93,7 +93,7 @@ fn event_pair(alloc: Global, depth: usize, tokens: Tokens) -> Result<((Boxed<V>,
     Ok(((event, second), rest))
 }
 
-// Events made of parts that are read, each boxed at once: an event by value is dear to let go of.
+// Events made of parsed parts, each boxed at once: an event by value is expensive to drop.
 
 fn in_parentheses(alloc: Global, inner: Boxed<V>) -> Result<Boxed<V>, Stop>
     ensures { Gives result (Some (v.Paren inner)) }

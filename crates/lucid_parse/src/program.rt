@@ -27,14 +27,14 @@ use std::alloc::Global;
 pub fn parse(alloc: Global, text: &[u8], tokens: &[Token]) -> Result<Tree, ParseError>
     requires { Reads text.now tokens.now }
 
-    // What is answered is so.
+    // The answer is true.
     ensures tree { IfOk result (λ tree. IsTreeOf text.now tokens.now tree) }
     ensures shallow { OnOk result (nesting.too_deep (kinds_of tokens.now) ≡ None) }
     ensures too_deep { (n : ℕ) → IsErrOf result (ParseError.TooDeep n) → nesting.too_deep (kinds_of tokens.now) ≡ Some n }
     ensures no_tree { (n : ℕ) → IsErrOf result (ParseError.NoTree n)
         → (nesting.too_deep (kinds_of tokens.now) ≡ None) × IsFault (lexemes_of text.now tokens.now) n }
 
-    // What is so is answered, unless memory runs out.
+    // The truth is answered, unless memory runs out.
     ensures parses { (tree : Tree) → nesting.too_deep (kinds_of tokens.now) ≡ None → IsTreeOf text.now tokens.now tree
         → MatchResult result (λ answer. answer ≡ tree) (λ e. e ≡ ParseError.Memory) }
     ensures refuses_deep { (n : ℕ) → nesting.too_deep (kinds_of tokens.now) ≡ Some n

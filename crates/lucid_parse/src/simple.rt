@@ -37,7 +37,7 @@ fn ended_value(alloc: Global, tokens: Tokens) -> Result<(E, Tokens), Stop>
     Ok((value, rest))
 }
 
-/// What a call is given, behind its open parenthesis, up to the `;`.
+/// The arguments of a call, after its open parenthesis, up to the `;`.
 #[tactic(auto, unfolding(lucid_parse_spec::specs::ReadStatement::ended_arguments))]
 fn ended_arguments(alloc: Global, tokens: Tokens) -> Result<(Items<E>, Tokens), Stop>
     ensures { Reads result (spec.ended_arguments (said tokens.entry)) }

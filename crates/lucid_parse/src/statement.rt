@@ -1,5 +1,5 @@
-// Statements, and the blocks of them. `depth` bounds how many stand round one another; where it is the number of the tokens,
-// it never runs out, and the limits on nesting, which are tried before, bound the recursion by far less.
+// Statements, and the blocks of them. `depth` bounds their nesting; if it is the number of the tokens, it never runs out, and the limits
+// on nesting, which are tried before, bound the recursion by far less.
 ghost use Rattle.std.specs.Prelude.{◌≡◌, Some, option_map};
 ghost use Rattle.lucid_parse_expression.specs.Reads.{Reads, Gives};
 ghost use Rattle.lucid_parse_expression.specs.Tokens.{said};
@@ -81,7 +81,7 @@ fn statement_within(alloc: Global, depth: usize, tokens: Tokens) -> Result<(S, T
     }
 }
 
-/// What is tested, in parentheses.
+/// The condition, in parentheses.
 #[tactic(auto, unfolding(lucid_parse_spec::specs::ReadStatement::condition))]
 fn condition(alloc: Global, tokens: Tokens) -> Result<(E, Tokens), Stop>
     ensures { Reads result (spec.condition (said tokens.entry)) }
@@ -134,7 +134,7 @@ fn else_if(alloc: Global, choice: C) -> Result<No, Stop>
     Ok(No::Cond(Boxed::new(alloc, choice)?))
 }
 
-/// What begins a case, up to its block.
+/// The beginning of a case, up to its block.
 #[tactic(auto, unfolding(lucid_parse_spec::specs::ReadStatement::case_head))]
 fn case_head(tokens: Tokens) -> Option<(u64, Tokens)>
     ensures { option_map (λ h. (h.0, said h.1)) result ≡ spec.case_head (said tokens.entry) }
@@ -175,7 +175,7 @@ fn cases(
     Ok((all, rest))
 }
 
-/// What begins the last arm, up to its block.
+/// The beginning of the last arm, up to its block.
 #[tactic(auto, unfolding(lucid_parse_spec::specs::ReadStatement::last_head))]
 fn last_head(tokens: Tokens) -> Option<Tokens>
     ensures { option_map (λ rest. said rest) result ≡ spec.last_head (said tokens.entry) }
@@ -203,7 +203,7 @@ fn last_arm(alloc: Global, depth: usize, tokens: Tokens) -> Result<(Option<Items
     }
 }
 
-/// What is matched, up to the cases.
+/// The matched expressions, up to the cases.
 #[tactic(auto, unfolding(lucid_parse_spec::specs::ReadStatement::match_head))]
 fn match_head(alloc: Global, tokens: Tokens) -> Result<(E, Tokens), Stop>
     ensures { Reads result (spec.match_head (said tokens.entry)) }

@@ -1,4 +1,4 @@
-// Calls on arrays: the method, and then what the call is given, which is read as a list of expressions and taken apart here.
+// Calls on arrays: the method, and then its arguments, which are read as a list of expressions and taken apart here.
 ghost use Rattle.lucid_parse_expression.specs.Reads.{Reads, Gives};
 ghost use Rattle.lucid_parse_expression.specs.Tokens.{said};
 ghost use Rattle.lucid_parse_spec.specs.declared.method.Method.TheVariants as methods;
@@ -32,8 +32,8 @@ pub(crate) fn array_method(tokens: Tokens) -> Result<(Method, Tokens), Stop>
     }
 }
 
-/// The call by this method that is given these expressions, all of them. It is boxed at once, since a proof pays much for each path
-/// that lets go of a call by value.
+/// The call by this method with these expressions, all of them. It is boxed at once, since a proof pays much for each path that drops a
+/// call by value.
 pub(crate) fn array_of(alloc: Global, method: Method, given: Items<E>) -> Result<Boxed<A>, Stop>
     ensures { Gives result (spec.array_of method given) }
 {
@@ -49,7 +49,7 @@ fn call_of(method: Method, given: Items<E>) -> Result<A, Stop>
     array_at(name, method, given)
 }
 
-/// By what follows the array's name.
+/// By the tokens after the array's name.
 #[tactic(auto, unfolding(lucid_parse_spec::specs::ReadExpression::array_at))]
 fn array_at(name: Id, method: Method, given: Items<E>) -> Result<A, Stop>
     ensures { Gives result (spec.array_at name method given) }
@@ -58,7 +58,7 @@ fn array_at(name: Id, method: Method, given: Items<E>) -> Result<A, Stop>
     array_with(name, index, method, given)
 }
 
-/// By what follows the index. A call is made last, once nothing is left over, so that no path lets a whole call go.
+/// By the tokens after the index. The call is made last, when nothing remains, so that no path drops a whole call.
 fn array_with(name: Id, index: E, method: Method, given: Items<E>) -> Result<A, Stop>
     ensures { Gives result (spec.array_with name index method given) }
 {

@@ -1,4 +1,4 @@
-// Lists of parts with commas between them: what they hold is read by the caller's closure.
+// Lists of parts with commas between them: the caller's closure reads each part.
 ghost use Rattle.lucid_parse_spec.specs.Reader as spec;
 ghost use Rattle.lucid_parse_spec.specs.Reader.{Parser};
 ghost use Rattle.lucid_parse_expression.specs.Reads.{Reads, ReadsAll};

@@ -1,5 +1,5 @@
-// Expressions, by how tightly their signs bind. `depth` bounds how many expressions stand round one another; where it is the
-// number of the tokens, it never runs out, and the limits on nesting, which are tried before, bound the recursion by far less.
+// Expressions, by how tightly their signs bind. `depth` bounds their nesting; if it is the number of the tokens, it never runs out, and
+// the limits on nesting, which are tried before, bound the recursion by far less.
 ghost use Rattle.lucid_parse_spec.specs.Reader.{separated};
 ghost use Rattle.lucid_parse_expression.specs.Reads.{Reads, Leaves};
 ghost use Rattle.lucid_parse_expression.specs.Tokens.{said};
@@ -28,7 +28,7 @@ pub fn expression(alloc: Global, tokens: Tokens) -> Result<(E, Tokens), Stop>
     expression_at(alloc, tokens.len(), DISJUNCTION, tokens)
 }
 
-/// What a call is given, behind its open parenthesis.
+/// The arguments of a call, after its open parenthesis.
 #[tactic(auto, unfolding(lucid_parse_spec::specs::ReadExpression::call_arguments))]
 pub fn call_arguments(alloc: Global, tokens: Tokens) -> Result<(Items<E>, Tokens), Stop>
     ensures { Reads result (spec.call_arguments (said tokens.entry)) }
@@ -87,7 +87,7 @@ fn expression_at(
     Ok((left, rest))
 }
 
-/// The left operand with what follows it.
+/// The left operand with the operators that follow it.
 #[cycle(expression)]
 fn grown(
     alloc: Global,
@@ -144,7 +144,7 @@ fn operand(alloc: Global, depth: usize, tokens: Tokens) -> Result<(E, Tokens), S
     }
 }
 
-/// What begins with a name.
+/// An expression that begins with a name.
 #[cycle(expression)]
 #[tactic(auto, unfolding(lucid_parse_spec::specs::ReadExpression::named))]
 fn named<'a>(
@@ -164,7 +164,7 @@ fn named<'a>(
     }
 }
 
-/// What a call is given, behind its open parenthesis.
+/// The arguments of a call, after its open parenthesis.
 #[cycle(expression)]
 #[tactic(auto, unfolding(lucid_parse_spec::specs::ReadExpression::arguments))]
 fn arguments(alloc: Global, depth: usize, tokens: Tokens) -> Result<(Items<E>, Tokens), Stop>

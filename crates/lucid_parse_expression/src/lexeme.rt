@@ -1,4 +1,4 @@
-// What a token says, and tokens taken as such: what the grammar sees of those still to read is a list of lexemes (`said`).
+// The content of a token, and tokens taken by their content: the grammar sees the tokens still to read as a list of lexemes (`said`).
 ghost use Rattle.std.specs.Prelude.{◌≡◌, length, All};
 ghost use Rattle.lucid_lex.specs.Reading.{IsTokenOf, bytes_of};
 ghost use Rattle.lucid_parse_spec.specs.Lexemes.{lexeme_of, lexemes_of, within_quotes};
@@ -9,7 +9,7 @@ use crate::ascii::Ascii;
 use crate::tokens::Tokens;
 use lucid_lex::{Kind, Sign, Token, Word};
 
-/// What a token says. Two tokens are the same to the grammar where they say the same.
+/// The content of a token. Two tokens are the same to the grammar if their content is.
 #[derive(Clone, Copy)]
 pub enum Lexeme<'a> {
     Name(Ascii<'a>),
@@ -30,7 +30,7 @@ impl<'a> Tokens<'a> {
         Tokens { text, tokens }
     }
 
-    /// What the first token says, and the tokens after it.
+    /// The content of the first token, and the tokens after it.
     #[tactic(auto, unfolding(crate::specs::Tokens::said))]
     pub fn split(self) -> Option<(Lexeme<'a>, Tokens<'a>)>
         ensures { said self.entry ≡ front result }
@@ -81,7 +81,7 @@ fn bytes_of<'a>(text: &'a [u8], token: Token) -> Ascii<'a>
     }
 }
 
-/// What stands between the first byte and the last.
+/// The bytes between the first and the last.
 fn within_quotes<'a>(quoted: Ascii<'a>) -> Ascii<'a>
     ensures { result.bytes.now ≡ within_quotes quoted.entry.bytes.now }
 {

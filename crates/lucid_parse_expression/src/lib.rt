@@ -1,6 +1,6 @@
-// What tokens begin with: single tokens, widths and types, lists with commas, expressions. Each function takes a part off the front
-// of the tokens as lucid_parse_spec's definitions read it, and gives what is left with it, unless memory runs out. What the grammar
-// sees of the tokens is a list of lexemes (`said`). Stands on lucid_parse_spec, lucid_lex for tokens and lucid_parse_tree for trees.
+// Parsers for the front of a token list: single tokens, widths and types, lists with commas, expressions. Each function takes a part off
+// the front of the tokens as lucid_parse_spec's definitions read it, and returns it with the rest, unless memory runs out. The grammar
+// sees the tokens as a list of lexemes (`said`). Depends on lucid_parse_spec, lucid_lex for tokens and lucid_parse_tree for trees.
 #![tactic(auto)]
 
 mod array;

@@ -1,5 +1,5 @@
-// Expressions made of parts that are read: each takes memory for what it holds. They stand outside the cycle of expressions, whose
-// proof grows with each value that waits there while a call may fail.
+// Expressions made of parsed parts: each allocates for its parts. They are outside the cycle of expressions, whose proof grows with each
+// value that is live while a call may fail.
 ghost use Rattle.std.specs.Prelude.{Some, option_map};
 ghost use Rattle.lucid_parse_expression.specs.Reads.{Gives};
 ghost use Rattle.lucid_parse_tree.specs.declared.tree.E.TheVariants as e;

@@ -1,4 +1,4 @@
-// What may follow an operand.
+// The tokens that may follow an operand.
 ghost use Rattle.std.specs.Prelude.{◌≡◌, option_map};
 ghost use Rattle.lucid_parse_expression.specs.Tokens.{said};
 ghost use Rattle.lucid_parse_spec.specs.ReadExpression.{shift_of, next_of, next_within};
@@ -8,7 +8,7 @@ use crate::tokens::Tokens;
 use lucid_lex::Sign;
 use lucid_parse_spec::{Next, infix_of};
 
-/// What the tokens begin with that may follow an operand.
+/// The operator at the front of the tokens, if there is one.
 #[tactic(auto, unfolding(lucid_parse_spec::specs::ReadExpression::next_of))]
 fn next_of(tokens: Tokens) -> Option<(Next, Tokens)>
     ensures { option_map (λ p. (p.0, said p.1)) result ≡ next_of (said tokens.entry) }
@@ -34,7 +34,7 @@ fn shift(up: bool, tokens: Tokens) -> Option<(Next, Tokens)>
     }
 }
 
-/// The same, only where it binds at least as tightly as `least` and lets an operand of level `tight` stand on its left.
+/// Like `next_of`, but only if it binds at least as tightly as `least` and accepts an operand of level `tight` on its left.
 #[tactic(auto, unfolding(lucid_parse_spec::specs::ReadExpression::next_within))]
 pub(crate) fn next_within(least: u8, tight: u8, tokens: Tokens) -> Option<(Next, Tokens)>
     ensures { option_map (λ p. (p.0, said p.1)) result ≡ next_within least tight (said tokens.entry) }

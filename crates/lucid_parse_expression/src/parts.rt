@@ -13,7 +13,7 @@ use lucid_lex::{Sign, Word};
 use lucid_parse_tree::Ty;
 use std::alloc::Global;
 
-/// What follows the sign, where the tokens begin with it.
+/// The tokens after the sign, if they begin with it.
 pub fn after(sign: Sign, tokens: Tokens) -> Option<Tokens>
     ensures { option_map (λ rest. said rest) result ≡ spec.after sign (said tokens.entry) }
 {
@@ -23,7 +23,7 @@ pub fn after(sign: Sign, tokens: Tokens) -> Option<Tokens>
     }
 }
 
-/// What follows the sign.
+/// The tokens after the sign.
 pub fn expect(sign: Sign, tokens: Tokens) -> Result<Tokens, Stop>
     ensures { Leaves result (spec.after sign (said tokens.entry)) }
 {
@@ -33,7 +33,7 @@ pub fn expect(sign: Sign, tokens: Tokens) -> Result<Tokens, Stop>
     }
 }
 
-/// What follows the word.
+/// The tokens after the word.
 pub fn expect_word(word: Word, tokens: Tokens) -> Result<Tokens, Stop>
     ensures { Leaves result (spec.after_word word (said tokens.entry)) }
 {
@@ -49,7 +49,7 @@ pub fn expect_word(word: Word, tokens: Tokens) -> Result<Tokens, Stop>
     }
 }
 
-/// What follows the name with these bytes, where the tokens begin with it.
+/// The tokens after the name with these bytes, if they begin with it.
 pub fn after_name<'a>(bytes: &[u8], tokens: Tokens<'a>) -> Option<Tokens<'a>>
     ensures { option_map (λ rest. said rest) result ≡ spec.after_name bytes.now (said tokens.entry) }
 {
@@ -65,7 +65,7 @@ pub fn after_name<'a>(bytes: &[u8], tokens: Tokens<'a>) -> Option<Tokens<'a>>
     }
 }
 
-/// What follows the name with these bytes.
+/// The tokens after the name with these bytes.
 pub fn expect_name<'a>(bytes: &[u8], tokens: Tokens<'a>) -> Result<Tokens<'a>, Stop>
     ensures { Leaves result (spec.after_name bytes.now (said tokens.entry)) }
 {
@@ -163,7 +163,7 @@ pub fn typed_name(alloc: Global, tokens: Tokens) -> Result<((Ty, Id), Tokens), S
     Ok(((ty, name), rest))
 }
 
-/// What follows `Array` in a type: whether `.t` is absent, and the width.
+/// The tokens after `Array` in a type: whether `.t` is absent, and the width.
 #[tactic(auto, unfolding(lucid_parse_spec::specs::Reader::array_type))]
 pub fn array_type(tokens: Tokens) -> Result<((bool, u64), Tokens), Stop>
     ensures { Reads result (spec.array_type (said tokens.entry)) }

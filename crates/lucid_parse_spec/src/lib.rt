@@ -1,8 +1,8 @@
-// The grammar of programs. How a tree is spelled, specs/Spelling.antt says by the cases of the grammar; how tokens are read in,
-// part by part, say specs/Reader.antt and its siblings for expressions, statements and declarations. That the two agree, both ways,
-// is the law of this crate: proofs/ goes from single tokens (Steps) and lists of parts (Repeats) to expressions, statements and
-// declarations, Sound where what is read is spelled, Complete where what is spelled is read. Beside the definitions stand the types
-// and tables that they share with the parser: what may follow an operand, how tightly it binds, and the calls on arrays. Stands on
+// The grammar of programs. specs/Spelling.antt defines the spelling of a tree by the cases of the grammar. specs/Reader.antt and its
+// siblings for expressions, statements and declarations define how tokens are read, part by part. The law of this crate is that the two
+// agree, both ways: proofs/ goes from single tokens (Steps) and lists of parts (Repeats) to expressions, statements and declarations;
+// Sound shows that read trees are spelled, and Complete that spelled trees are read. The crate also has the types and tables that the
+// definitions share with the parser: the tokens that may follow an operand, how tightly they bind, and the calls on arrays. Depends on
 // lucid_lex for tokens and on lucid_parse_tree for trees.
 #![tactic(auto)]
 

@@ -2,7 +2,7 @@
 ghost use Rattle.std.specs.Prelude.{◌≡◌};
 ghost use Rattle.lucid_parse_spec.specs.ReadExpression.{method_of};
 
-/// What a call on an array does.
+/// The method of a call on an array.
 #[derive(Clone, Copy)]
 pub enum Method {
     Get,

@@ -1,4 +1,4 @@
-// What may stand between and before operands, and how tightly it binds.
+// Operators between and before operands, and how tightly they bind.
 ghost use Rattle.std.specs.Prelude.{◌≡◌, ◌≤◌, ◌+◌};
 ghost use Rattle.lucid_parse_spec.specs.Operators as spec;
 ghost use Rattle.lucid_parse_spec.specs.ReadExpression.{pre_of, infix_of, next_level, next_left};
@@ -26,7 +26,7 @@ const SUM: u8 = 8;
 /// The level of an operand by itself.
 pub const TIGHTEST: u8 = 9;
 
-/// What may follow an operand: an infix sign, whose right operand is still to come, or a whole shift.
+/// An operator after an operand: an infix sign, whose right operand follows, or a whole shift.
 #[derive(Clone, Copy)]
 pub enum Next {
     Infix(Infix),
@@ -98,7 +98,7 @@ pub fn right_level(op: Infix) -> u8
     level(op) + 1
 }
 
-/// The least level of the operand of a prefix sign or a cast: both bind more tightly than what stands between operands.
+/// The least level of the operand of a prefix sign or a cast: both bind more tightly than infix operators.
 pub fn unary_level() -> u8
     ensures { result ≡ spec.tightest }
 {

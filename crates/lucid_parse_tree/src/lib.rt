@@ -1,5 +1,5 @@
-// The syntax tree of a program, which parsing makes and typing reads, and the induction over it that laws about trees go by
-// (proofs/). It promises nothing but its types: how a tree is spelled, lucid_parse_spec says. Stands on lucid_base for names and lists.
+// The syntax tree of a program, made by parsing and read by typing, and the induction over it for laws about trees (proofs/). It promises
+// nothing but its types; lucid_parse_spec defines the spelling of a tree. Depends on lucid_base for names and lists.
 #![tactic(auto)]
 
 mod tree;

@@ -8,8 +8,7 @@ pub struct Tree {
     pub decls: Items<Decl>,
 }
 
-/// A declaration, and the line, from 1, of its first token. Lines are counted by line feeds; the count stands still at
-/// the last `u32`.
+/// A declaration, and the line, from 1, of its first token. Lines are counted by line feeds; the count stops at the last `u32`.
 #[derive(Drop)]
 pub struct Decl {
     pub line: u32,
@@ -45,7 +44,7 @@ pub enum DeclKind {
         params: Items<P>,
         body: Items<S>,
     },
-    /// `fun TY NAME(PARAMS) { .. }`, where None stands for `void`
+    /// `fun TY NAME(PARAMS) { .. }`; None means `void`
     Fun {
         answer: Option<Ty>,
         name: Id,
@@ -114,7 +113,7 @@ pub struct C {
     pub no: No,
 }
 
-/// What follows the first block of a choice: nothing, `else { .. }` or `else if ..`.
+/// The part after the first block of a choice: nothing, `else { .. }` or `else if ..`.
 #[cycle(statement)]
 #[derive(Drop)]
 pub enum No {
@@ -123,7 +122,7 @@ pub enum No {
     Cond(Boxed<C>),
 }
 
-/// What a `generate` generates.
+/// The event of a `generate`.
 #[derive(Drop)]
 pub enum V {
     /// `(V)`
@@ -158,7 +157,7 @@ pub enum E {
     Prefix(Pre, Boxed<E>),
     /// `(int<<N>>) E` or `(int) E`
     Cast(Option<u64>, Boxed<E>),
-    /// `E << NUMBER` where true stands, and else `E >> NUMBER`
+    /// `E << NUMBER` if true, and otherwise `E >> NUMBER`
     Shift(Boxed<E>, bool, u64),
     Infix(Infix, Boxed<E>, Boxed<E>),
 }

@@ -1,4 +1,4 @@
-// For which test the field of a comparison stands.
+// The test that the field of a comparison represents.
 ghost use Rattle.std.specs.Prelude.{◌≡◌, ◌&&◌, ◌^◌, nat_eq, nat_lt, not, Option, None, Some, slice_index, if◌then◌else◌, IfOk};
 ghost use Rattle.lucid_pass_spec.specs.Direct.{tested};
 ghost use Rattle.lucid_pass.specs.Testing.{Stands, test_at};
@@ -12,7 +12,7 @@ use lucid_code::{Act, Op, Operand};
 use lucid_pass_spec::Test;
 use std::alloc::Global;
 
-/// For each field the test for which it stands.
+/// For each field the test that it represents.
 pub(crate) fn tests_of(
     alloc: Global,
     widths: &[Width],

@@ -1,5 +1,5 @@
-// Which fields are tested where the guard of what writes them doesn't stand. Guards of neighbours mostly begin alike, and then only what is
-// new in a guard is looked at.
+// The fields that are tested outside the guard of their writer. Guards of neighbours mostly begin alike, so only the new part of a guard
+// is looked at.
 ghost use Rattle.std.specs.Prelude.{◌≡◌, ◌+◌, ◌<◌, length, true, slice_get, if◌then◌else◌, slice_set, IfOk};
 ghost use Rattle.std.specs.Option.{option_map_or};
 ghost use Rattle.lucid_pass_spec.specs.Looks.{includes};
@@ -26,7 +26,7 @@ pub(crate) fn uncovered(alloc: Global, ops: &[Op], writers: &[Writer]) -> Result
     Ok(marks)
 }
 
-/// One operation more: how many of its first literals stand behind the guards of what writes them.
+/// One operation more: the number of its first literals that are under the guards of their writers.
 fn turn(ops: &[Op], writers: &[Writer], i: usize, nested: usize, marks: &mut Vec<bool>) -> usize
     requires tells { Tells ops.now writers.now }
     requires there { i < length ops.now }
@@ -44,7 +44,7 @@ fn turn(ops: &[Op], writers: &[Writer], i: usize, nested: usize, marks: &mut Vec
     nested
 }
 
-/// How many of the first literals stand behind the guards of what writes them, where it is known of the first `from`.
+/// The number of first literals that are under the guards of their writers, if the first `from` are.
 fn nested_from(ops: &[Op], writers: &[Writer], guard: &[Literal], from: usize) -> usize
     requires tells { Tells ops.now writers.now }
     requires nested { Nested ops.now guard.now from }
@@ -58,7 +58,7 @@ fn nested_from(ops: &[Op], writers: &[Writer], guard: &[Literal], from: usize) -
     guard.len()
 }
 
-/// A mark for the field of each of these literals, where the guard of what writes it doesn't stand in the guard.
+/// Marks the field of each of these literals whose writer's guard is not part of the guard.
 fn mark_each(
     ops: &[Op],
     writers: &[Writer],
@@ -83,7 +83,7 @@ fn mark_uncovered(ops: &[Op], writers: &[Writer], guard: &[Literal], k: u32, mar
     }
 }
 
-/// Whether the guard of the one operation that writes field `k`, if there is one, stands in this guard.
+/// Returns whether the guard of the one operation that writes field `k`, if there is one, is part of this guard.
 fn is_under(ops: &[Op], writers: &[Writer], guard: &[Literal], k: u32) -> bool
     requires { Tells ops.now writers.now }
     ensures { result ≡ is_under ops.now guard.now k }

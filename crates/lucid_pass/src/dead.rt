@@ -1,4 +1,4 @@
-// The pass by which goes what writes a field that no operation reads (`alive` of lucid_pass_spec).
+// The pass that removes the writers of fields that no operation reads (`alive` of lucid_pass_spec).
 ghost use Rattle.std.specs.Prelude.{◌≡◌, ◌++◌, ◌∷◌, [], true, false, if◌then◌else◌, IfOk, OnOk, IsTrue};
 ghost use Rattle.std.specs.List.{list_all};
 ghost use Rattle.lucid_code.specs.Uses.{read_by, only_writes};
@@ -12,7 +12,7 @@ use lucid_base::Memory;
 use lucid_code::{Act, Code, Op};
 use std::alloc::Global;
 
-/// The pass `dead`. What writes a field that no operation reads goes, until there are none; calls of arrays, events and prints stay.
+/// The pass `dead`. Removes the writers of fields that no operation reads, until there are none; calls of arrays, events and prints stay.
 #[derive(Drop)]
 pub struct Dead {
     removed: u64,
@@ -54,8 +54,8 @@ impl Pass for Dead {
     }
 }
 
-/// What is needed of the operations, which name only fields below `fields`: from the last to the first, with a mark for each field that those
-/// kept so far read.
+/// The needed operations, which name only fields below `fields`: goes from the last to the first, with a mark for each field that the
+/// kept ones read.
 fn live(alloc: Global, ops: &[Op], fields: usize) -> Result<Vec<Op>, Memory>
     requires { IsTrue (list_all (writes_below fields) ops.now) }
     ensures { IfOk result (λ kept. kept.items ≡ live ops.now) }

@@ -94,7 +94,7 @@ fn mark_reads(op: &Op, read: &mut Vec<bool>, reads: &mut Vec<u32>) -> Result<(),
     Ok(())
 }
 
-/// Those that aren't comparisons which stand for a test and which nobody reads.
+/// The operations other than comparisons that represent a test and have no reader.
 fn needed(table: &[Option<Test>], read: &[bool], ops: Vec<Op>) -> Vec<Op>
     ensures { result.items ≡ filter (is_still_needed table.now read.now) ops.items }
 {

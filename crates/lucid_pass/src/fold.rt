@@ -1,4 +1,4 @@
-// The pass that puts numbers in place of fields, and computes what is made of numbers alone (`folded` of lucid_pass_spec).
+// The pass that replaces fields by numbers, and computes on numbers at compile time (`folded` of lucid_pass_spec).
 ghost use Rattle.std.specs.Prelude.{◌≡◌};
 
 use crate::changed::changed;
@@ -9,8 +9,8 @@ use lucid_base::Memory;
 use lucid_code::Code;
 use std::alloc::Global;
 
-/// The pass `fold`. A field that is moved from a number is read as the number that it then holds, and what computes from numbers alone becomes
-/// a move of its result.
+/// The pass `fold`. A field that is moved from a number is read as that number, and a computation on numbers alone becomes a move of its
+/// result.
 #[derive(Drop)]
 pub struct Fold {
     removed: u64,

@@ -1,4 +1,4 @@
-// Whether the literals of one guard stand in another, and how far two guards begin alike.
+// Whether the literals of one guard are in another, and the length of the common beginning of two guards.
 ghost use Rattle.std.specs.Prelude.{◌≡◌, ◌≤◌, false, slice_get};
 ghost use Rattle.std.specs.Option.{option_map_or};
 ghost use Rattle.std.specs.List.{list_any};
@@ -7,7 +7,7 @@ ghost use Rattle.lucid_pass.specs.Nesting.{Alike, same_at};
 
 use lucid_code::Literal;
 
-/// Whether every literal stands in the guard. One that stands at its own place there costs one comparison.
+/// Returns whether every literal is in the guard. A literal at the same position there costs one comparison.
 pub(crate) fn includes(guard: &[Literal], literals: &[Literal]) -> bool
     ensures { result ≡ includes guard.now literals.now }
 {
@@ -38,7 +38,7 @@ fn stands_at(guard: &[Literal], at: usize, literal: Literal) -> bool
     }
 }
 
-/// Whether the literal stands in the guard.
+/// Returns whether the literal is in the guard.
 pub(crate) fn stands(guard: &[Literal], literal: Literal) -> bool
     ensures { result ≡ list_any (same_literal literal) guard.now }
 {

@@ -1,8 +1,8 @@
-// Passes over code, in boxes: each makes of code other code that may stand in its place.
-// `Pass` is the trait, with its law inside its meaning `gives`, so that nobody can write a pass that breaks it; `run_passes` puts code
-// through a list of boxes, which whoever made them keeps. `Fold`, `Copies`, `Dead` and `Direct` are the passes of this repository: what they make, and that
-// it may stand in place of the code, is lucid_pass_spec. Each runs in time linear in the literals and operands of code whose guards begin
-// as those of their neighbours do, as those of lucid_normal. Stands on lucid_base, lucid_code and lucid_pass_spec.
+// Passes over code, in boxes: each makes code that may replace its input. `Pass` is the trait, with its law inside its meaning `gives`,
+// so that nobody can write a pass that breaks it. `run_passes` applies a list of boxes, which remain the caller's. `Fold`, `Copies`,
+// `Dead` and `Direct` are the passes of this repository; lucid_pass_spec defines their results and has the laws that these may replace
+// the code. Each runs in time linear in the literals and operands of code whose guards begin like those of their neighbours, as those of
+// lucid_normal do. Depends on lucid_base, lucid_code and lucid_pass_spec.
 #![tactic(auto)]
 
 mod changed;

@@ -1,4 +1,4 @@
-// Operands that are replaced by what their fields were moved from.
+// Operands that are replaced by the sources of their moves.
 ghost use Rattle.std.specs.Prelude.{◌≡◌, Option, None, map, slice_get, slice_index, IfOk};
 ghost use Rattle.std.specs.Option.{option_map, option_and_then};
 ghost use Rattle.lucid_base.specs.Ops.{low_of};
@@ -13,14 +13,14 @@ use lucid_base::{Bits, Items, Memory, Width};
 use lucid_code::{Act, Literal, Op, Operand};
 use std::alloc::Global;
 
-/// What is put in: a field that is no wider, or the number that the field then holds.
+/// The replacement: a field that is no wider, or the number of the field.
 #[derive(Clone, Copy)]
 pub(crate) enum Looks {
     Copied,
     Constant,
 }
 
-/// The operations as they stand now: those that are changed already, and behind them the old ones from there on.
+/// The operations at this point: those that are changed already, followed by the old ones.
 #[derive(Clone, Copy)]
 pub(crate) struct Now<'a> {
     pub(crate) looks: Looks,
@@ -136,7 +136,7 @@ fn looked(now: Now, guard: &[Literal], operand: Operand) -> Operand
     }
 }
 
-/// What field `k` is moved from.
+/// The source of the move to field `k`.
 fn moved_from(now: Now, guard: &[Literal], k: u32) -> Option<Operand>
     requires { Tells (standing now.done.now now.ops.now) now.writers.now }
     ensures { result ≡ moved_from (standing now.entry.done.now now.entry.ops.now) guard.now k }

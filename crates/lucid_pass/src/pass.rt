@@ -1,4 +1,4 @@
-// What a pass is: its name, its count, and what it makes of code, with the law that every pass keeps.
+// The trait of a pass: its name, its count and its meaning, with the law that every pass keeps.
 ghost use Rattle.std.specs.Prelude.{◌≡◌, ◌-◌, ℕ, List, length, IfOk, OnOk, OnErr};
 ghost use Rattle.lucid_base.specs.Saturating.{saturating_sum};
 ghost use Rattle.lucid_pass_spec.specs.Replace.{Rewrite};
@@ -8,8 +8,8 @@ use lucid_base::Memory;
 use lucid_code::Code;
 use std::alloc::Global;
 
-/// A pass. `called` is its name, `count` how many operations went in it so far, and `gives` what it makes of code, with the proof that this
-/// may stand in place of all valid code. A law below the methods could not be named of a box, so it is part of the meaning.
+/// A pass. `called` is its name, `count` the number of operations it has removed, and `gives` its result for code, with the proof that
+/// this may replace all valid code. A law below the methods could not be named for a box, so it is part of the meaning.
 pub trait Pass: Drop {
     ghost called: { Self → List ℕ };
 
@@ -21,11 +21,11 @@ pub trait Pass: Drop {
     fn name(&self) -> Name
         ensures { result ≡ called self.now };
 
-    /// How many operations went so far. It stands still at the last u64.
+    /// The number of operations removed so far. It stops at the last u64.
     fn removed(&self) -> u64
         ensures { result ≡ count self.now };
 
-    /// What the pass makes of the code, in memory of its own. After Memory the count is as before; name and meaning stay in any case.
+    /// Applies the pass to the code, in memory of its own. After Memory the count is as before; name and meaning stay in any case.
     fn run(&mut self, alloc: Global, code: &Code) -> Result<Code, Memory>
         ensures gives { IfOk result (λ new. new ≡ (gives self.old).makes code.now) }
         ensures count { OnOk result (count self.new ≡ saturating_sum (count self.old) (length code.now.ops - length ((gives self.old).makes code.now).ops)) }

@@ -37,8 +37,8 @@ fn gone(before: usize, after: usize) -> u64
     (before - after) as u64
 }
 
-/// What the passes make of the code, each on what the one before gave, and how many operations went in each. After Memory the first of them,
-/// those that ran, have counted what went. Boxes, names and meanings stay in any case.
+/// Applies the passes to the code, each to the result of the one before, and returns the number of operations that each removed. After
+/// Memory the first of them, those that ran, have counted their removals. Boxes, names and meanings stay in any case.
 pub fn run_passes_told(
     alloc: Global,
     passes: &mut Vec<Box<dyn Pass>>,
@@ -63,7 +63,7 @@ pub fn run_passes_told(
     Ok((code, told))
 }
 
-/// What the passes make of the code, each on what the one before gave.
+/// Applies the passes to the code, each to the result of the one before.
 pub fn run_passes(
     alloc: Global,
     passes: &mut Vec<Box<dyn Pass>>,

@@ -1,4 +1,4 @@
-// What computes from numbers alone.
+// Computations on numbers alone.
 ghost use Rattle.std.specs.Prelude.{◌≡◌, Option, None, Some, if◌then◌else◌};
 ghost use Rattle.std.specs.List.{list_all};
 ghost use Rattle.lucid_pass_spec.specs.Looks.{is_fixed, settled};
@@ -22,7 +22,7 @@ pub(crate) fn settled(alloc: Global, act: Act) -> Act
     }
 }
 
-/// The field that takes what an act computes from numbers alone.
+/// The field written by an act that computes on numbers alone.
 fn computed_field(act: &Act) -> Option<u32>
     ensures { result ≡ computed_field act.now }
 {

@@ -26,7 +26,7 @@ pub(crate) fn directed(alloc: Global, table: &[Option<Test>], ops: &[Op]) -> Res
     Ok(new)
 }
 
-/// One operation more: how many literals its guard has, and what they become.
+/// One operation more: the number of literals of its guard, and their replacements.
 fn turn(
     table: &[Option<Test>],
     ops: &[Op],
@@ -49,7 +49,7 @@ fn turn(
     Ok(guard.len())
 }
 
-/// What the first `kept` literals become.
+/// The replacements of the first `kept` literals.
 fn cut(made: &mut Vec<Literal>, ends: &mut Vec<usize>, kept: usize)
     requires { kept < length ends.old.items }
     ensures made { made.new.items ≡ take (slice_index_or ends.old.items kept 0) made.old.items }
@@ -59,7 +59,7 @@ fn cut(made: &mut Vec<Literal>, ends: &mut Vec<usize>, kept: usize)
     ends.truncate(kept + 1);
 }
 
-/// What the others become.
+/// The replacements of the others.
 fn extend(
     table: &[Option<Test>],
     guard: &[Literal],
@@ -109,7 +109,7 @@ fn directed_literal(table: &[Option<Test>], l: Literal) -> Literal
     }
 }
 
-/// The test for which field `c` stands.
+/// The test that field `c` represents.
 pub(crate) fn test_in(table: &[Option<Test>], c: u32) -> Option<Test>
     ensures { result ≡ direct_by table.now c }
 {

@@ -4,7 +4,7 @@ ghost use Rattle.lucid_pass_laws.specs.Core.{CodeStands, LengthIsCounted, SizeIs
 use lucid_core::Core;
 use lucid_inline_spec::{flat_is_valid, keeps_counts, keeps_steps};
 
-/// The normal form of the flat form of a program stands for the program, and so does whatever may stand in place of it.
+/// The normal form of the flat form of a program represents the program, and so does all code that may replace it.
 pub fn code_stands(core: &Core)
     ensures { CodeStands core.now }
 {

@@ -1,7 +1,7 @@
-// What stands for a program: its normal form, and whatever passes make of it (specs/Core.antt).
-// It promises of every core that the normal form of its flat form, and all code that may stand in place of it, does at each event that fits
-// what the core does, and has its arrays; and that the length and size that are counted over the core are those of these forms. Both are
-// laws on functions that make nothing; they join what lucid_inline_spec, lucid_normal_laws and lucid_pass_spec promise one after another.
+// Code that represents a program: its normal form, and the results of passes on it (specs/Core.antt). For every core the normal form of
+// its flat form, and all code that may replace it, has the effect of the core at each event that fits, and has its arrays. The length and
+// size that are counted over the core are those of these forms. Both are laws on functions that do nothing; they join the laws of
+// lucid_inline_spec, lucid_normal_laws and lucid_pass_spec.
 #![tactic(auto)]
 
 mod laws;

@@ -1,4 +1,4 @@
-// What the field of a comparison stands for.
+// The test that the field of a comparison represents.
 
 /// That a field equals a value.
 #[derive(Clone, Copy)]

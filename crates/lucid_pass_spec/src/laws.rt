@@ -6,7 +6,7 @@ ghost use Rattle.lucid_pass_spec.specs.Looks.{copies, folded};
 
 use lucid_code::Code;
 
-/// What a pass makes of valid code may stand in place of it.
+/// The result of a pass on valid code may replace it.
 pub fn passes_replace()
     ensures fold { Replaces folded }
     ensures copies { Replaces copies }
@@ -14,7 +14,7 @@ pub fn passes_replace()
     ensures direct { Replaces direct }
 {}
 
-/// Where every node that writes a field stands before each other node that reads it, it does so in what a pass makes of the code.
+/// If every node that writes a field precedes each other node that reads it, this holds for the result of a pass too.
 pub fn passes_keep_nodes()
     ensures fold { KeepsNodes folded }
     ensures copies { KeepsNodes copies }
@@ -22,7 +22,7 @@ pub fn passes_keep_nodes()
     ensures direct { KeepsNodes direct }
 {}
 
-/// What `Dead` leaves is what is left in whatever order operations go that aren't needed.
+/// The result of `Dead` does not depend on the order in which unneeded operations are removed.
 pub fn dead_is_left(code: &Code)
     ensures { IsLeft code.now.ops (live code.now.ops) }
 {

@@ -8,7 +8,7 @@ use crate::sent::Sent;
 use lucid_base::{Bits, Cells, Event, Out, Width, apply_bin, apply_un, compare};
 use lucid_code::Act;
 
-/// Does what an act by register does. Each register has its width.
+/// Does an act on the registers. Each register has its width.
 pub(crate) fn act(
     widths: &[Width],
     act: &Act,

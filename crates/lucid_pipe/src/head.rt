@@ -1,8 +1,8 @@
-// What a block has beside its registers.
+// The part of a block besides its registers.
 use crate::sent::Sent;
 use lucid_base::{Args, Event};
 
-/// The event, the tick and the switch at which a packet entered, and what it sent out so far.
+/// The event, the tick and the switch at which a packet entered, and its outs so far.
 #[derive(Drop)]
 pub(crate) struct Head {
     pub(crate) event: Event,

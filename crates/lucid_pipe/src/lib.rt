@@ -1,10 +1,10 @@
-// The machine: a pipe of stages with a packet before each, or none, whose packets move in any order, and take no memory while they do.
-// It promises what each move does (`enter` and `go`, to the cell and the field), that the cells and what is sent out are those of whole
-// passes in the order of entry, whatever the order of moves, and what a watch is shown.
-// What is to be read: specs/Packets and Pipe (what a pipe is, how a packet enters and moves), Settled (what it comes to when all that is
-// in flight runs to its end), Moves (lists of moves), Sights (places, the watch), Laws (what a caller may cite), Rows (a pipe as rows of
-// lucid_pipe_laws). How packets lie in memory is machinery: Blocks, Slots, Outs, Views, InPlace, and all of proofs/.
-// Stands on lucid_base, lucid_code, lucid_tables and lucid_pipe_laws.
+// The pipeline machine: stages with at most one packet in front of each. Packets move in any order, and moving one takes no memory.
+// Promises: the exact effect of each move (`enter`, `go`); that for any order of moves the cells and outs are those of whole traversals in the
+// order of entry; and the sights that a watch is shown.
+// Read specs/Packets and Pipe (a pipe, and how a packet enters and moves), Settled (the pipe once all packets in flight have departed), Moves
+// (lists of moves), Sights (slots and the watch), Laws (laws for callers) and Rows (a pipe as rows of lucid_pipe_laws). The layout of packets
+// in memory is internal: specs/Blocks, Slots, Outs, Views and InPlace, and all of proofs/.
+// Depends on lucid_base, lucid_code, lucid_tables and lucid_pipe_laws.
 #![tactic(auto)]
 
 mod act;

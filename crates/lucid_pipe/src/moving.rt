@@ -1,6 +1,6 @@
-// How packets move in the memory of a pipe. A slot has a block whether it is taken or not, so that each slot has one of its own: a packet
-// that moves on hands the number of its block to the next slot and takes back the number that stood there. No field is copied.
-// Contracts see the pipe that the memory stands for.
+// How packets move in the memory of a pipe. Every slot, taken or not, has a block of its own: a packet that moves passes the number of
+// its block to the next slot and takes the number from there in exchange. No field is copied. Contracts see the pipe that the memory
+// represents.
 ghost use Rattle.std.specs.Prelude.{◌≡◌, ◌+◌, ◌<◌, ◌≤◌, ◌↔◌, None, Some, Err, length, nat_lt, if◌then◌else◌, map, slice_set, IsSome, IfOk, OnOk, OnErr, IfSome};
 ghost use Rattle.lucid_pipe.specs.declared.passed.Stuck.TheVariants as stuck;
 ghost use Rattle.lucid_pipe.specs.Packets.{entering};
@@ -44,7 +44,8 @@ pub(crate) fn enter(
     };
 }
 
-/// The packet in slot `k` moves on. Where it comes out, its block is told. It is inlined, since most callers know already that a packet is there.
+/// Moves the packet in slot `k`. If it leaves, its block is returned. It is inlined, since most callers know already that a packet is
+/// there.
 #[inline(always)]
 pub(crate) fn go_on(
     placed: &Placed,
@@ -76,7 +77,7 @@ pub(crate) fn go_on(
     Ok(pass_on(placed, cells, blocks, slots, k, number))
 }
 
-/// The packet of a block, which stands in slot `k`, moves on. Where it comes out, its block is told.
+/// Moves the packet of a block in slot `k`. If it leaves, its block is returned.
 #[inline(never)]
 fn pass_on(
     placed: &Placed,
@@ -104,7 +105,7 @@ fn pass_on(
     comes_out(slots.len(), k, number)
 }
 
-/// The block of a packet that was in slot `k` of so many, where it came out.
+/// The block of a packet that was in slot `k` of `count`, if it left.
 fn comes_out(count: usize, k: usize, number: usize) -> Option<usize>
     requires { k < count }
     ensures { result ≡ (if nat_lt (k + 1) count then None else Some number) }

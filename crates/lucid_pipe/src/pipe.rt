@@ -93,10 +93,10 @@ impl<'a> Pipe<'a> {
         Ok(())
     }
 
-    /// The packet in slot `k` executes stage `k` and moves on to the next slot, or leaves the pipe where that was the last stage: then it is
-    /// told of. Empty exactly where there is no slot `k` or no packet in it; Ahead exactly where there is one and the next slot is taken.
-    /// After both the pipe is as it was. It takes no memory and copies no field. It is inlined, since its result is large and a caller that
-    /// matches it in place then pays for no copy.
+    /// Executes stage `k` for the packet in slot `k` and moves it to the next slot, or out of the pipe if that was the last stage: then
+    /// it is returned. Returns Empty exactly if there is no slot `k` or no packet in it, and Ahead exactly if there is one and the next
+    /// slot is taken. After both the pipe is unchanged. Allocates nothing and copies no field. It is inlined, since its result is large
+    /// and a caller that matches it in place then pays for no copy.
     #[inline(always)]
     #[tactic(auto, using(crate::proofs::Moves::pipe_long))]
     pub fn go(&mut self, k: usize) -> Result<Option<Passed>, Stuck>
@@ -122,8 +122,8 @@ impl<'a> Pipe<'a> {
         }
     }
 
-    /// The same, but what leaves is put into a place that the caller has, and None where nothing leaves: what hands it on by reference then moves
-    /// it once. After an error the place holds what it held.
+    /// Like `go`, but a leaving packet is put into a place of the caller's, which becomes None if nothing leaves: a caller that passes it
+    /// on by reference then moves it once. After an error the place is unchanged.
     #[tactic(auto, using(crate::proofs::Moves::pipe_long))]
     pub fn go_into(&mut self, k: usize, out: &mut Option<Passed>) -> Result<(), Stuck>
         ensures empty { (result ≡ Err stuck.Empty) ↔ (packet_at self.old k ≡ None) }
@@ -154,7 +154,8 @@ impl<'a> Pipe<'a> {
         }
     }
 
-    /// The same of a slot that isn't the last, so that nothing leaves: what moves many packets asks for no room for one that left.
+    /// Like `go` for a slot that isn't the last, so that nothing leaves: a caller that moves many packets needs no space for one that
+    /// left.
     #[tactic(auto, using(crate::proofs::Moves::pipe_long))]
     pub fn go_within(&mut self, k: usize) -> Result<(), Stuck>
         requires { k + 1 < length self.old.slots }
@@ -177,8 +178,7 @@ impl<'a> Pipe<'a> {
         }
     }
 
-    /// What a cell of an array holds now. Cell `i` is `i` modulo the size; an array that isn't declared holds 0, and so does one that stands
-    /// in no stage.
+    /// Returns a cell of an array. Cell `i` is `i` modulo the size; an array that isn't declared or is in no stage holds 0.
     #[tactic(auto, using(crate::proofs::Idle::zero_row))]
     pub fn look(&self, array: u32, cell: u64) -> u64
         ensures value { result ≡ cell_at self.now.cells array cell }
@@ -217,7 +217,7 @@ impl<'a> Pipe<'a> {
         self.cells.rows(alloc)
     }
 
-    /// What a watch sees of the pipe of a switch.
+    /// The sight that a watch gets of the pipe of a switch.
     #[tactic(auto, using(crate::proofs::Places::same_places))]
     pub(crate) fn sight(&self, alloc: Global, switch: u32) -> Result<Sight, Memory>
         ensures { IfOk result (λ sight. sight ≡ sight_of switch self.now) }
@@ -229,8 +229,8 @@ impl<'a> Pipe<'a> {
         })
     }
 
-    /// The places of the packets, the oldest first, fall strictly and are those of the slots that are taken. There are as many arrays as are
-    /// declared, and one that stands in no stage holds 0. It does nothing.
+    /// The places of the packets, the oldest first, fall strictly and are those of the taken slots. There are as many arrays as are
+    /// declared, and one that is in no stage holds 0. It does nothing.
     #[tactic(auto, using(crate::proofs::Places::places_fall, crate::proofs::Moves::pipe_long, crate::proofs::Moves::many_arrays))]
     pub fn places_fall(&self)
         ensures law { PlacesFall self.now }
@@ -241,8 +241,8 @@ impl<'a> Pipe<'a> {
         let _slots = self.slots.len();
     }
 
-    /// What is true of each pipe, for a caller that has a pipe and not its placed code: the laws of its moves, that its stages are placed,
-    /// keep to their arrays and do what the code does, and what its cells are beside what the stages do. It does nothing.
+    /// Laws of each pipe, for a caller that has a pipe and not its placed code: the laws of its moves; that its stages are placed, keep
+    /// to their arrays and have the effect of the code; and the relation of its cells to the stages. It does nothing.
     #[tactic(auto, using(crate::proofs::Moves::pipe_long))]
     pub fn keeps_laws(&self)
         ensures keep { MovesKeep self.now.placed }

@@ -7,8 +7,8 @@ ghost use Rattle.lucid_pipe_laws.specs.Places.{Leaves, Places};
 ghost use Rattle.lucid_pipe_laws.specs.Sights.{FlightLaw, SnapLaw, StageLaw};
 ghost use Rattle.lucid_pipe_laws.specs.Stream.{Advances, Passes, SettlesTo};
 
-/// A pipe is told by what entered it and by how many packets passed each stage, whichever packets moved and in what order. So are its
-/// cells, the places of its packets, what leaves and what it settles to: those of whole passes, one after another.
+/// The entered events and the number of packets that passed each stage determine a pipe, for any order of moves. So they determine its
+/// cells, the places of its packets, the packets that leave and the settled state: those of whole passes, one after another.
 pub fn moves_keep_the_picture()
     ensures goes { (step : Steps (List ℕ) (List ℕ)) → KeepsPicture step }
     ensures leaves { (step : Steps (List ℕ) (List ℕ)) → LeavesPicture step }
@@ -19,8 +19,8 @@ pub fn moves_keep_the_picture()
     ensures settles { (step : Steps (List ℕ) (List ℕ)) → SettlesToAll step }
 {}
 
-/// A pipe whose packets all move once a tick is told by what entered at each tick: what stands in it, its cells, what leaves it and what
-/// it settles to.
+/// The events that entered at each tick determine a pipe whose packets all move once a tick: its packets, its cells, the packets that
+/// leave it and its settled state.
 pub fn ticks_keep_the_picture()
     ensures advances { (step : Steps (List ℕ) (List ℕ)) → Advances step }
     ensures passes { (step : Steps (List ℕ) (List ℕ)) → Passes step }

@@ -1,6 +1,5 @@
-// What waits in a network: pending events, of which a switch takes the one with the least key that is ready.
-// It promises which event that is, that no other leaves, and that a push that finds no memory changes nothing.
-// Stands on lucid_base alone.
+// The queue of a network: pending events, of which a switch takes the ready one with the least key. A pop removes only that event, and a
+// failed push leaves the queue unchanged. Depends on lucid_base alone.
 #![tactic(auto)]
 
 mod pending;

@@ -12,7 +12,7 @@ use lucid_base::Memory;
 use std::alloc::Global;
 use std::marker::Model;
 
-/// What waits at all switches, which contracts see as the list of it in the order of switches and, at one switch, of keys.
+/// The pending events of all switches. Contracts see them as a list in the order of switches and, at one switch, of keys.
 #[derive(Drop)]
 pub struct Queue {
     switches: Switches,

@@ -1,4 +1,4 @@
-// What waits at all switches: a list in which each switch finds its own by its number.
+// The pending events of all switches: a list in which each switch finds its own by its number.
 ghost use Rattle.std.specs.Prelude.{◌≡◌, ◌<◌, false, [], length, OnOk, OnErr};
 ghost use Rattle.std.specs.List.{find, list_any, AllByRecursion};
 ghost use Rattle.std.specs.List.Sorted.{IsStrictlySortedBy};
@@ -12,7 +12,7 @@ use lucid_base::Memory;
 use std::alloc::Global;
 use std::marker::Model;
 
-/// What waits at all switches, each of which is the index of its turns.
+/// The pending events of all switches; each switch is the index of its turns.
 #[derive(Drop)]
 pub(crate) struct Switches {
     turns: Vec<Turns>,

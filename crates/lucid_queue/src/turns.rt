@@ -1,4 +1,4 @@
-// What waits at one switch: a map of events by their keys, of which the first is the next to enter.
+// The pending events of one switch: a map of events by their keys, of which the first is the next to enter.
 ghost use Rattle.std.specs.Prelude.{◌≡◌, false, [], OnOk, OnErr};
 ghost use Rattle.std.specs.BTreeMap.{insert_entry};
 ghost use Rattle.std.specs.List.{list_any};
@@ -12,8 +12,8 @@ use std::alloc::Global;
 use std::collections::BTreeMap;
 use std::marker::Model;
 
-/// What waits at one switch, which contracts see as the list of keys and events in the order of keys.
-/// An event stands in memory of its own, so that the room for more in a node of the map is small: at most some 190 bytes each.
+/// The pending events of one switch. Contracts see them as the list of keys and events in the order of keys. An event has memory of its
+/// own, so that spare capacity in a node of the map is small: at most some 190 bytes each.
 #[derive(Drop)]
 pub(crate) struct Turns {
     events: BTreeMap<PendKey, Boxed<Event>>,

@@ -1,11 +1,11 @@
-// What seeds a table, and the hashers that it then has.
+// The seed of a table, and its hashers.
 ghost use Rattle.std.specs.Prelude.{◌≡◌};
 ghost use Rattle.std.specs.Hash.DefaultHasher.{initial};
 ghost use Rattle.lucid_seed.specs.Started.{started, with_part};
 
 use std::hash::{BuildHasher, DefaultHasher, Hasher};
 
-/// What a table is seeded by, taken in part after part.
+/// The seed of a table, absorbed in parts.
 #[derive(Clone, Copy)]
 pub struct Seed {
     pub parts: DefaultHasher,
@@ -29,7 +29,7 @@ impl Seed {
         self.parts.write(&[255]);
     }
 
-    /// What makes the hashers of a table with this seed.
+    /// Makes the hashers of a table with this seed.
     pub fn hashers(&self) -> Seeded
         ensures { result.start ≡ started self.now.parts }
     {

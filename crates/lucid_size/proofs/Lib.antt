@@ -11,7 +11,7 @@ mod Closed
 mod Scans
 mod Turns
 mod Bytes
-mod Unique
+pub mod Unique
 mod Lengths
 mod Exists
 mod Repeats

@@ -17,7 +17,7 @@ use lucid_base::{Items, Memory};
 use lucid_lex::{Token, tokens_stand};
 use std::alloc::Global;
 
-/// Writes what stands outside the templates, and in place of each its instances.
+/// Writes the text outside the templates, and for each template its instances.
 pub(crate) fn write_whole(
     alloc: Global,
     text: &[u8],
@@ -99,7 +99,7 @@ fn write_between(
     write_steps(out, text, underscores, 0, steps.as_slice())
 }
 
-/// A law: the steps outside all templates stand in the text. Nothing runs.
+/// A law: the steps outside all templates are in the text. Nothing runs.
 fn steps_stand(
     text: &[u8],
     tokens: &[Token],
@@ -126,7 +126,7 @@ fn write_gap(out: &mut Vec<u8>, text: &[u8], tokens: &[Token], at: usize) -> Res
     Ok(())
 }
 
-/// A law: the blanks and comments before a token stand in the text. Nothing runs.
+/// A law: the blanks and comments before a token are in the text. Nothing runs.
 fn gap_stands(text: &[u8], tokens: &[Token], at: usize)
     requires reads { Reads text.now tokens.now }
     requires within { at ≤ length tokens.now }

@@ -25,28 +25,28 @@ use std::alloc::Global;
 /// The most bytes of an expanded text.
 const MOST: usize = 8_388_608;
 
-/// The expanded text: in place of each template of the text stand the instances of it that are used, and all else stays. `tokens` are
-/// those that `lex` gives of the text; so `lex` reads what comes out, too, as the tokens of its pieces.
+/// Expands the text: replaces each template by its used instances and keeps all else. `tokens` are those that `lex` returns for the text;
+/// so `lex` reads the result, too, as the tokens of its pieces.
 ///
 /// The causes of an error are tried in this order. `Broken` has the number, from 1, of the first `fun` whose template has no name, no `{`
-/// or no `}`. `Twice` has the first name that an earlier template has. `TooBig` says that the expanded text has more than 8,388,608
-/// bytes. Memory is the one answer without a cause. No more memory is taken than for the tokens and for some 12 MiB of text.
+/// or no `}`. `Twice` has the first name that an earlier template has. `TooBig` means that the expanded text has more than 8,388,608
+/// bytes. Memory is the one answer without a cause. Takes no more memory than for the tokens and for some 12 MiB of text.
 pub fn expand(alloc: Global, text: &[u8], tokens: &[Token]) -> Result<Vec<u8>, SizeError>
     requires { Reads text.now tokens.now }
-    // What is answered is so.
+    // The answer is true.
     ensures ok { IfOk result (λ out. ExpandsTo text.now tokens.now out.items) }
     ensures small { IfOk result (λ out. length out.items ≤ most) }
     ensures broken { (n : ℕ) → IsErrOf result (Broken n) → IsBroken tokens.now n }
     ensures twice { (name : List ℕ) → IsErrOf result (Twice name) → IsTwice text.now tokens.now name }
     ensures too_big { IsErrOf result TooBig → IsTooBig text.now tokens.now }
 
-    // What is so is answered, unless memory runs out.
+    // The truth is answered, unless memory runs out.
     ensures if_text { (out : List ℕ) → ExpandsTo text.now tokens.now out → length out ≤ most → IsOkAnd result (λ o. o.items ≡ out) ⊎ IsErrOf result Memory }
     ensures if_broken { (n : ℕ) → IsBroken tokens.now n → IsErrOf result (Broken n) ⊎ IsErrOf result Memory }
     ensures if_twice { (name : List ℕ) → IsTwice text.now tokens.now name → IsErrOf result (Twice name) ⊎ IsErrOf result Memory }
     ensures if_big { IsTooBig text.now tokens.now → IsErrOf result TooBig ⊎ IsErrOf result Memory }
 
-    // What comes out is read as the tokens of its pieces.
+    // The result is read as the tokens of its pieces.
     ensures read { IfOk result (λ out. (pieces : List Piece) → IsExpansion text.now tokens.now pieces → Reads out.items (tokens_from 0 pieces)) }
 {
     written_out(alloc, text, tokens)

@@ -1,4 +1,4 @@
-// What templates and uses are made of: tests on what a token is.
+// The tokens of templates and uses: tests on the kind of a token.
 ghost use Rattle.std.specs.Prelude.{◌≡◌, ◌<◌, ◌^◌, ◌-◌};
 ghost use Rattle.lucid_size.specs.Kinds as spec;
 

@@ -1,4 +1,4 @@
-// Laws of the definitions, for whoever expands a text. Nothing runs.
+// Laws of the definitions, for callers that expand a text. Nothing runs.
 ghost use Rattle.std.specs.Prelude.{◌≡◌, List, None, Ok, []};
 ghost use Rattle.lucid_lex.specs.Piece.{Piece};
 ghost use Rattle.lucid_lex.specs.Reading.{Reads, joined, tokens_from};

@@ -1,9 +1,9 @@
-// Functions over a width, as `fun <<w>> int<<w>> inc(int<<w>> x) { .. }`: each is a template, which its uses `inc<<8>>(..)` ask for at a
-// width. `expand` gives the text in which every used instance stands in place of its template, or why there is none; `has_template` tells
-// whether there is anything to expand. What the expanded text is, specs/ says as a substitution on tokens: Expansion.antt, over
-// Templates (what is a template), Steps (what becomes of a token), Used (which instances), Suffix (their names), Pieces and Parts. The
-// laws say that the expanded text is read as the tokens of that substitution, and that a text has one expansion at most. The other files
-// of specs/ are what code keeps on its way. Stands on lucid_base for names and places, lucid_lex for tokens, and itoa for decimals.
+// Functions over a width, as `fun <<w>> int<<w>> inc(int<<w>> x) { .. }`: each is a template, which its uses `inc<<8>>(..)` instantiate
+// at a width. `expand` returns the text in which every used instance replaces its template, or the reason why there is none;
+// `has_template` returns whether there is anything to expand. specs/ defines the expanded text as a substitution on tokens:
+// Expansion.antt, over Templates, Steps (the replacement of a token), Used (the instances), Suffix (their names), Pieces and Parts. By
+// its laws, the expanded text is read as the tokens of that substitution, and a text has at most one expansion. The other files of specs/
+// are invariants of the code. Depends on lucid_base for names and positions, lucid_lex for tokens, and itoa for decimals.
 #![tactic(auto)]
 
 mod assembly;

@@ -1,4 +1,4 @@
-// A text, cut into its templates and what stands outside them.
+// A text, cut into its templates and the parts outside them.
 ghost use Rattle.std.specs.Prelude.{◌≡◌, ◌≤◌, All, IfOk, Ok, length, map};
 ghost use Rattle.lucid_lex.specs.Reading.{IsTokenOf, Reads};
 ghost use Rattle.lucid_size.specs.Parts as spec;
@@ -64,7 +64,7 @@ pub(crate) fn parts_of(
     Ok(Parts { outside, bodies })
 }
 
-/// What becomes of a template's tokens behind its first `>>`.
+/// The steps of a template's tokens after its first `>>`.
 fn body_steps(
     alloc: Global,
     text: &[u8],
@@ -107,7 +107,7 @@ fn body_steps(
     Ok(steps)
 }
 
-/// A law: the templates of a text stand one behind another. Nothing runs.
+/// A law: the templates of a text follow one another. Nothing runs.
 pub(crate) fn templates_stand(text: &[u8], tokens: &[Token], templates: &[Template])
     requires reads { Reads text.now tokens.now }
     requires whole { cutting.templates tokens.now ≡ Ok templates.now }
@@ -118,7 +118,7 @@ pub(crate) fn templates_stand(text: &[u8], tokens: &[Token], templates: &[Templa
     tokens_stand(text, tokens);
 }
 
-/// A law: the steps of a text stand in it, and use its templates alone. Nothing runs.
+/// A law: the steps of a text are in it, and use only its templates. Nothing runs.
 pub(crate) fn parts_stand(
     text: &[u8],
     tokens: &[Token],

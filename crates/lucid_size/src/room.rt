@@ -1,11 +1,11 @@
-// The room that is left behind what is written, found before it is written.
+// The bytes that remain free after a text, computed before it is written.
 ghost use Rattle.std.specs.Prelude.{◌≡◌, ◌≤◌, ◌-◌, All, SomeIff, decimal, length};
 ghost use Rattle.lucid_size.specs.Bytes.{form_len, steps_len};
 
 use crate::step::{Form, Step};
 use itoa::Buffer;
 
-/// The room that is left behind what is written of these steps, where it is enough.
+/// The bytes that remain free after these steps, if they fit.
 pub(crate) fn room_behind(
     underscores: usize,
     width: u64,
@@ -23,7 +23,7 @@ pub(crate) fn room_behind(
     Some(room)
 }
 
-/// The room that is left behind what is written behind a token.
+/// The bytes that remain free after the form of a token.
 fn room_behind_form(underscores: usize, width: u64, form: Form, room: usize) -> Option<usize>
     ensures { SomeIff result (form_len underscores width form ≤ room) (room - form_len underscores width form) }
 {

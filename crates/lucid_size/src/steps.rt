@@ -1,4 +1,4 @@
-// What becomes of the tokens of a part of a text.
+// The replacements of the tokens of a part of a text.
 ghost use Rattle.std.specs.Prelude.{◌≡◌, ◌≤◌, ◌++◌, ◌<◌, All, IfOk, None, OnOk, Some, length, option_map};
 ghost use Rattle.lucid_lex.specs.Reading.{IsTokenOf};
 ghost use Rattle.lucid_size.specs.Parts as parts;
@@ -62,7 +62,7 @@ fn more_of(form: Form) -> usize
     }
 }
 
-/// What becomes of the first of these tokens.
+/// The replacement of the first of these tokens.
 fn form_at(
     alloc: Global,
     text: &[u8],
@@ -80,7 +80,7 @@ fn form_at(
     }
 }
 
-/// What becomes of a token that is no use.
+/// The replacement of a token that is no use.
 fn kept_or_width(width: bool) -> Form
     ensures { result ≡ spec.or_width width None }
 {
@@ -139,7 +139,7 @@ fn use_at_size(template: usize, size: Option<Option<u64>>) -> Option<Form>
     }
 }
 
-/// The size that a use has by what stands between its `<<` and `>>`.
+/// The size of a use, from the tokens between its `<<` and `>>`.
 fn size_of(text: &[u8], width: Option<&[u8]>, token: Token) -> Option<Option<u64>>
     requires { IsTokenOf text.now token }
     ensures { result ≡ spec.size_of text.now (option_map (λ w. w.now) width.entry) token }

@@ -7,7 +7,7 @@ use crate::step::Instance;
 use lucid_base::{Items, Memory};
 use std::alloc::Global;
 
-/// For each of so many templates the widths of its instances, in the order in which they were found.
+/// For each template the widths of its instances, in the order in which they were found.
 pub(crate) fn deal(
     alloc: Global,
     found: &[Instance],
@@ -24,7 +24,7 @@ pub(crate) fn deal(
     Ok(rows)
 }
 
-/// So many rows with nothing in them.
+/// Makes `rows` empty rows.
 fn no_rows(alloc: Global, rows: usize) -> Result<Vec<Items<u64>>, Memory>
     ensures many { IfOk result (λ made. length made.items ≡ rows) }
     ensures dealt { IfOk result (λ made. AreDealt made.items []) }

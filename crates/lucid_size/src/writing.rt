@@ -1,4 +1,4 @@
-// What is written of steps and of instances.
+// Writes steps and instances.
 ghost use Rattle.std.specs.Prelude.{◌≡◌, ◌++◌, ◌∷◌, [], All, OnOk, codes, decimal};
 ghost use Rattle.std.specs.List.{repeat};
 ghost use Rattle.lucid_lex.specs.Reading.{joined};
@@ -29,7 +29,7 @@ pub(crate) fn write_steps(
     Ok(())
 }
 
-/// Writes a step in the instance of a width, with what stands before it.
+/// Writes a step in the instance of a width, with the bytes before it.
 fn write_step(
     out: &mut Vec<u8>,
     text: &[u8],
@@ -44,7 +44,7 @@ fn write_step(
     write_form(out, underscores, width, step.form)
 }
 
-/// Writes what stands behind a token.
+/// Writes the form of a token.
 fn write_form(out: &mut Vec<u8>, underscores: usize, width: u64, form: Form) -> Result<(), Memory>
     ensures { OnOk result (out.new.items ≡ out.old.items ++ form_bytes underscores width form) }
 {
@@ -74,7 +74,7 @@ fn put_use(out: &mut Vec<u8>, underscores: usize, width: u64) -> Result<(), Memo
     Ok(())
 }
 
-/// What the name of an instance has behind that of its template.
+/// Writes the part of an instance's name after that of its template.
 fn put_suffix(out: &mut Vec<u8>, underscores: usize, width: u64) -> Result<(), Memory>
     ensures { OnOk result (out.new.items ≡ out.old.items ++ suffix underscores width) }
 {
@@ -82,7 +82,7 @@ fn put_suffix(out: &mut Vec<u8>, underscores: usize, width: u64) -> Result<(), M
     put_decimal(out, width)
 }
 
-/// So many underscores.
+/// Writes this many underscores.
 fn put_underscores(out: &mut Vec<u8>, underscores: usize) -> Result<(), Memory>
     ensures { OnOk result (out.new.items ≡ out.old.items ++ repeat underscores (95 ∷ [])) }
 {

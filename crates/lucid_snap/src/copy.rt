@@ -81,7 +81,7 @@ fn fill(pipe: &Pipe, array: u32, row: &mut Items<u64>)
     }
 }
 
-/// What a cell of an array holds. Cell `i` is `i` modulo the size; an array that isn't there holds 0.
+/// Returns a cell of an array. Cell `i` is `i` modulo the size; an array that does not exist holds 0.
 pub(crate) fn read(copies: &[Items<u64>], array: u32, cell: u64) -> u64
     ensures { result ≡ cell_at copies.now array cell }
 {

@@ -55,14 +55,14 @@ pub fn snap<S: Sink>(
     Ok(())
 }
 
-/// So many steps, or all where there are fewer.
+/// Returns `after` steps, or all if there are fewer.
 fn first_steps(scene: &Scene, after: u64) -> u64
     ensures { result ≡ min after (length scene.now.steps) }
 {
     after.min(scene.steps.len() as u64)
 }
 
-/// Begins a snapshot of a pipe that stands at a state: of the cells after all events that had entered.
+/// Begins a snapshot of a pipe at a state: of the cells after all events that had entered.
 fn begin(
     alloc: Global,
     pipe: &Pipe,

@@ -36,7 +36,7 @@ impl Model for Snap {
 }
 
 impl Snap {
-    /// Begins a snapshot of a pipe of this code: of what it settles to. It takes all memory that it needs.
+    /// Begins a snapshot of the settled state of a pipe of this code. Allocates all memory that it needs.
     pub fn begin(alloc: Global, pipe: &Pipe, placed: &Placed) -> Result<Snap, Memory>
         requires { pipe.now.placed ≡ placed.now }
         ensures follows { IfOk result (λ snap. Follows snap pipe.now (settled pipe.now).cells) }
@@ -81,8 +81,8 @@ impl Snap {
         self.waits == 0
     }
 
-    /// What a cell of an array holds in the snapshot: once it is whole, what it is followed for. Cell `i` is `i` modulo the size. It takes no
-    /// memory.
+    /// Returns a cell of an array in the snapshot, of its final content once the snapshot is whole. Cell `i` is `i` modulo the size.
+    /// Allocates nothing.
     #[tactic(auto, using(crate::proofs::Copying::got))]
     pub fn get(&self, array: u32, cell: u64) -> u64
         ensures copy { result ≡ cell_at self.now.copies array cell }
@@ -129,7 +129,7 @@ fn copy_next(
     }
 }
 
-/// One less, where stage `k` is the last of so many.
+/// Subtracts one if stage `k` is the last of `count`.
 fn wait_less(waits: &mut usize, count: usize, k: usize)
     requires { k < count }
     ensures { waits.new ≡ (if nat_eq (k + 1) count then waits.old - 1 else waits.old) }

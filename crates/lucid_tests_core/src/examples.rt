@@ -1,4 +1,4 @@
-// Examples of valid programs, and of what each rule refuses: computed from the definitions, so nothing runs.
+// Examples of valid programs, and of programs that each rule refuses: computed from the definitions, so nothing runs.
 ghost use Rattle.std.specs.Prelude.{[], ◌∷◌};
 ghost use Rattle.lucid_core.specs.ExamplePrograms.{small, flat, bump_put_in, drop_value};
 ghost use Rattle.lucid_tests_core.specs.Refused.{RulesRefuse, flat_with, nested, group_put_in};

@@ -13,7 +13,7 @@ const EVENT: Literal = Literal {
     value: 0,
 };
 
-/// What the operations of a group share.
+/// The resource that the operations of a group share.
 #[derive(Clone, Copy)]
 enum Target {
     Field(Width),
@@ -21,8 +21,8 @@ enum Target {
     Slot(u32),
 }
 
-/// Code that grows. Each group has a field of its own, which it may leave as it is. Arrays from `level` on may still be called, all of which
-/// have cells of one width, and so many slots are taken.
+/// Code that grows. Each group has a field of its own, which it may leave unwritten. Arrays from `level` on may still be called, all with
+/// cells of one width, and `slots` slots are taken.
 #[derive(Drop)]
 struct Draft<'a> {
     draws: &'a mut Draws,

@@ -1,4 +1,4 @@
-// Drawn code beside what the passes make of it.
+// Compares drawn code with the results of the passes.
 ghost use Rattle.std.specs.Prelude.{◌≡◌};
 
 use crate::codes::code;
@@ -21,7 +21,7 @@ fn all_passes(alloc: Global) -> Result<Vec<Box<dyn Pass>>, Memory> {
     Ok(passes)
 }
 
-/// What the pass of a number makes of the code; 4 stands for all of them in a row.
+/// Applies the pass of this number to the code; 4 means all of them in a row.
 fn through(alloc: Global, number: usize, code: &Code) -> Result<Code, Memory> {
     match number {
         0 => Fold::new().run(alloc, code),
@@ -48,7 +48,7 @@ fn is_changed(alloc: Global, code: &Code, new: &Code) -> Result<bool, Memory> {
     Ok(new.ops().len() < code.ops().len() || before.as_slice() != after.as_slice())
 }
 
-/// What is told of events, and the cells after them.
+/// The output of events, and the cells after them.
 #[derive(Drop)]
 struct Ran {
     told: Vec<Passed>,
@@ -85,7 +85,7 @@ fn is_same(a: &Ran, b: &Ran) -> bool {
         && same_rows(a.cells.as_slice(), b.cells.as_slice())
 }
 
-/// Whether what a pass made of the code has no more operations, and runs so.
+/// Returns whether the result of a pass has no more operations and runs like the code.
 fn runs_so(alloc: Global, state: u64, code: &Code, new: &Code, ran: &Ran) -> Result<bool, Memory> {
     if code.ops().len() < new.ops().len() {
         return Ok(false);
@@ -96,7 +96,7 @@ fn runs_so(alloc: Global, state: u64, code: &Code, new: &Code, ran: &Ran) -> Res
     }
 }
 
-/// Whether each pass keeps what a code does. Adds one for each that changes it.
+/// Returns whether each pass keeps the effect of the code. Adds one for each that changes the code.
 fn all_keep(
     alloc: Global,
     state: u64,

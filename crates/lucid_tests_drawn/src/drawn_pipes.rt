@@ -12,7 +12,7 @@ use std::alloc::Global;
 use std::collections::VecDeque;
 use std::test::Fail;
 
-/// What came of moves.
+/// The outcomes of moves.
 #[derive(Drop)]
 struct Tally {
     entered: u32,
@@ -27,7 +27,7 @@ fn add_one(count: &mut u32) {
     *count = count.saturating_add(1);
 }
 
-/// A drawn event enters, if it can, and goes through the other pipe alone. What is told of it comes back.
+/// Enters a drawn event, if it can, and runs it alone through the other pipe; keeps the output of that run.
 fn enter(
     draws: &mut Draws,
     code: &Code,
@@ -51,7 +51,7 @@ fn enter(
     pass(alone, &input)
 }
 
-/// The packet of a slot goes on, if it can. Of those that went alone, what leaves must be told as the next, and goes off their list.
+/// Moves the packet of a slot, if it can. A leaving packet must have the output of the next run in the list, which is removed.
 fn go(pipe: &mut Pipe, k: usize, told: &mut VecDeque<Passed>, tally: &mut Tally)
     ensures { pipe.new.placed ≡ pipe.old.placed }
 {
@@ -98,7 +98,7 @@ fn fly(alloc: Global, draws: &mut Draws, code: &Placed, tally: &mut Tally) -> Re
     Ok(())
 }
 
-/// Flights through so many drawn codes.
+/// Flies through this many drawn codes.
 fn fly_all(alloc: Global, codes: u32) -> Result<Tally, Memory> {
     let mut draws = Draws { state: 29 };
     let mut tally = Tally {

@@ -71,7 +71,7 @@ fn leave(pipe: &mut Pipe) -> Option<Passed>
     None
 }
 
-/// What is told of an input that goes through the stages alone.
+/// The output of an input that goes through the stages alone.
 pub(crate) fn pass(pipe: &mut Pipe, input: &Input) -> Option<Passed>
     requires { IsInput pipe.old.placed.code input.now.me input.now.event }
     ensures { pipe.new.placed ≡ pipe.old.placed }

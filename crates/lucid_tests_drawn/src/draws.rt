@@ -1,4 +1,4 @@
-// Drawn numbers, and what is made of them alone.
+// Drawn numbers, and values made of them alone.
 ghost use Rattle.std.specs.Prelude.{◌<◌};
 
 use lucid_base::{BinOp, CmpOp, MemAlu, MemArg, MemSide, UnOp, Width};

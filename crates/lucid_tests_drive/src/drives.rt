@@ -26,7 +26,7 @@ const ROWS: [(&str, &str); 5] = [
         "empty 0\nenter 0\ngo 0\nenter 1\nahead 0\n\
         [0] s0 hit(3)\n[0] s0 hit(4)\ns0 x[0] = 7\ns0 y[0] = 7\nentered 2 left 0\n",
     ),
-    // Once no event is left, whatever the first slot holds.
+    // The first slot is taken or free when no event remains.
     (
         r#"[["enter"],["enter"],["go",0],["enter"],["go",0],["enter"]]"#,
         "enter 0\nbusy\ngo 0\nenter 1\nahead 0\nnone\n\
@@ -42,7 +42,7 @@ const ROWS: [(&str, &str); 5] = [
     ("[]", "entered 0 left 2\n"),
 ];
 
-/// Looks at an array that stands in no stage, and past the size of one that does.
+/// Looks at an array that is in no stage, and past the size of one that is.
 const LOOKS: (&str, &str) = (
     r#"[["enter"],["go",0],["look","z",7],["look","x",2],["look","x",5]]"#,
     "enter 0\ngo 0\nlook z[3] = 0\nlook x[0] = 3\nlook x[1] = 0\n\
@@ -174,7 +174,8 @@ fn three_packets_fill_the_stages(rt: HostRuntime) -> Result<(), Fail> {
     Ok(())
 }
 
-/// Whether the write of this number fails the drive of the first row, of which a beginning is then written, and a watch saw so many sights.
+/// Returns whether the write of this number fails the drive of the first row, of which a beginning is then written, and a watch saw this
+/// many sights.
 fn fault_cuts(
     alloc: Global,
     core: &Core,
@@ -202,7 +203,7 @@ fn fault_cuts(
     )
 }
 
-/// Whether in a sight that is told a packet was at place `k`.
+/// Returns whether a packet was at place `k` in a specified sight.
 fn was_taken(watch: &MemWatch, sight: usize, k: u32) -> bool {
     match watch.count() {
         Some(count) => sight < count && watch.taken(sight, k),

@@ -22,7 +22,7 @@ use std::marker::Brand;
 use std::sync::ledger::{Blank, Ledger};
 use std::test::Fail;
 
-/// The second array, in stage 1, holds the sum that the first one, in stage 0, has come to; the third one stands in no stage.
+/// The second array, in stage 1, holds the sum so far of the first one, in stage 0; the third one is in no stage.
 pub(crate) const SUMS: &str =
     "global Array.t<<32>> x = Array.create(2); global Array.t<<32>> y = Array.create(2); global Array.t<<32>> z = Array.create(4); \
     memop plus(int stored, int a) { return stored + a; } event hit(int v); \

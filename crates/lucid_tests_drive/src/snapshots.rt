@@ -21,7 +21,7 @@ const SCENARIO: &[u8] =
 const LOG: &str = "enter 0\nbusy\ngo 0\nenter 1\nlook y[0] = 0\ngo 1\nlook y[0] = 3\n\
     [0] s0 hit(3)\n[0] s0 hit(4)\ns0 x[0] = 7\ns0 y[0] = 7\nentered 2 left 0\n";
 
-/// After how many steps, and what the snapshot holds: exactly the events that had entered, though both cells end as 7.
+/// The number of steps before the snapshot, and its content: exactly the events that had entered, though both cells end as 7.
 const SNAPSHOTS: [(u64, &str); 7] = [
     (0, "snap after 0\n"),
     (1, "snap after 1\ns0 x[0] = 3\ns0 y[0] = 3\n"),

@@ -1,4 +1,4 @@
-// The table: each form of words, how often it opens or reads a file and writes where nothing fails, and what it leaves where one of
+// The table: each form of words, how often it opens or reads a file and writes without failures, and its output and status if one of
 // these fails.
 use crate::files::is_file;
 use crate::running::{Faults, NONE, Ran, run};
@@ -26,8 +26,8 @@ const ANSWERS: [(&str, u64, u64); 15] = [
     ("bench 0 3", 0, 1),
 ];
 
-/// The words of calls that are refused, how each ends, how often it opens and reads each file, and in how many writes it tells the cause.
-/// All files are read before any is looked at.
+/// The words of refused calls, how each ends, how often it opens and reads each file, and in how many writes it reports the cause. All
+/// files are read before any is looked at.
 const REFUSALS: [(&str, Status, u64, u64); 7] = [
     ("", Status::Usage, 0, 1),
     ("picture", Status::Usage, 0, 1),
@@ -61,7 +61,7 @@ fn ends_alike(
     Ok(())
 }
 
-/// So many openings and reads of a file, from this one on.
+/// This many openings and reads of a file, from this one on.
 fn each_read_of(
     rt: &impl Abort,
     alloc: Global,
@@ -91,7 +91,7 @@ fn each_read_of(
     Ok(())
 }
 
-/// Each opening and each read, so many of each file, and none behind them.
+/// Each opening and each read, this many of each file, and none after them.
 fn each_read(
     rt: &impl Abort,
     alloc: Global,
@@ -114,7 +114,7 @@ fn each_read(
     ends_alike(rt, alloc, line, behind, whole)
 }
 
-/// Each write, and none behind them. One that goes well hands over something and one that fails nothing, so what stands there grows.
+/// Each write, and none after them. A successful write passes something on and a failing one nothing, so the output grows.
 fn each_write(
     rt: &impl Abort,
     alloc: Global,

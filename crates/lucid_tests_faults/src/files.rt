@@ -2,7 +2,7 @@
 use lucid_io::MemFile;
 use std::alloc::{AllocError, Global};
 
-/// Each file: its name, its text, and how often the text stands in it.
+/// Each file: its name, its text, and how often the text is repeated in it.
 const FILES: [(&str, &str, usize); 18] = [
     // One array, in which each packet leaves a number.
     (
@@ -46,7 +46,7 @@ handle e(int v) { int n = 0; if (v == 0) { n = Array.get(x, 0); } else { n = Arr
 ",
         1,
     ),
-    // What one switch sends to another, and to one that there isn't.
+    // An event from one switch to another, and to one that does not exist.
     (
         "send",
         "event note(int n);
@@ -77,7 +77,7 @@ handle ask() { generate seen(Array.get(x, 0)); }
         1,
     ),
     ("places", r#"{"nodes":[[0,1],[1,0]]}"#, 1),
-    // Two arrays, of which the second takes what the first gave, and one pipe that is driven by hand.
+    // Two arrays, of which the second gets the result of the first, and one pipe that is driven by hand.
     (
         "sums",
         "global Array.t<<32>> x = Array.create(2);

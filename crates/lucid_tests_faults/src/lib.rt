@@ -1,5 +1,5 @@
 // The table of failing calls: each form of words over files and sinks in memory, of which each opening, each read and each write fails in
-// turn, and what the program must leave then. It has no other code, and nothing stands on it.
+// turn, with the required output and status. It has no other code, and nothing depends on it.
 #![tactic(auto)]
 
 #[cfg(test)]

@@ -7,7 +7,7 @@ use lucid_top::{Status, lucid};
 use std::alloc::{AllocError, Global};
 use std::test::Fail;
 
-/// What fails, each by its number from 0: an opening or a read of a file, a write of the output, a write of the line of errors.
+/// The failures, each by its number from 0: an opening or a read of a file, a write of the output, a write of the line of errors.
 #[derive(Clone, Copy)]
 pub(crate) struct Faults {
     pub(crate) read: Option<u64>,
@@ -22,7 +22,7 @@ pub(crate) const NONE: Faults = Faults {
     tell: None,
 };
 
-/// What a call left.
+/// The results of a call.
 #[derive(Drop)]
 pub(crate) struct Ran {
     pub(crate) status: Status,
@@ -70,7 +70,7 @@ fn one(alloc: Global, number: Option<u64>) -> Result<Vec<u64>, AllocError> {
     }
 }
 
-/// The passes that the program hands in.
+/// The passes that the program uses.
 fn passes(alloc: Global) -> Result<Vec<Box<dyn Pass>>, AllocError> {
     let mut passes: Vec<Box<dyn Pass>> = Vec::new(alloc);
     passes.push(Box::new(alloc, Fold::new())?)?;

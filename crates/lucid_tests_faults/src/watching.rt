@@ -17,7 +17,7 @@ const ROWS: [(&str, usize, usize, u32, u32, u32); 4] = [
     ("bench 0 1", 4000, 28, 0, 0, 1),
 ];
 
-/// Whether in a sight that is told a packet was at place `k`.
+/// Returns whether a packet was at place `k` in a specified sight.
 fn was_taken(watch: &MemWatch, sight: usize, k: u32) -> bool {
     match watch.count() {
         Some(count) => sight < count && watch.taken(sight, k),
@@ -25,7 +25,7 @@ fn was_taken(watch: &MemWatch, sight: usize, k: u32) -> bool {
     }
 }
 
-/// Whether the call of these words shows what the row says.
+/// Returns whether the call of these words shows the sights of the row.
 fn shows(
     alloc: Global,
     line: &str,

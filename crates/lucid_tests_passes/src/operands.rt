@@ -1,4 +1,4 @@
-// What the passes put in for operands.
+// The operands that the passes insert.
 use crate::worked::{both_branches, computed};
 use lucid_code::{Act, Code, Op, Operand};
 use lucid_pass::{Copies, Fold, Pass};

@@ -94,7 +94,7 @@ pub fn both_branches(alloc: Global) -> Result<Option<Code>, Memory> {
     code(alloc, &widths, ops)
 }
 
-/// 44, which field 4 holds of 300 in 8 bits, through each act that computes, and what is sent and printed of it.
+/// Each act that computes on 44, which is 300 in the 8 bits of field 4, with its outs and prints.
 pub fn computed(alloc: Global) -> Result<Option<Code>, Memory> {
     let int = Width::int();
     let Some(byte) = Width::new(8) else {

@@ -1,4 +1,4 @@
-// Flights: packets that overlap, step by step, against what is worked by hand.
+// Flights: packets that overlap, step by step, compared with results worked by hand.
 ghost use Rattle.std.specs.Prelude.{◌≡◌, ◌<◌};
 ghost use Rattle.lucid_code.specs.Inputs.{IsInput};
 ghost use Rattle.lucid_tests_pipeline.specs.Totals.{totals};
@@ -8,8 +8,7 @@ use lucid_base::{Args, Event, Out};
 use lucid_pipe::{MemWatch, NoWatch, Passed, Pipe, Stuck, Watch};
 use std::test::Fail;
 
-/// What is done with a pipe: an event of this argument enters, the packet of a slot goes on, a look at the one cell of an array, and how
-/// many packets there are.
+/// A step: an event of this argument enters, the packet of a slot moves, a look at the one cell of an array, or a count of the packets.
 #[derive(Clone, Copy)]
 enum Step {
     Enter(u16),
@@ -18,7 +17,7 @@ enum Step {
     Count,
 }
 
-/// What came of it; of a packet that left, the two numbers that it told.
+/// The outcome of a step; of a packet that left, the two numbers that it printed.
 #[derive(Clone, Copy, Debug, PartialEq, Eq)]
 enum Came {
     In,
@@ -56,7 +55,7 @@ fn enter(pipe: &mut Pipe, argument: u16) -> Came
     }
 }
 
-/// The two numbers that a packet told, which entered at tick 7 and switch 1.
+/// The two numbers printed by a packet that entered at tick 7 and switch 1.
 fn told(passed: &Passed) -> Came {
     if passed.now != 7 || passed.me != 1 {
         return Came::Other;
@@ -148,7 +147,7 @@ fn the_second_packet_sees_the_first(rt: HostRuntime) -> Result<(), Fail> {
     Ok(())
 }
 
-/// Whether a packet was at place `k` in a sight that is told.
+/// Returns whether a packet was at place `k` in a specified sight.
 fn was_taken(watch: &MemWatch, sight: usize, k: u32) -> bool {
     match watch.count() {
         Some(count) => if sight < count {

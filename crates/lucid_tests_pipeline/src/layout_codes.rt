@@ -35,7 +35,7 @@ pub(crate) fn sum(a: u32, b: u32, to: u32) -> Act {
     )
 }
 
-/// The memop that gives what the cell holds.
+/// The memop that returns the cell.
 fn same() -> MemAlu {
     MemAlu {
         width: Width::int(),
@@ -45,7 +45,7 @@ fn same() -> MemAlu {
     }
 }
 
-/// A call that gives what a cell of an array holds, and leaves it.
+/// A call that returns a cell of an array and does not change it.
 pub(crate) fn get(array: u32, index: u64, to: Option<u32>) -> Act {
     Act::Touch {
         array,
@@ -81,7 +81,7 @@ fn arrays_of(alloc: Global, count: u32) -> Result<Vec<ArrayDef>, Memory> {
     Ok(arrays)
 }
 
-/// Code with one argument, so many fields of 32 bits, but for `bit`, which has one, and so many arrays.
+/// Code with one argument, `fields` fields of 32 bits, except `bit`, which has one, and this many arrays.
 pub(crate) fn code(
     alloc: Global,
     fields: u32,

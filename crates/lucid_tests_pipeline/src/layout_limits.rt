@@ -102,7 +102,7 @@ fn an_operation_that_never_acts_takes_no_row(rt: HostRuntime) -> Result<(), Fail
     Ok(())
 }
 
-/// So many operations without a guard.
+/// This many operations without a guard.
 fn many(alloc: Global, count: u32) -> Result<Option<Code>, Memory> {
     let mut ops = Vec::new(alloc);
     for at in 0..count.min(5_000) {

@@ -1,4 +1,4 @@
-// What `place` answers, as a text: for each table its stage, its number and the operations of each row, and for each stage its arrays.
+// The result of `place` as a text: for each table its stage, its number and the operations of each row, and for each stage its arrays.
 use lucid_base::Memory;
 use lucid_code::Code;
 use lucid_conf::limits_of;
@@ -60,7 +60,7 @@ fn cause(alloc: Global, error: FitError) -> Result<String, Memory> {
     }
 }
 
-/// What `place` answers of a code within the limits that a text writes.
+/// The result of `place` for a code within the limits of a text.
 pub(crate) fn layout(alloc: Global, code: &Option<Code>, limits: &[u8]) -> Result<String, Memory> {
     let Some(code) = code else {
         return Ok(format!(in alloc; "no code")?);

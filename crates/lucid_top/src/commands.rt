@@ -1,4 +1,4 @@
-// The commands, one file each, and the one match over them. A command prepares what is to be written, or refuses, and then writes it.
+// The commands, one file each, and the one match over them. A command prepares its output, or refuses, and then writes it.
 ghost use Rattle.std.specs.Prelude.{◌≡◌, ◌<◌, length};
 ghost use Rattle.lucid_top_fit.specs.Passes.{PassesRun, passes_view};
 ghost use Rattle.lucid_top_words.specs.Command.{HasCount, files_of};

@@ -28,7 +28,7 @@ use lucid_pipe::Watch;
 use lucid_top_words::{Command, NamedFile, Refusal, Status, read_files, refuse};
 use std::alloc::Global;
 
-/// Does what the words ask for, on these files: writes the answer to `out`, or the reason why there is none to `err`.
+/// Runs the command of the words on these files: writes the answer to `out`, or the reason why there is none to `err`.
 pub fn lucid<F: Files, W: Sink, E: Sink, V: Watch>(
     alloc: Global,
     words: &[String],
@@ -53,7 +53,8 @@ pub fn lucid<F: Files, W: Sink, E: Sink, V: Watch>(
           seen' = V.seen watch.new;
         }) (err' err.old) (err' err.new) result }
 
-    // The headline: what the rules accept and first fit places is run on pipelines with the log of handlers that run whole, one event after another.
+    // The headline: an accepted program that first fit places runs on pipelines with the log of handlers that run whole, one event after
+    // another.
     ensures whole { (names texts : Three) → Hold (F.held files.old) names texts → (a : Accepted texts) →
         Unfailed F.faults files.old files.new words.now → ¬ Rose (W.faults out.old) (W.faults out.new) →
         bytes_of words.now ≡ run_whole names → Wrote W.written W.faults out.old out.new result (network_log a) }
@@ -71,12 +72,12 @@ pub fn lucid<F: Files, W: Sink, E: Sink, V: Watch>(
         (f : FirstFitPlaces (passes_view called gives count passes.old.items) a) →
         Unfailed F.faults files.old files.new words.now → ¬ Rose (W.faults out.old) (W.faults out.new) →
         bytes_of words.now ≡ drive names → Wrote W.written W.faults out.old out.new result (steps_log f) }
-    // and a snapshot that is taken stage by stage after so many steps holds the cells of the handlers of all events that had entered
+    // and a snapshot that is taken stage by stage after some steps has the cells of the handlers of all events that had entered
     ensures snapped { (names texts : Three) → Hold (F.held files.old) names texts → (a : Accepted texts) →
         (f : FirstFitPlaces (passes_view called gives count passes.old.items) a) → (word : List ℕ) (steps : ℕ) → number_of word ≡ Some steps →
         Unfailed F.faults files.old files.new words.now → ¬ Rose (W.faults out.old) (W.faults out.new) →
         bytes_of words.now ≡ snap names word → Wrote W.written W.faults out.old out.new result (snapshot_log f steps) }
-    // and what happens in the pipes is shown: after each tick the pipe of each switch
+    // and a watch is shown the pipes: after each tick the pipe of each switch
     ensures shown { (names texts : Three) → Hold (F.held files.old) names texts → (a : Accepted texts) →
         (f : FirstFitPlaces (passes_view called gives count passes.old.items) a) → bytes_of words.now ≡ run_pipe names →
         result ≡ Status.Ok → ShowsAll (V.seen watch.old) (V.seen watch.new) (sights_of (ready_of f)) }
@@ -92,7 +93,7 @@ pub fn lucid<F: Files, W: Sink, E: Sink, V: Watch>(
         (f : FirstFitPlaces (passes_view called gives count passes.old.items) a) → bytes_of words.now ≡ drive names →
         result ≡ Status.Ok → ShowsAll (V.seen watch.old) (V.seen watch.new) (steps_sights f) }
 
-    // What words, files and passes determine is answered: the status, the bytes of `out`, the line of `err`.
+    // Words, files and passes determine the answer: the status, the bytes of `out`, the line of `err`.
     ensures status { let q = asked words.now (F.held files.old) (passes_view called gives count passes.old.items) in
         IsDetermined result → (o : Outcome) → Answers q o → result ≡ outcome_status o }
     ensures out { let q = asked words.now (F.held files.old) (passes_view called gives count passes.old.items) in
@@ -108,7 +109,7 @@ pub fn lucid<F: Files, W: Sink, E: Sink, V: Watch>(
         (text : List ℕ) → Answers q (Ok text) → Unfailed F.faults files.old files.new words.now →
         ¬ Rose (W.faults out.old) (W.faults out.new) → (result ≡ Status.Ok) ⊎ (result ≡ Status.Memory) }
 
-    // when each fault comes; a file that is told is one that the words name
+    // when each fault comes; a file that is reported is one that the words name
     ensures read_fault { result ≡ Status.ReadFault → (file : NamedFile) × Names words.now file ×
         Rose (F.faults files.old (name_of words.now file)) (F.faults files.new (name_of words.now file)) ×
         Said E.written E.faults err.old err.new (line_of (bytes_of words.now) (Refusal.ReadFault file.word)) }
@@ -118,7 +119,7 @@ pub fn lucid<F: Files, W: Sink, E: Sink, V: Watch>(
         (result ≡ Status.TooLong) ⊎ (result ≡ Status.Memory) }
     ensures write_fault { result ≡ Status.WriteFault → Rose (W.faults out.old) (W.faults out.new) }
 
-    // what was written: at a write fault a proper prefix, at want of memory a prefix, at every other refusal nothing
+    // the written bytes: at a write fault a proper prefix, when out of memory a prefix, at every other refusal nothing
     ensures cut { let q = asked words.now (F.held files.old) (passes_view called gives count passes.old.items) in
         result ≡ Status.WriteFault → (text : List ℕ) → Answers q (Ok text) → PutsPart W.written W.faults out.old out.new text }
     ensures memory { let q = asked words.now (F.held files.old) (passes_view called gives count passes.old.items) in
@@ -131,11 +132,12 @@ pub fn lucid<F: Files, W: Sink, E: Sink, V: Watch>(
         Said E.written E.faults err.old err.new (line_of (bytes_of words.now) r) }
     ensures unsaid { result ≡ Status.Ok → Keeps (E.written err.old) (E.written err.new) }
 
-    // the passes are the same as before, each with its name and its meaning; a watch tells after the call only where it told before
+    // the passes are the same as before, each with its name and its meaning; the sights of a watch are specified after the call only if
+    // they were before
     ensures passes { let seen = passes_view called gives count in SamePasses (seen passes.old.items) (seen passes.new.items) }
     ensures told { ToldBefore (V.seen watch.old) (V.seen watch.new) }
 
-    // what stays as it was: the files, if the words name none; no file that the words don't name is ever begun
+    // the unchanged parts: the files, if the words name none; no file that the words don't name is ever begun
     ensures unread { named_files words.now ≡ [] → files.new ≡ files.old }
     ensures tries { (name : List ℕ) → F.tried files.new name → F.tried files.old name ⊎ IsNamed words.now name }
     ensures held { SameHeld (F.held files.old) (F.held files.new) }

@@ -1,4 +1,4 @@
-// The refusals by which the errors of the parts are told.
+// The refusals for the errors of the parts.
 ghost use Rattle.std.specs.Prelude.{◌≡◌, IfOk};
 ghost use Rattle.lucid_top_fit.specs.Causes.{array_name, of_audit, of_count, of_fit, of_inline, of_key, of_plan};
 
@@ -20,7 +20,7 @@ pub(crate) fn of_inline(error: InlineError) -> Refusal
     }
 }
 
-/// An array is told by its name, which takes memory.
+/// An array is reported by its name, which takes memory.
 pub(crate) fn of_fit(alloc: Global, core: &Core, error: FitError) -> Result<Refusal, Memory>
     ensures { IfOk result (λ r. r ≡ of_fit core.now error) }
 {

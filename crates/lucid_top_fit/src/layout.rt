@@ -20,7 +20,7 @@ use lucid_tables::Placed;
 use lucid_top_words::Refusal;
 use std::alloc::Global;
 
-/// Placed code, and what went on the way to it.
+/// Placed code, and the number of operations that each pass removed.
 #[derive(Drop)]
 pub struct Fitting {
     pub placed: Placed,
@@ -28,9 +28,9 @@ pub struct Fitting {
     pub gone: Vec<u64>,
 }
 
-/// An accepted program in the stages of a target: its normal form, what the passes make of it, and where first fit places that
-/// (`IsFitted` of specs/Fit); `NoFit` with the first cause where there is no such place. What is placed does at every event what the
-/// program does.
+/// Fits an accepted program into the stages of a target: its normal form, the result of the passes, and the layout of that by first fit
+/// (`IsFitted` of specs/Fit); `NoFit` with the first cause if there is no layout. The placed code has at every event the effect of the
+/// program.
 pub fn fitted(
     alloc: Global,
     core: &Core,
@@ -58,8 +58,8 @@ pub fn fitted(
     })
 }
 
-/// Where first fit places the code of a program (`IsPlaced` of specs/Fit), and else `NoFit` with the first cause. Where nodes follow
-/// what they read, a node has no place only because no stage has room for it.
+/// Places the code of a program by first fit (`IsPlaced` of specs/Fit); `NoFit` with the first cause if there is no layout. If nodes
+/// follow their reads, a node has no place only because no stage has room for it.
 pub fn placed(alloc: Global, core: &Core, limits: &Limits, code: &Code) -> Result<Placed, Refusal>
     requires { AreLimits limits.now }
     ensures placed { Prepares (IsPlaced core.now limits.now code.now) (λ p. p) result }

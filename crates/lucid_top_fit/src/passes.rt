@@ -17,10 +17,10 @@ use lucid_pass::{Pass, lists_keep_the_laws, run_passes_told};
 use lucid_top_words::Refusal;
 use std::alloc::Global;
 
-/// The normal form of a program has at most so many operations.
+/// The most operations of the normal form of a program.
 const MOST_OPS: usize = 4_096;
 
-/// What passes make of the normal form of a program.
+/// The code that passes make of the normal form of a program.
 #[derive(Drop)]
 pub struct Composition {
     /// The code behind the last pass.
@@ -29,9 +29,8 @@ pub struct Composition {
     pub gone: Vec<u64>,
 }
 
-/// What the passes make of the normal form of an accepted program (`IsComposed` of specs/Fit): `NoFit` where a count of the program
-/// passes its bound, found before anything is built, and then no pass runs. The code may stand in place of the normal form, whatever
-/// the passes are.
+/// Applies the passes to the normal form of an accepted program (`IsComposed` of specs/Fit); `NoFit` if a count of the program exceeds
+/// its bound, found before anything is built, and then no pass runs. For any passes, the code may replace the normal form.
 pub fn composed(
     alloc: Global,
     core: &Core,

@@ -48,9 +48,8 @@ pub fn plan(alloc: Global, text: &[u8], code: &Code) -> Result<Plan, Refusal>
     }
 }
 
-/// The placed code of these places (`IsAudited` of specs/Placing), for code that may stand in place of the program's normal form and
-/// whose counts keep their limits; `Placement` with the first rule that the places break. What is placed does at every event what the
-/// program does.
+/// Audits these places (`IsAudited` of specs/Placing), for code that may replace the program's normal form and whose counts keep their
+/// limits; `Placement` with the first rule that the places break. The placed code has at every event the effect of the program.
 pub fn audited(
     alloc: Global,
     core: &Core,

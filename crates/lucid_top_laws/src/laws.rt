@@ -17,8 +17,8 @@ use lucid_pass_spec::passes_keep_nodes;
 use lucid_pipe::moves_are_passes;
 use lucid_tables::Placed;
 
-/// A law: of an accepted program that first fit places, behind whatever passes, one packet through all stages leaves the cells and sends what
-/// the handler does that runs whole.
+/// A law: if first fit places an accepted program after any passes, one packet through all stages leaves the cells and sends the outs of
+/// the handler that runs whole.
 pub fn fits_run_whole(core: &Core)
     ensures { IsAccepted core.now → FitsRunWhole core.now }
 {
@@ -46,8 +46,8 @@ pub fn audits_run_whole(core: &Core)
     events_have_32_bits(core.handlers());
 }
 
-/// A law: first fit refuses a node of an accepted program only where a limit is exceeded, if the passes keep each node behind what it reads;
-/// and the four passes of the program do.
+/// A law: first fit refuses a node of an accepted program only if a limit is exceeded, if the passes keep each node after its reads; and
+/// the four passes of the program do.
 pub fn refused_for_room(core: &Core)
     ensures room { IsAccepted core.now → RefusedForRoom core.now }
     ensures ours { OursKeepNodes }
@@ -60,15 +60,15 @@ pub fn refused_for_room(core: &Core)
     events_have_32_bits(core.handlers());
 }
 
-/// A law: so it is in all placed code that stands for a program, whoever placed it.
+/// A law: the same holds for all placed code that represents a program, however it was placed.
 pub fn placements_run_whole(placed: &Placed)
     ensures { (core : CoreParts) → StandsFor placed.now.code core → RunsWhole placed.now core }
 {
     let _code = placed.code();
 }
 
-/// A law, serializability: on a pipeline of placed code that stands for a program, packets may move in any order. Cells and outs are those of the
-/// entered events run whole, one after another, in the order of entry.
+/// A law, serializability: on a pipeline of placed code that represents a program, packets may move in any order. Cells and outs are
+/// those of the entered events run whole, one after another, in the order of entry.
 pub fn moves_run_whole(placed: &Placed)
     ensures { (core : CoreParts) → StandsFor placed.now.code core → placed.now.code.arrays ≡ core.arrays → MovesRunWhole placed.now core }
 {

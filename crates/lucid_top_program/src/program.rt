@@ -40,7 +40,7 @@ fn accepted_source(alloc: Global, text: &[u8], source: Source) -> Result<Core, R
     }
 }
 
-// The program of a text as it stands.
+// The program of a text without templates.
 fn accepted_text(alloc: Global, text: &[u8]) -> Result<Core, Refusal>
     ensures program { Prepares (IsRead text.now) (λ core. core) result }
     ensures accepted { IfOk result IsAccepted }

@@ -74,7 +74,7 @@ fn as_written(text: &[u8], tokens: Vec<Token>) -> Source
     Source::AsWritten(tokens)
 }
 
-// The expansion of a text of these tokens, written anew.
+// The expansion of a text of these tokens, written out.
 fn expanded_whole(alloc: Global, text: &[u8], tokens: &[Token]) -> Result<Source, Refusal>
     requires { IsTheAnswer (AreTokens text.now) (Ok tokens.now) }
     ensures source { Prepares (IsExpanded text.now tokens.now) (text_of text.now) result }

@@ -1,4 +1,4 @@
-// What the words of a call ask for, read by place.
+// The command of the words of a call, read by place.
 ghost use Rattle.std.specs.Prelude.{◌≡◌, ◌+◌, ◌<◌, ◌^◌, All, IfSome, length, map, string_bytes};
 ghost use Rattle.lucid_top_words.specs.Command.{HasCount, audit_words, bench_words, command_of, check_words, drive_words, expand_words};
 ghost use Rattle.lucid_top_words.specs.Command.{gen_words, kind_of, layout_words, once_words, snap_words};
@@ -7,7 +7,7 @@ ghost use Rattle.lucid_top_words.specs.Command.{placed_mode as placed_mode_of, r
 use crate::number::{arguments, count, number};
 use lucid_base::Args;
 
-/// What the words ask for. The words that it reads again are told by place.
+/// The command of the words. Words that it reads again are given by place.
 #[derive(Clone, Copy)]
 pub enum Command {
     /// `check P`
@@ -173,7 +173,7 @@ const AUDIT_FILES: [NamedFile; 3] = [
 ];
 
 impl Command {
-    /// What the words ask for; None where they are none of the forms. Each word that names a file is there.
+    /// The command of the words; None if they are none of the forms. Each word that names a file exists.
     pub fn read(words: &[String]) -> Option<Command>
         ensures command { result ≡ command_of (map string_bytes words.now) }
         ensures there { IfSome result (λ c. All (λ file. file.word < length words.now) (files_of c)) }
@@ -349,7 +349,7 @@ fn gen_kind(word: &str) -> Option<GenKind>
     }
 }
 
-// What `run` does in this mode with a placement.
+// The `run` command of this mode with a placement.
 fn placed_mode(mode: &str) -> Option<Command>
     ensures command { result ≡ placed_mode_of mode.now }
     ensures there { IfSome result (λ c. All (λ file. file.word < 6) (files_of c)) }
@@ -361,7 +361,7 @@ fn placed_mode(mode: &str) -> Option<Command>
     }
 }
 
-// What `run` does in this mode.
+// The `run` command of this mode.
 fn run_mode(mode: &str) -> Option<Command>
     ensures command { result ≡ mode_of mode.now }
     ensures there { IfSome result (λ c. All (λ file. file.word < 5) (files_of c)) }

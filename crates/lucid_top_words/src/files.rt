@@ -30,7 +30,7 @@ pub fn read_files<F: Files>(
     Ok(texts)
 }
 
-// Reads one named file, and adds what it holds to the texts.
+// Reads one named file, and adds its content to the texts.
 fn read_next<F: Files>(
     alloc: Global,
     files: &mut F,

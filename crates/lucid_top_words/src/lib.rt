@@ -1,8 +1,8 @@
-// The words of a call, and what comes of it: what they ask for, the files that they name, read in word order, and why there may be no
+// The words of a call, and its outcome: the command, the files that the words name, read in word order, and the reason for missing
 // output, with its status and its line. A part of the work `Prepares` something or refuses, and one part follows another (specs/Outcome).
-// It promises that the words are read by place (specs/Command), that the files are read as specs/Files says, of which all that is said of
-// statuses 2 and 3 comes, and that the line of a refusal is the one of specs/Refusal. Stands on lucid_io for files and sinks, lucid_log for
-// what is written, and on lucid_types_spec and lucid_conf for what a refusal names.
+// The words are read by place (specs/Command). The files are read as specs/Files defines, from which all claims about statuses 2 and 3
+// follow. The line of a refusal is the one of specs/Refusal. Depends on lucid_io for files and sinks, lucid_log for written text, and on
+// lucid_types_spec and lucid_conf for the content of refusals.
 #![tactic(auto)]
 
 mod command;

@@ -55,7 +55,7 @@ fn put_line<E: Sink>(err: &mut E, words: &[String], refusal: &Refusal) -> Result
     }
 }
 
-// A line that tells the file which the word of this number names.
+// Writes a line with the file that the word of this number names.
 fn put_file<'a, E: Sink>(
     err: &mut E,
     head: &'a [u8],
@@ -77,7 +77,7 @@ fn put_file<'a, E: Sink>(
     )
 }
 
-/// A line that tells a name.
+/// Writes a line with a name.
 pub(crate) fn put_name<'a, E: Sink>(
     err: &mut E,
     head: &'a [u8],
@@ -92,7 +92,7 @@ pub(crate) fn put_name<'a, E: Sink>(
     )
 }
 
-/// A line that tells a number.
+/// Writes a line with a number.
 pub(crate) fn put_count<'a, E: Sink>(
     err: &mut E,
     head: &'a [u8],
@@ -107,7 +107,7 @@ pub(crate) fn put_count<'a, E: Sink>(
     )
 }
 
-// The line that tells a key of a scenario, and of a list the bad item.
+// Writes the line with a key of a scenario, and of a list the bad item.
 fn put_scene_key<E: Sink>(err: &mut E, key: Key, place: Option<u32>) -> Result<(), WriteFault>
     ensures all { OnOk result (PutsAll E.written E.faults err.old err.new (scene_line key place)) }
     ensures part { OnErr result (PutsPart E.written E.faults err.old err.new (scene_line key place)) }
@@ -127,7 +127,7 @@ fn put_scene_key<E: Sink>(err: &mut E, key: Key, place: Option<u32>) -> Result<(
     }
 }
 
-// The line that tells a declaration that the typing rules refuse, and then the limit.
+// Writes the line with a declaration that the typing rules refuse, and then the limit.
 fn put_types<'a, E: Sink>(
     err: &mut E,
     decl: u32,
@@ -150,7 +150,7 @@ fn put_types<'a, E: Sink>(
     )
 }
 
-// A limit, as the line tells it.
+// The name of a limit in the line.
 fn limit_text(what: What) -> &'static [u8]
     ensures { result.now ≡ limit_of what }
 {
@@ -164,7 +164,7 @@ fn limit_text(what: What) -> &'static [u8]
     }
 }
 
-// The line that tells a declaration that isn't in order.
+// Writes the line with a declaration that isn't in order.
 fn put_order<E: Sink>(err: &mut E, decl: u32, line: u32, cycle: &[Id]) -> Result<(), WriteFault>
     ensures all { OnOk result (PutsAll E.written E.faults err.old err.new (order_line decl line cycle.now)) }
     ensures part { OnErr result (PutsPart E.written E.faults err.old err.new (order_line decl line cycle.now)) }

@@ -10,11 +10,11 @@ use lucid_io::{Sink, WriteFault};
 /// Why a program doesn't fit the pipeline of a limits file.
 #[derive(Drop)]
 pub enum NoFit {
-    /// Its handlers have more than 4,096 operations once calls are put in: so many.
+    /// After inlining its handlers have this many operations, more than 4,096.
     Ops(u64),
-    /// Its handlers have more than 262,144 statements and calls once calls are put in: so many.
+    /// After inlining its handlers have this many statements and calls, more than 262,144.
     Size(u64),
-    /// A packet carries more bits than `bits` allows: so many.
+    /// A packet carries this many bits, more than `bits` allows.
     Bits(u64),
     /// The first array that has more calls than `arms` allows.
     Arms(Id),

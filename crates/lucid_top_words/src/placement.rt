@@ -22,7 +22,7 @@ pub enum BadPlacement {
     Item(u32),
     /// The stage or the table of this node, from 0, isn't there.
     Range(u32),
-    /// This node doesn't stand in a stage above all nodes that write what it reads.
+    /// This node is not in a stage above all nodes that write its reads.
     Early(u32),
     /// A table has more rows than `rows` allows, or a product on the way to it.
     Rows {
@@ -66,7 +66,7 @@ impl BadPlacement {
     }
 }
 
-// A line that tells a number between two texts.
+// Writes a line with a number between two texts.
 fn put_place<'a, E: Sink>(
     err: &mut E,
     head: &'a [u8],

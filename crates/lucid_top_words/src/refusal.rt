@@ -13,7 +13,7 @@ use lucid_io::{Take, WriteFault};
 use lucid_types_spec::What;
 use std::alloc::AllocError;
 
-/// Why there is no output, or only a part of it, with what its line tells.
+/// The reason for missing or partial output, with the content of its line.
 #[derive(Drop)]
 pub enum Refusal {
     /// The words are none of the forms, or the event's name and arguments fit no event.

@@ -1,7 +1,7 @@
-// The elaborator: the core of a tree. `elaborate` answers exactly where the typing rules derive one, with that core, which is valid;
-// else it tells the first declaration that is refused, its line, and the limit that it passes, if it has a rule.
-// Stands on lucid_types_declarations for what each declaration makes, on lucid_types_limits for the limits, and on lucid_types_spec, lucid_types_laws and
-// lucid_types_laws for what the rules say of the whole.
+// The elaborator: the core of a tree. `elaborate` succeeds exactly if the typing rules derive a core, with that core, which is valid;
+// otherwise it reports the first declaration that is refused, its line, and the limit that it exceeds, if any. Depends on
+// lucid_types_declarations for the result of each declaration, on lucid_types_limits for the limits, and on lucid_types_spec and
+// lucid_types_laws for the rules of the whole.
 #![tactic(auto)]
 
 mod depth;

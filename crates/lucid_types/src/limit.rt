@@ -12,8 +12,8 @@ use lucid_types_laws::declarations_are_computed;
 use lucid_types_limits::{Limits, only_the_new_counts};
 use lucid_types_spec::What;
 
-/// What this declaration passes, which made what is known the last. Where it passes none, Memory is told of blocks of it that stand too deep in one
-/// another; what asks the limits takes no more stack for them.
+/// The limit that the newest declaration exceeds, if any. If none, returns `Memory` when its blocks nest deeper than `MOST`. Checking
+/// limits does not recurse.
 pub fn passed(limits: &mut Limits, known: &Known, x: &DeclKind) -> Result<Option<What>, Memory>
     ensures { Judges result x.now (made_of known.now) limits.old limits.new }
 {
@@ -24,7 +24,7 @@ pub fn passed(limits: &mut Limits, known: &Known, x: &DeclKind) -> Result<Option
     Ok(passed)
 }
 
-/// The limit alone, however deep its blocks stand in one another.
+/// The limit alone, for any depth of its blocks.
 fn newest_passes(limits: &mut Limits, known: &Known, x: &DeclKind) -> Result<Option<What>, Memory>
     ensures { Judges result x.now (made_of known.now) limits.old limits.new }
 {
@@ -69,7 +69,7 @@ fn newest_passes(limits: &mut Limits, known: &Known, x: &DeclKind) -> Result<Opt
     }
 }
 
-/// Tells Memory where blocks of this declaration, which made what is known the last, stand too deep in one another.
+/// Returns Memory if blocks of the newest declaration nest too deep.
 fn is_shallow(known: &Known, x: &DeclKind) -> Result<(), Memory> {
     match x {
         DeclKind::Handle { .. } => match newest(&known.handlers) {

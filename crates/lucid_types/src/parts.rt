@@ -1,4 +1,4 @@
-// The core of what was made.
+// The core of the typed declarations.
 ghost use Rattle.std.specs.Prelude.{◌≡◌};
 ghost use Rattle.lucid_core.specs.Valid.{IsValid};
 ghost use Rattle.lucid_types_spec.specs.Declaration.{parts_of};
@@ -7,7 +7,7 @@ ghost use Rattle.lucid_types_declarations.specs.Known.{made_of};
 use lucid_core::Core;
 use lucid_types_declarations::Known;
 
-/// The core of what is known.
+/// The core of the known declarations.
 pub fn core_of(known: Known) -> Core
     requires { IsValid (parts_of (made_of known)) }
     ensures { result ≡ parts_of (made_of known) }

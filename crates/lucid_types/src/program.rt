@@ -22,8 +22,8 @@ use lucid_types_scope::next;
 use lucid_types_spec::the_first_refusal_is_found;
 use std::alloc::Global;
 
-/// The core of the tree, where the rules derive one; else the first declaration that is refused, and why. A tree has one of the two.
-/// The answer is the same whatever the seed of the tables, which is the text of the tree.
+/// Elaborates the tree into its core, if the rules derive one; otherwise reports the first declaration that is refused, and why. A tree
+/// has one of the two. The answer is the same for any seed of the tables; the seed is the text of the tree.
 pub fn elaborate(alloc: Global, seeded: Seeded, tree: &Tree) -> Result<Core, TypeError>
     ensures typed { IfOk result (λ core. IsTyped tree.now core) }
     ensures refused { IfErr result (Tells tree.now) }
@@ -42,7 +42,7 @@ pub fn elaborate(alloc: Global, seeded: Seeded, tree: &Tree) -> Result<Core, Typ
     Ok(core_of(known))
 }
 
-/// Adds what declaration `number` makes behind what is known, which the rules derive of the declarations before.
+/// Adds declaration `number` to the known ones, which the rules derive from the declarations before.
 fn add(
     alloc: Global,
     known: &mut Known,

@@ -13,7 +13,7 @@ use lucid_parse_tree::{Decl, DeclKind};
 use lucid_types_expressions::Fault;
 use std::alloc::Global;
 
-/// Adds what declaration `number` makes behind what is known. NoRule where it makes nothing.
+/// Adds declaration `number` to the known ones. NoRule if no rule derives it.
 pub fn declare(alloc: Global, known: &mut Known, number: u32, x: &Decl) -> Result<(), Fault>
     ensures { Declares result known.new (declaration number x.now.line x.now.kind (made_of known.old)) }
 {

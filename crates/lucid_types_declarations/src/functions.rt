@@ -63,7 +63,7 @@ pub fn fun(
     Ok(())
 }
 
-/// What a written answer is; None is void.
+/// The type of a written answer; None is void.
 fn answer_of(answer: &Option<Ty>) -> Result<Option<ValueType>, Fault>
     ensures { Gives result (answer_of answer.now) }
 {

@@ -1,4 +1,4 @@
-// What is known while declarations are typed.
+// The known names and parts while declarations are typed.
 ghost use Rattle.std.specs.Prelude.{◌≡◌, ◌∷◌, OnOk};
 ghost use Rattle.lucid_types_spec.specs.Declaration.{start};
 ghost use Rattle.lucid_types_spec.specs.Names.{called};
@@ -11,7 +11,7 @@ use lucid_types_scope::{Numbering, Scope, Texts};
 use lucid_types_spec::{Entry, Named};
 use std::alloc::Global;
 
-/// The names in scope, what is numbered, and the parts of the core so far. The numbered locals are those of the last body.
+/// The names in scope, the numbered locals and texts, and the parts of the core so far. The numbered locals are those of the last body.
 #[derive(Drop)]
 pub struct Known {
     pub scope: Scope,
@@ -43,7 +43,7 @@ impl Known {
     }
 }
 
-/// Adds a name with what it stands for.
+/// Adds a name with its entry.
 pub fn enter(alloc: Global, scope: &mut Scope, n: &Id, entry: Entry) -> Result<(), Memory>
     ensures { OnOk result (scope.new ≡ called n.now entry ∷ scope.old) }
 {

@@ -88,7 +88,7 @@ fn memop_body(alloc: Global, scope: &Scope, width: Width, body: &[S]) -> Result<
     }
 }
 
-/// An if, whose second branch may stand behind it.
+/// An if, whose second branch may follow it as statements.
 fn chosen(
     alloc: Global,
     scope: &Scope,

@@ -1,4 +1,4 @@
-// Expressions: each function gives what the typing function gives of its form.
+// Expressions: each function returns the result of the typing function for its form.
 ghost use Rattle.std.specs.Prelude.{◌≡◌, map};
 ghost use Rattle.lucid_types_spec.specs.Operators.{arithmetic, comparison, logic};
 ghost use Rattle.lucid_types_spec.specs.Types.{stated};
@@ -333,7 +333,7 @@ pub fn call(
     }
 }
 
-/// What is given for these parameters, one for each.
+/// The arguments for these parameters, one for each.
 #[cycle(expression)]
 pub fn given(alloc: Global, scope: &Scope, params: &[Param], xs: &[E]) -> Result<Arguments, Fault>
     ensures { Gives result (given_all params.now (map reading xs.now) scope.now) }

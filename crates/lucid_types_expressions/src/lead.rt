@@ -52,7 +52,7 @@ fn call_lead(scope: &Scope, x: &A) -> Option<u64>
     }
 }
 
-/// The width of a free place where this stands: 32 where each leaf is a number.
+/// The width of a free place with this expression: 32 if each leaf is a number.
 pub fn free_width(scope: &Scope, x: &E) -> u64
     ensures { result ≡ or_32 ((reading x.now).lead scope.now) }
 {

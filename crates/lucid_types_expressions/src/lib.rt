@@ -1,5 +1,5 @@
-// The cores of expressions: what the typing function gives at a place that asks for a type and at a free place, or that it gives none.
-// Stands on lucid_base, lucid_parse_tree, lucid_core, lucid_types_spec, lucid_types_laws and lucid_types_scope.
+// The cores of expressions: the result of the typing function at a place that requires a type and at a free place, or none. Depends on
+// lucid_base, lucid_parse_tree, lucid_core, lucid_types_spec, lucid_types_laws and lucid_types_scope.
 #![tactic(auto)]
 
 mod array;

@@ -1,4 +1,4 @@
-// What names stand for.
+// The meaning of names.
 ghost use Rattle.std.specs.Prelude.{◌≡◌};
 ghost use Rattle.lucid_types_spec.specs.Names.{seen};
 ghost use Rattle.lucid_types_laws.specs.Lead.{array_lead, int_width, named_lead};

@@ -1,4 +1,4 @@
-// The last step of each form: what is tested once its parts have cores, and the node. They stand outside the cycle of expressions.
+// The last step of each form: the tests after its parts have cores, and the node. They are outside the cycle of expressions.
 ghost use Rattle.std.specs.Prelude.{◌≡◌, Some};
 ghost use Rattle.lucid_types_spec.specs.Names.{seen};
 ghost use Rattle.lucid_types_laws.specs.Reading.{cast_core, hash_of, name_core, number_core, touch_value, value_of};
@@ -62,7 +62,7 @@ pub fn truth(b: bool, t: ValueType) -> Result<Expr, Fault>
     }
 }
 
-/// What has 32 bits.
+/// An expression of 32 bits.
 pub fn word(c: Expr, t: ValueType) -> Result<Expr, Fault>
     ensures { Gives result (word_core c t) }
 {

@@ -1,4 +1,4 @@
-// Types, stated widths, and what the signs between two operands are.
+// Types, stated widths, and the operators of the signs between two operands.
 ghost use Rattle.std.specs.Prelude.{◌≡◌};
 ghost use Rattle.lucid_types_spec.specs.Operators.{arithmetic, comparison, logic};
 ghost use Rattle.lucid_types_spec.specs.Types.{stated};

@@ -1,4 +1,4 @@
-// What a call is given.
+// The arguments of a call.
 use lucid_base::{ArrayName, Items};
 use lucid_core::Expr;
 

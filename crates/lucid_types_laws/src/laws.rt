@@ -1,7 +1,7 @@
 // The laws of the typing function. Each is a function that does nothing and ensures it.
 ghost use Rattle.lucid_types_laws.specs.Laws.{ComputesBlocks, ComputesDeclarations, ComputesExpressions, DecidesPrograms};
 
-/// The function of expressions gives exactly what the rules derive.
+/// The function of expressions computes exactly the cores that the rules derive.
 pub fn expressions_are_computed()
     ensures { ComputesExpressions }
 {}
@@ -16,7 +16,7 @@ pub fn declarations_are_computed()
     ensures { ComputesDeclarations }
 {}
 
-/// A tree has a core exactly where the rules derive it, and otherwise the first declaration that is refused is told.
+/// A tree has a core exactly if the rules derive it, and otherwise the first declaration that is refused is reported.
 pub fn programs_are_decided()
     ensures { DecidesPrograms }
 {}

@@ -3,8 +3,8 @@ use lucid_base::Items;
 use lucid_core::{Expr, Stmt};
 use lucid_types_spec::Body;
 
-/// What a statement is to those behind it: steps of its own, or a test with a first branch that always returns, whose second branch is
-/// all that stands behind.
+/// The effect of a statement on those after it: steps of its own, or a test with a first branch that always returns, whose second branch
+/// is all the rest.
 #[derive(Drop)]
 pub enum Part {
     Does(Body),

@@ -8,8 +8,9 @@ ghost use Rattle.lucid_types_limits.specs.Tally.{in_turn, tally};
 use crate::tally::{Tally, outs};
 use lucid_core::{Expr, Stmt};
 
-/// Statements, behind functions of so many outs. What stands behind a return, and behind a case of a `match`, is the second branch of an `If` that
-/// ends its block. A loop goes along these, since a text may hold very many; all else is no deeper than a text may nest.
+/// Statements, given the most outs of each earlier function. The statements after a return and after a case of a `match` are the second
+/// branch of an `If` that ends its block. A loop follows these, since a text may have very many; all else is no deeper than a text may
+/// nest.
 #[cycle(body)]
 pub fn stmts(funs: &[u64], ss: &[Stmt]) -> Tally
     ensures { result ≡ in_turn stmt_outs stmt_few funs.now ss.now }
@@ -111,7 +112,7 @@ fn exprs(funs: &[u64], es: &[Expr]) -> Tally
     sum
 }
 
-/// The arguments of a call with the body put in.
+/// The arguments of an inlined call.
 #[cycle(body)]
 fn arguments(funs: &[u64], given: &[(u32, Expr)]) -> Tally
     ensures { result ≡ in_turn (λ g. expr_outs g.1) (λ g. expr_few g.1) funs.now given.now }

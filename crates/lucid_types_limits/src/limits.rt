@@ -13,7 +13,7 @@ use lucid_parse_tree::S;
 use lucid_types_spec::What;
 use std::alloc::Global;
 
-/// What is carried from declaration to declaration while no limit is passed: the greatest number of outs on a path of each function so far.
+/// The state between declarations while no limit is exceeded: the greatest number of outs on a path of each function so far.
 #[derive(Drop)]
 pub struct Limits {
     pub outs: Vec<u64>,
@@ -29,7 +29,7 @@ impl Limits {
         }
     }
 
-    /// What a new array passes, with which there are so many.
+    /// The limit exceeded by one more array, given the new total.
     pub fn array(arrays: usize) -> Option<What>
         ensures { result ≡ array_passes arrays }
     {
@@ -40,7 +40,7 @@ impl Limits {
         }
     }
 
-    /// What a new event passes.
+    /// The limit exceeded by a new event.
     pub fn event(event: &EventDef) -> Option<What>
         ensures { result ≡ event_passes event.now }
     {
@@ -51,7 +51,7 @@ impl Limits {
         }
     }
 
-    /// What a new handler passes, whose body in the tree is this.
+    /// The limit exceeded by a new handler with this body in the tree.
     #[tactic(auto, using(crate::proofs::Passing::body_limits_are))]
     pub fn handler(&self, handler: &HandlerDef, body: &[S]) -> Option<What>
         ensures { result ≡ handler_passes self.now.outs.items handler.now body.now }
@@ -59,7 +59,7 @@ impl Limits {
         body_passes(stmts(self.outs.as_slice(), handler.body.as_slice()), body)
     }
 
-    /// What a new function passes, whose body in the tree is this. If it passes no limit, it stands behind the functions so far from then on.
+    /// The limit exceeded by a new function with this body in the tree. If it exceeds none, it is added to the functions so far.
     #[tactic(auto, using(crate::proofs::Passing::body_limits_are))]
     pub fn fun(&mut self, fun: &FunDef, body: &[S]) -> Result<Option<What>, Memory>
         ensures passed { IfOk result (λ w. w ≡ fun_passes self.old.outs.items fun.now body.now) }
@@ -80,7 +80,7 @@ impl Limits {
     }
 }
 
-/// What a body of the tree passes, with the tally of its core.
+/// The limit exceeded by a body of the tree, with the tally of its core.
 fn body_passes(tally: Tally, body: &[S]) -> Option<What>
     ensures { result ≡ first_passed (tally_limits tally body.now) }
 {

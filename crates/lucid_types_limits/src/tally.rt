@@ -1,4 +1,4 @@
-// What is found of a part of a body.
+// The counts of a part of a body.
 ghost use Rattle.std.specs.Prelude.{◌≡◌, ◌+◌, ◌&&◌, ℕ, Bool, true, max, nat_le};
 ghost use Rattle.lucid_types_limits.specs.Tally.{tally};
 
@@ -9,7 +9,7 @@ pub struct Tally {
     pub few: bool,
 }
 
-/// Of a part with so many outs and no arguments.
+/// The tally of a part with this many outs and no arguments.
 #[tactic(auto, unfolding(crate::specs::Tally::tally))]
 pub fn outs(outs: u64) -> Tally
     ensures { result ≡ tally outs true }
@@ -44,7 +44,7 @@ impl Tally {
         }
     }
 
-    /// The parts of a call of so many arguments, which may have this many.
+    /// The tally of a call's parts, with `args` arguments of at most `most`.
     #[tactic(auto, unfolding(crate::specs::Tally::tally))]
     pub fn at_most(self, args: usize, most: usize) -> Tally
         ensures { (m : ℕ) (a : Bool) → self ≡ tally m a → result ≡ tally m (nat_le args most && a) }

@@ -1,4 +1,4 @@
-// Whether numbers are told apart: those of the cases of a `match`, and the members of a group.
+// Whether numbers are distinct: those of the cases of a `match`, and the members of a group.
 ghost use Rattle.std.specs.Prelude.{◌≡◌, IfOk};
 ghost use Rattle.lucid_core.specs.Numbers.{are_distinct};
 
@@ -7,7 +7,7 @@ use lucid_seed::{Seed, Seeded};
 use std::alloc::Global;
 use std::collections::HashSet;
 
-// What makes the hashers of a table of these numbers.
+// Makes the hashers of a table of these numbers.
 fn seeded_by(numbers: &[u64]) -> Seeded {
     let mut seed = Seed::new();
     for number in numbers {
@@ -16,7 +16,7 @@ fn seeded_by(numbers: &[u64]) -> Seeded {
     seed.hashers()
 }
 
-/// Whether no number stands twice. They are the seed of their table, so that numbers which collide in it can't be chosen beforehand.
+/// Returns whether no number occurs twice. The numbers are the seed of their table, so colliding ones can't be chosen beforehand.
 #[tactic(auto, using(crate::proofs::Apart::one_more, crate::proofs::Apart::twice, crate::proofs::Apart::first_of))]
 pub fn are_distinct(alloc: Global, numbers: &[u64]) -> Result<bool, Memory>
     ensures { IfOk result (λ distinct. distinct ≡ are_distinct numbers.now) }

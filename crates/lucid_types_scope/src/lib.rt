@@ -1,6 +1,6 @@
-// What is known on the way while a program is typed: the names in scope, each found as the rules see it, by a table that is
-// seeded by the program's text, and gone with the end of its block; the locals and texts that are numbered; numbers of 32 bits for what
-// is counted. Stands on lucid_base, lucid_seed, lucid_core and lucid_types_spec.
+// The environment while a program is typed: the names in scope, each found as the rules see it, by a table that is seeded by the
+// program's text, and removed at the end of its block; the numbered locals and texts; and counts as numbers of 32 bits. Depends on
+// lucid_base, lucid_seed, lucid_core and lucid_types_spec.
 #![tactic(auto)]
 
 mod distinct;

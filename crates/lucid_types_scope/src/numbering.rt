@@ -1,4 +1,4 @@
-// What is numbered on the way through a body.
+// The locals and texts that a body numbers.
 ghost use Rattle.std.specs.Prelude.{◌≡◌, IfOk, OnOk, length};
 ghost use Rattle.lucid_types_spec.specs.Block.{one_local};
 ghost use Rattle.lucid_types_scope.specs.Numbered.{numbered_of};

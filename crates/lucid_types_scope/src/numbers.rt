@@ -1,10 +1,10 @@
-// Numbers of 32 bits for what is counted. No memory holds more things than there are numbers, so the answer past the last one is want
-// of memory.
+// Counts as numbers of 32 bits. No memory holds more things than there are numbers, so a count past the last one is reported as out of
+// memory.
 ghost use Rattle.std.specs.Prelude.{◌≡◌, ◌+◌, IfOk};
 
 use lucid_base::Memory;
 
-/// The number of the next of so many.
+/// The number of the next item of a list of this length.
 pub fn number(len: usize) -> Result<u32, Memory>
     ensures { IfOk result (λ number. number ≡ len) }
 {

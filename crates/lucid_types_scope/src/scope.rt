@@ -12,8 +12,8 @@ use lucid_types_spec::{Entry, Named};
 use std::alloc::Global;
 use std::marker::Model;
 
-/// The names in scope, which contracts see as the rules do: the newest first. The table of names is seeded by the text
-/// that they stand in, so that names which collide in it can't be chosen beforehand.
+/// The names in scope. Contracts see them as the rules do: the newest first. The table of names is seeded by the text that contains them,
+/// so colliding names can't be chosen beforehand.
 #[derive(Drop)]
 pub struct Scope {
     alloc: Global,
@@ -53,7 +53,7 @@ impl Scope {
         }
     }
 
-    /// What the name stands for: its newest declaration.
+    /// The entry of the name: its newest declaration.
     pub fn find(&self, name: &Id) -> Option<&Entry>
         ensures { option_copied result ≡ seen name.now self.now }
     {

@@ -9,7 +9,7 @@ pub struct Body {
     pub ending: Ending,
 }
 
-/// What a `generate` sends. Where a delay and a locate are both written, `delay_first` says that the delay is the inner one.
+/// The event of a `generate`. If a delay and a locate are both written, `delay_first` says that the delay is the inner one.
 #[derive(Drop)]
 pub struct Sending {
     pub event: u32,

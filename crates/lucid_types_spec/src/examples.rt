@@ -1,4 +1,4 @@
-// The rules on what is worked by hand: a program, forms with their cores and limits, and what breaks one rule each.
+// The rules on examples worked by hand: a program, forms with their cores and limits, and texts that break one rule each.
 ghost use Rattle.lucid_types_spec.specs.Accepted.{HidingNames, PassedLimits, SentEvents, TypedExpressions, TypedMemops, TypedStatements};
 ghost use Rattle.lucid_types_spec.specs.Examples.{worked, worked_core};
 ghost use Rattle.lucid_types_spec.specs.Makes.{IsTyped};

@@ -1,8 +1,8 @@
 // Laws over the rules, on functions that do nothing.
 ghost use Rattle.lucid_types_spec.specs.Found.{Determines, FindsFirst};
 
-/// Over any function that computes the rules of declarations, what is found of a tree one declaration after another is all that there is:
-/// its one core, or its one refusal, with declaration, line and limit.
+/// For any function that computes the rules of declarations, checking a tree one declaration after another finds its one core, or its one
+/// refusal, with declaration, line and limit.
 pub fn the_first_refusal_is_found()
     ensures found { FindsFirst }
     ensures determined { Determines }

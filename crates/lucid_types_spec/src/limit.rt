@@ -1,6 +1,6 @@
 // The limits on numbers of things.
 
-/// Of what there is too much in a declaration.
+/// The limit that a declaration exceeds.
 #[derive(Clone, Copy, Debug, PartialEq, Eq)]
 pub enum What {
     /// More than 64 arrays.

@@ -1,7 +1,7 @@
-// What names stand for.
+// The meaning of names.
 use lucid_base::{ArrayName, Bits, Id, Items, MemAlu, Width};
 
-/// What a value is: a number of this width, or a truth.
+/// The type of a value: a number of this width, or a truth.
 #[derive(Clone, Copy, Debug, PartialEq, Eq)]
 pub enum ValueType {
     Int(Width),
@@ -15,7 +15,7 @@ pub enum Param {
     Array(Width),
 }
 
-/// What a name stands for. Arrays, events, functions and locals go by their numbers in the core.
+/// The meaning of a name. Arrays, events, functions and locals are given by their numbers in the core.
 #[derive(Drop)]
 pub enum Entry {
     Constant(Bits),

@@ -15,7 +15,7 @@ use lucid_types_scope::{Numbering, Scope, are_distinct};
 use lucid_types_spec::Body;
 use std::alloc::Global;
 
-/// A number and what is done where it is met.
+/// A number and the body that runs for it.
 #[derive(Drop)]
 pub struct Arm {
     pub number: u64,
@@ -33,7 +33,7 @@ fn numbers(alloc: Global, cases: &[(u64, Items<S>)]) -> Result<Vec<u64>, Memory>
     Ok(numbers)
 }
 
-/// The choices between these arms on a local, and what is done where none is met.
+/// The choices between these arms on a local, and the body that runs if none is met.
 #[tactic(auto, using(crate::proofs::Chains::chained_last, std::proofs::lemmas::Grind::common_steps))]
 pub fn chain(
     alloc: Global,

@@ -16,7 +16,7 @@ use lucid_types_laws::Part;
 use lucid_types_spec::Body;
 use std::alloc::Global;
 
-/// What stands behind a statement: its steps, the last first.
+/// The rest after a statement: its steps, the last first.
 #[derive(Drop)]
 pub struct Rest {
     steps: Vec<Stmt>,
@@ -82,7 +82,7 @@ fn alone(alloc: Global, part: Part) -> Result<Rest, Fault>
     }
 }
 
-/// A part before what stands behind it. NoRule where it returns on some path.
+/// A part before the rest. NoRule if it returns on some path.
 fn before(alloc: Global, part: Part, rest: Rest) -> Result<Rest, Fault>
     ensures { GivesRest result (put part (Some (rest_of rest))) }
 {
@@ -144,7 +144,7 @@ pub fn either(first: Ending, second: Ending) -> Ending
     }
 }
 
-/// An if of these branches. Without a second one, what always returns is a guard of all that stands behind it.
+/// An if of these branches. Without a second one, a branch that always returns is a guard of all the rest.
 pub fn chosen(alloc: Global, test: Expr, yes: Body, no: Option<Body>) -> Result<Part, Memory>
     ensures { IfOk result (λ part. part ≡ chosen test yes no) }
 {

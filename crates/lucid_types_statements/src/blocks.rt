@@ -118,7 +118,7 @@ fn statements(
     Ok(parts)
 }
 
-/// A choice, with what follows its first block.
+/// A choice, with the part after its first block.
 #[cycle(block)]
 #[tactic(auto, using(crate::proofs::Kept::keeps_same, std::proofs::lemmas::Grind::common_steps))]
 fn choice(
@@ -138,7 +138,7 @@ fn choice(
     Ok(part)
 }
 
-/// What follows the first block of a choice.
+/// The part after the first block of a choice.
 #[cycle(block)]
 fn second(
     alloc: Global,
@@ -193,7 +193,7 @@ fn arms(
     Ok(arms)
 }
 
-/// What is done where no case is met.
+/// The body that runs if no case is met.
 #[cycle(block)]
 fn last_arm(
     alloc: Global,

@@ -1,6 +1,6 @@
-// The cores of statements, and of the bodies of handlers and functions that they make up: each as the typing function gives it, or that
-// it gives none. Statements without a block, what a `generate` sends, how statements and the arms of a `match` are put together, and
-// the one walk over a body (`block`).
+// The cores of statements, and of the bodies of handlers and functions that they make up: the result of the typing function, or none. It
+// has statements without a block, the event of a `generate`, the assembly of statements and of the arms of a `match`, and the one walk
+// over a body (`block`).
 #![tactic(auto)]
 
 mod arms;

@@ -3,7 +3,7 @@ ghost use Rattle.std.specs.Prelude.{◌≡◌};
 ghost use Rattle.lucid_core.specs.Texts.{holes_of};
 ghost use Rattle.lucid_types_statements.specs.Bodies.{is_hole};
 
-/// How often `%d` stands in a text.
+/// The number of `%d` in a text.
 #[tactic(auto, using(crate::proofs::Holes::holes_at, crate::proofs::Holes::no_holes, std::proofs::lemmas::Grind::common_steps))]
 pub fn holes(text: &[u8]) -> usize
     ensures { result ≡ holes_of text.now }

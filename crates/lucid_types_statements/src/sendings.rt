@@ -1,4 +1,4 @@
-// What a `generate` sends.
+// The event of a `generate`.
 ghost use Rattle.std.specs.Prelude.{◌≡◌, IfOk, map};
 ghost use Rattle.std.specs.Option.{option_copied};
 ghost use Rattle.lucid_types_spec.specs.Names.{seen};
@@ -17,7 +17,7 @@ use lucid_types_scope::Scope;
 use lucid_types_spec::{Destination, Entry, Param, Sending, ValueType};
 use std::alloc::Global;
 
-/// What is sent, and where to. NoRule where the tree has none.
+/// The event and its destination. NoRule if the tree has none.
 pub fn sending(alloc: Global, scope: &Scope, x: &V) -> Result<Sending, Fault>
     ensures { Gives result (sending_of x.now scope.now) }
 {
@@ -141,7 +141,7 @@ fn members<'a>(scope: &'a Scope, y: &E) -> Option<&'a [u32]>
     }
 }
 
-/// What is sent, as a statement of a core.
+/// The event as a statement of a core.
 pub fn sent(sending: Sending) -> Stmt
     ensures { result ≡ sent sending }
 {

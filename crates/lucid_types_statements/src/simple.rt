@@ -93,7 +93,7 @@ pub fn drop_touch(alloc: Global, scope: &Scope, x: &A) -> Result<Stmt, Fault>
     Ok(Stmt::Drop(Expr::Array(Boxed::new(alloc, c)?)))
 }
 
-/// What is sent out.
+/// A `generate` statement.
 pub fn generate(alloc: Global, scope: &Scope, x: &V) -> Result<Stmt, Fault>
     ensures { Gives result (generated x.now scope.now) }
 {

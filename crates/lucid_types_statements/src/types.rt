@@ -7,7 +7,7 @@ use lucid_base::Width;
 use lucid_parse_tree::Ty;
 use lucid_types_spec::ValueType;
 
-/// What a written type is. None where its width is none.
+/// The meaning of a written type. None if its width is none.
 pub fn type_of(t: Ty) -> Option<ValueType>
     ensures { result ≡ type_of t }
 {

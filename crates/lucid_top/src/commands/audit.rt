@@ -1,4 +1,4 @@
-// `audit P L Q`: the placement of a file, told as a layout where it is accepted.
+// `audit P L Q`: the placement of a file, printed as a layout if it is accepted.
 ghost use Rattle.std.specs.Prelude.{◌≡◌, ◌<◌, IfOk, length};
 ghost use Rattle.lucid_top_fit.specs.Passes.{PassesRun, passes_view};
 ghost use Rattle.lucid_top_words.specs.Files.{texts_in};

@@ -1,4 +1,4 @@
-// `check P`: what the program declares, where it is accepted.
+// `check P`: the declarations of the program, if it is accepted.
 ghost use Rattle.std.specs.Prelude.{◌≡◌, OnOk, OnErr, Ok, length};
 ghost use Rattle.lucid_io.specs.Puts.{PutsAll, PutsPart};
 ghost use Rattle.lucid_top.specs.Check.{CheckAnswers, counts_line};

@@ -1,4 +1,4 @@
-// `drive P L T`: the steps of a scenario on one pipeline. What is written is the log of handlers that run whole; the watch is shown the pipe
+// `drive P L T`: the steps of a scenario on one pipeline. The output is the log of handlers that run whole; the watch is shown the pipe
 // after each step.
 ghost use Rattle.std.specs.Prelude.{◌≡◌, Ok, length};
 ghost use Rattle.lucid_drive.specs.Drive.{drive_log};

@@ -1,5 +1,5 @@
-// Texts that are generated from a number: `gen KIND SEED N` writes one, and `bench SEED N` runs all three on pipelines and tells the log in
-// one line.
+// Texts that are generated from a number: `gen KIND SEED N` writes one, and `bench SEED N` runs all three on pipelines and summarizes the
+// log in one line.
 ghost use Rattle.std.specs.Prelude.{◌≡◌, ◌<◌, ◌∷◌, [], IfErr, IfOk, Ok};
 ghost use Rattle.lucid_gen.specs.Limits.{limits_text};
 ghost use Rattle.lucid_gen.specs.Program.{program_text};
@@ -53,7 +53,7 @@ fn made(alloc: Global, kind: GenKind, seed: u64, events: u32) -> Result<Vec<u8>,
     }
 }
 
-/// Runs the network of the generated texts, as `run pipe` does, and writes the line that tells its log.
+/// Runs the network of the generated texts, as `run pipe` does, and writes the line that summarizes its log.
 pub fn bench<W: Sink, V: Watch>(
     alloc: Global,
     seed: u64,
@@ -106,7 +106,7 @@ fn texts(alloc: Global, seed: u64, events: u32) -> Result<Vec<Vec<u8>>, Memory>
     Ok(texts)
 }
 
-// What is told of the log of the network. A log that has more bytes than 64 bits can number counts as want of memory.
+// The tally of the log of the network. A log that has more bytes than 64 bits can number counts as out of memory.
 fn tallied<V: Watch>(alloc: Global, ready: &Ready, watch: &mut V) -> Result<Tally, Refusal>
     requires { ReadyKeeps ready.now }
     ensures log { IfOk result (λ tally. tally.bytes ≡ log (network_of (ready_view ready.now))) }

@@ -1,4 +1,4 @@
-// `layout P L`: what first fit places in the stages of a target, and how many operations went in each pass on the way to it.
+// `layout P L`: first fit in the stages of a target, and the number of operations that each pass removed before.
 ghost use Rattle.std.specs.Prelude.{◌≡◌, ◌++◌, IfOk, Ok, OnOk, OnErr, length, map};
 ghost use Rattle.lucid_io.specs.Puts.{PutsAll, PutsPart};
 ghost use Rattle.lucid_top_fit.specs.Fit.{fit_view};
@@ -38,7 +38,7 @@ pub fn layout<W: Sink>(
     put_fit(alloc, out, names.as_slice(), &pipes.fitted)
 }
 
-/// Writes the lines of the passes of these names, and those of what is placed.
+/// Writes the lines of the passes of these names, and those of the layout.
 pub fn put_fit<W: Sink>(
     alloc: Global,
     out: &mut W,

@@ -1,4 +1,5 @@
-// A target and what passes make of its program, of which the counts keep their limits; and the places that a file gives to its nodes.
+// A target and the code that passes make of its program, of which the counts keep their limits; and the places that a file assigns to its
+// nodes.
 ghost use Rattle.std.specs.Prelude.{◌≡◌, ◌<◌, IfOk, length};
 ghost use Rattle.lucid_pass_spec.specs.Replace.{MayReplace};
 ghost use Rattle.lucid_top_fit.specs.Fit.{RunsOn, made_view, normal_of};
@@ -17,7 +18,7 @@ use lucid_top_words::Refusal;
 use std::alloc::Global;
 
 impl Measured {
-    /// What the passes make of the program of the first text, of which the counts keep the limits of the second.
+    /// Prepares the code that the passes make of the program of the first text, of which the counts keep the limits of the second.
     pub fn read(
         alloc: Global,
         texts: &[Vec<u8>],

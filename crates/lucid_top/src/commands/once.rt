@@ -18,7 +18,7 @@ use lucid_top_program::accepted;
 use lucid_top_words::{Refusal, word_bytes};
 use std::alloc::Global;
 
-/// Writes what the event of the third word does in the program of this text, with these arguments.
+/// Writes the effect of the event of the third word in the program of this text, with these arguments.
 pub fn once<W: Sink>(
     alloc: Global,
     words: &[String],
@@ -35,7 +35,7 @@ pub fn once<W: Sink>(
     Ok(())
 }
 
-/// What an event did: the program, the event, what it sent out, and the cells after it.
+/// The effect of an event: the program, the event, its outs, and the cells after it.
 #[derive(Drop)]
 struct Ran {
     core: Core,
@@ -46,7 +46,7 @@ struct Ran {
     ghost outs_fit: { All (λ out. IsTrue (out_fits core out)) outs },
 }
 
-// What the event of this name does in the program of this text.
+// Prepares the effect of the event of this name in the program of this text.
 fn prepare(alloc: Global, text: &[u8], name: &[u8], arguments: Option<Args>) -> Result<Ran, Refusal>
     ensures { Prepares (OnceAnswers text.now name.now arguments) (λ r. shown r.core r.event r.outs r.cells) result }
 {
@@ -55,7 +55,7 @@ fn prepare(alloc: Global, text: &[u8], name: &[u8], arguments: Option<Args>) -> 
     run(alloc, core, event)
 }
 
-// What the event does, if there is one.
+// Runs the event, if there is one.
 fn run(alloc: Global, core: Core, event: Option<Event>) -> Result<Ran, Refusal>
     requires { IfSome event (λ e. IsTrue (event_fits core e)) }
     ensures { Prepares (λ o. o ≡ ran core event) (λ r. shown r.core r.event r.outs r.cells) result }

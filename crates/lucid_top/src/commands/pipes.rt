@@ -1,4 +1,4 @@
-// What commands over pipelines set up from the texts of their files: a program that is placed in the stages of a target, and a scenario.
+// The setup of commands over pipelines from the texts of their files: a program that is placed in the stages of a target, and a scenario.
 ghost use Rattle.std.specs.Prelude.{◌<◌, IfOk, length};
 ghost use Rattle.lucid_top_fit.specs.Fit.{RunsOn};
 ghost use Rattle.lucid_top_fit.specs.Passes.{PassesRun, passes_view};
@@ -35,7 +35,7 @@ impl Pipes {
     }
 }
 
-// First fit places what the passes make of the program.
+// Places the code that the passes make of the program by first fit.
 fn placed_in(
     alloc: Global,
     target: Target,

@@ -1,4 +1,4 @@
-// What commands set up from the texts of their files. What is known of it beside its text is in specs/Held.
+// The setup of commands from the texts of their files. Its relation to the texts is in specs/Held.
 use lucid_conf::{Limits, Scene};
 use lucid_core::Core;
 use lucid_top_fit::{Composition, Fitting};
@@ -10,7 +10,7 @@ pub struct Target {
     pub limits: Limits,
 }
 
-/// What a network runs, under which limits, and where and when.
+/// The program of a network, its limits and its scenario.
 #[derive(Drop)]
 pub struct Network {
     pub target: Target,
@@ -31,7 +31,7 @@ pub struct Ready {
     pub scene: Scene,
 }
 
-/// A target, and what passes make of its program.
+/// A target, and the code that passes make of its program.
 #[derive(Drop)]
 pub struct Measured {
     pub target: Target,

@@ -1,4 +1,4 @@
-// `snap P L T K`: the steps of a scenario on one pipeline, and a snapshot that is taken after so many of them while packets move.
+// `snap P L T K`: the steps of a scenario on one pipeline, and a snapshot that is taken after K of them while packets move.
 ghost use Rattle.std.specs.Prelude.{◌≡◌, Ok, length};
 ghost use Rattle.lucid_snap.specs.Log.{snap_log};
 ghost use Rattle.lucid_top_fit.specs.Passes.{PassesRun, passes_view};
