@@ -19,7 +19,7 @@ EXCEPTIONS = TESTS / "house.exceptions"
 # Dialect words in 1,000 words, and the percentage of sentences over 30 words, at most. Lower them as the text gets better.
 ENGLISH: Dict[str, Tuple[float, float]] = {
     "docs": (8, 3),
-    "readmes": (31, 7),
+    "readmes": (8, 3),
     "src": (34, 2),
     "specs": (36, 1),
     "proofs": (54, 1),
