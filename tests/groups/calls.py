@@ -1,12 +1,14 @@
 """Makes all calls that the README and the guides show, and compares their output, error lines included.
 
-Fails on a page that shows another output than the program and the tools print. Sees no exit status unless the page prints it.
+Fails on a page that shows another output than the program and the tools print, and on a file that two pages write: a reader makes the
+calls of all pages in one folder, in any order. Sees no exit status unless the page prints it.
 """
 from __future__ import annotations
 
-import shutil
+import re
+from collections import Counter
 from pathlib import Path
-from typing import Dict, List, Tuple
+from typing import Dict, List, Set, Tuple
 
 from harness import PROGRAM, TOP, Group, call
 
@@ -21,6 +23,9 @@ def run(group: Group) -> None:
     for page in filter(lambda it: (TOP / it).exists(), PAGES):
         # The README's calls go through the script itself.
         check_page(group, page, lucid if page == "README.md" else group.options.program)
+    count = Counter(name for page in PAGES for name in written(page))
+    shared = sorted(name for name, pages in count.items() if pages > 1)
+    group.check("each file that a page writes has a name of its own", not shared, shared)
     drive = group.room / "TOUR.md/drive.svg"
     group.check("docs/drive.svg", drive.exists() and drive.read_bytes() == (TOP / "docs/drive.svg").read_bytes())
 
@@ -44,6 +49,12 @@ def parts(text: str) -> Tuple[Dict[str, str], List[Tuple[str, str]]]:
         elif is_output:
             calls[-1] = (calls[-1][0], calls[-1][1] + line)
     return files, calls
+
+
+def written(page: str) -> Set[str]:
+    """The names of the files that a page has, and of those that its calls make."""
+    files, calls = parts((TOP / page).read_text())
+    return set(files) | {name for command, _ in calls for name in re.findall(r"> (?!/)([\w.-]+)", command)}
 
 
 def check_page(group: Group, page: str, lucid: Path) -> None:
