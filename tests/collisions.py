@@ -189,14 +189,18 @@ def rows_of(program: str, count: int, room: str) -> List[Row]:
 
 
 def collisions(program: str, say: Callable[[str], None], count: int = COUNT) -> bool:
-    """Prints a line for each list of names; whether all stay within their bounds."""
+    """Prints a line of a table for each list of names; whether all stay within their bounds."""
     with tempfile.TemporaryDirectory() as room:
         rows = rows_of(program, count, room)
     good = True
+    say("| Names | Half, s | Whole, s | In the fullest group |")
+    say("|---|---|---|---|")
     for row in rows:
         why = row.fails(rows[0].whole)
         good = good and not why
-        say("%-42s %.3f s, half of it %.3f s, %d in the fullest group%s" % (row.what, row.whole, row.half, row.fullest, "".join(": " + w for w in why)))
+        say(f"| {row.what} | {row.half:.3f} | {row.whole:.3f} | {row.fullest} |")
+        for reason in why:
+            say(f"collisions: {row.what}: {reason}")
     return good
 
 
