@@ -11,6 +11,7 @@ import json
 import os
 import re
 import shutil
+import signal
 import subprocess
 import sys
 import tempfile
@@ -23,7 +24,7 @@ from typing import Any, Callable, Dict, List, Sequence, Tuple, Union
 TOP = os.path.dirname(os.path.dirname(os.path.abspath(__file__)))
 sys.path.insert(0, f"{TOP}/tools")
 from lucid_tools import files, network, printed, tokens  # noqa: E402
-from lucid_tools.words import Refused  # noqa: E402
+from lucid_tools.words import ANSWER, FILE, Refused  # noqa: E402
 
 Text = Union[str, bytes]
 
@@ -96,6 +97,10 @@ def where(t: Tests) -> None:
         t.call(f"where {words[1:]}", "", WHERE, 2, "tools/where", *words)
     t.call("where in no file", "", "where: none: it can not be read\n", 1, "tools/where", "none", "byte", "0")
     t.call("where in a folder", "", f"where: {t.room}: it can not be read\n", 1, "tools/where", t.room, "token", "1")
+    t.call("where in a file without an end", "", f"where: /dev/zero: it is longer than {FILE} bytes\n", 1, "tools/where", "/dev/zero", "token", "1")
+    empty = t.file("empty", "")
+    t.call("where in an empty file", "", f"where: {empty}: it has 0 tokens\n", 1, "tools/where", empty, "token", "1")
+    t.call("where byte 0 of an empty file is", "", f"where: {empty}: it has 0 bytes\n", 1, "tools/where", empty, "byte", "0")
     path = t.file("a file", '// \\ "\n  event\t$ e();')
     mark = f"{path}:2:9\n  event\t$ e();\n       \t^\n"
     t.call("where a byte is", mark, "", 0, "tools/where", path, "syntax:", "byte", "15")
@@ -223,6 +228,11 @@ def json_refusals(t: Tests) -> None:
         ran = t.run("tools/json", "log", given=text.encode())
         t.check(f"json refuses {text!r}", ran.returncode == 1 and ran.stdout == b"" and ran.stderr.decode().startswith(f"json: line {line} is "), ran)
     t.call("json of an empty log", "", "", 0, "tools/json", "log")
+    t.call("json of a file without an end", "", f"json: /dev/zero: it is longer than {ANSWER} bytes\n", 1, "tools/json", "log", "/dev/zero")
+    digits = f"[0] s0 e()\n  say {'9' * 30}\n".encode()
+    round_trip(t, "a text of digits", "log", digits)
+    t.check("cells without blocks", printed.read_cells(LOG.encode()) == printed.read_log(LOG.encode()).cells != [])
+    t.check("cells of a log without events", printed.read_cells(b"entered 0 lost 0 pending 3\n") == [])
     layout = answer_of(f"{TOP}/examples/nat.layout").decode()
     tables = layout[layout.index("stage"):]
     for kind, text in (("layout", ""), ("layout", tables), ("layout", layout + tables), ("layout", layout + "ops 1 bits 1 nodes 1\n"), ("layout", layout[:-1]), ("layout", LOG), ("log", layout),
@@ -270,6 +280,13 @@ def picture_words(t: Tests) -> None:
         t.call(f"picture {[os.path.basename(it) for it in words]}", "", PICTURE, 2, "tools/picture", *words)
     t.call("picture of no file", "", "picture: none: it can not be read\n", 1, "tools/picture", "log", limits, "none")
     t.call("picture of another text", "", "picture: line 1 is none of a log\n", 1, "tools/picture", "log", limits, scene, f"{TOP}/examples/first.luc")
+    t.call("picture of an empty log", "", "picture: the log has no last line `entered ..`: it is cut off, or no log of `run`\n", 1, "tools/picture", "log", limits, scene)
+    t.call("picture of an empty layout", "", "picture: the text is empty, and no layout\n", 1, "tools/picture", "layout", limits)
+    for at, words in enumerate((["log", "/dev/zero", scene], ["log", limits, "/dev/zero"], ["drive", limits, "/dev/zero"])):
+        t.call(f"picture of files without an end, {at}", "", f"picture: /dev/zero: it is longer than {FILE} bytes\n", 1, "tools/picture", *words)
+    t.call("picture by an empty scenario", "", "picture: the scenario file is no JSON\n", 1, "tools/picture", "log", limits, t.file("empty", ""))
+    deep = t.file("deep", "[" * 100000)
+    t.call("picture by a deep scenario", "", "picture: the scenario file is no JSON\n", 1, "tools/picture", "log", limits, deep)
     t.call("picture by other limits", "", "picture: the limits file has a key \"stop\"\n", 1, "tools/picture", "log", t.file("l", '{"stop":1}'), scene)
 
 
@@ -398,9 +415,12 @@ def data_of(page: bytes) -> Dict[str, Any]:
 
 def page_words(t: Tests) -> None:
     files_ = example("heavy")
-    for words in ([], files_[:2], [*files_, "more"], [*files_, "--cells"], [*files_, "--cells", "x"], [*files_, "--colour"]):
+    for words in ([], files_[:2], [*files_, "more"], [*files_, "--cells"], [*files_, "--cells", "x"], [*files_, "--cells", "²"], [*files_, "--colour"]):
         t.call(f"page {len(words)} words", "", PAGE, 2, "tools/page", *words)
     t.call("page of no file", "", "page: none: it can not be read\n", 1, "tools/page", "none", *files_[1:], "--lucid", t.program)
+    t.call("page of a program without an end", "", f"page: /dev/zero: it is longer than {FILE} bytes\n", 1, "tools/page", "/dev/zero", *files_[1:], "--lucid", t.program)
+    t.call("page by no program", "", "page: none: it can not be run\n", 1, "tools/page", *files_, "--lucid", "none")
+    t.call("page by another program", "", "page: line 1 is none of a log\n", 1, "tools/page", *files_, "--lucid", shutil.which("echo") or "echo")
     bad = t.file("bad.luc", "event e(")
     t.call("page of no program", "", "page: lucid run whole: syntax: token 1\n", 1, "tools/page", bad, *files_[1:], "--lucid", t.program)
     small = t.file("one.json", '{"stages":1}')
@@ -669,7 +689,30 @@ def script(t: Tests) -> None:
         t.check(f"lucid {words!r} is handed on", lucid(*words.split()).returncode == 70)
     t.check("a form calls the kit", called())
     t.check("a file without an end is cut", lucid("check", "/dev/zero").returncode == 70 and open(f"{top}/bin/sizes").read().split()[-1] == "8388609")
+    stopped(t, top)
     current(t, top, lucid)
+
+
+def stopped(t: Tests, top: str) -> None:
+    """A call that is stopped while it compiles leaves no file behind."""
+    room = t.path("left")
+    os.makedirs(f"{room}/bin")
+    os.makedirs(f"{room}/tmp")
+    with open(f"{room}/bin/rt", "w") as file:
+        file.write('#!/bin/sh\n: >"${0%/*}/called"\nexec sleep 60\n')
+    os.chmod(f"{room}/bin/rt", 0o755)
+    # A signal that this process ignores is given its usual effect again.
+    begin = "import os, signal, sys; signal.signal(signal.SIGINT, signal.SIG_DFL); os.execv(sys.argv[1], sys.argv[1:])"
+    env = {**os.environ, "PATH": f"{room}/bin:{os.environ['PATH']}", "TMPDIR": f"{room}/tmp"}
+    words = [sys.executable, "-c", begin, f"{top}/lucid", "check", f"{TOP}/examples/first.luc"]
+    process = subprocess.Popen(words, env=env, start_new_session=True, stdout=subprocess.DEVNULL, stderr=subprocess.DEVNULL)
+    for _ in range(600):
+        if os.path.exists(f"{room}/bin/called"):
+            break
+        time.sleep(0.05)
+    files_were = os.listdir(f"{room}/tmp")
+    os.killpg(process.pid, signal.SIGINT)
+    t.check("a stopped call leaves nothing", process.wait(60) == 130 and len(files_were) == 1 and os.listdir(f"{room}/tmp") == [], (process.returncode, files_were))
 
 
 def current(t: Tests, top: str, lucid: Callable[..., "subprocess.CompletedProcess[bytes]"]) -> None:
@@ -719,7 +762,8 @@ def plans(t: Tests) -> None:
     ran = t.run("tools/prove", "--plan", "4")
     found = re.match(r"([0-9]+) crates, ([0-9.]+) min of a processor, longest chain ([0-9.]+) min, with 4 jobs ([0-9.]+) min\n", ran.stdout.decode())
     t.check("the plan of four jobs is at most 25 minutes", found is not None and float(found[2]) / 4 <= float(found[4]) <= 25 and float(found[3]) <= float(found[4]), ran)
-    t.call("prove without words", "", "usage: tools/prove [--plan] JOBS\n", 2, "tools/prove")
+    for words in ([], ["0"], ["65"], ["--plan"], ["--plan", "²"], ["4", "4"]):
+        t.call(f"prove {words}", "", "usage: tools/prove [--plan] JOBS\n", 2, "tools/prove", *words)
 
 
 def run_tools(program: str, names: Sequence[str] = ()) -> Tuple[int, int]:

@@ -1,18 +1,26 @@
 """Unusual words of the program and of the script `lucid`.
 
-Fails on a script that cuts or joins words, that ends otherwise than the program, or that does not take the built program. Sees nothing of
-the texts that the words name.
+Fails on a script that cuts or joins words, that ends otherwise than the program, that does not take the built program, or that takes the
+sums of all sources in each call. Sees nothing of the texts that the words name.
 """
 from __future__ import annotations
 
-from harness import FIRST, TOP, Group, Word, call
+import resource
+from statistics import median
+from typing import Dict, List
 
+from harness import FIRST, PROGRAM, TOP, Group, Word, call
+
+# Calls that are measured, and the seconds of a processor that the script may add to one: three times its aim of 10 ms, for a busy machine.
+# The sums of all sources take 0.1 s.
+CALLS, MOST = 25, 0.03
 EIGHT = "event wide(int a, int b, int c, int d, int e, int f, int g, int h);"
 
 
 def run(group: Group) -> None:
     words_of_the_program(group)
     words_of_the_script(group, TOP / "lucid")
+    cost_of_the_script(group, TOP / "lucid")
 
 
 def words_of_the_program(group: Group) -> None:
@@ -37,3 +45,22 @@ def words_of_the_script(group: Group, lucid: Word) -> None:
     expect("nine arguments", ["once", wide, "wide", *eight, "9"], 1, b"", b"usage\n")
     expect("a name with a blank at its end", ["once", blank, "other"], 0, b"[0] s0 other()\n", b"")
     expect("an empty word", ["once", wide, ""], 1, b"", b"usage\n")
+
+
+def spent() -> float:
+    """The seconds of a processor that ended children took, in their code and in the system."""
+    usage = resource.getrusage(resource.RUSAGE_CHILDREN)
+    return usage.ru_utime + usage.ru_stime
+
+
+def cost_of_the_script(group: Group, lucid: Word) -> None:
+    """The median of the processor time of calls by the script, less that of the same calls of the program."""
+    took: Dict[Word, List[float]] = {lucid: [], PROGRAM: []}
+    for _ in range(CALLS):
+        for program, its in took.items():
+            before = spent()
+            call([program, "check", FIRST])
+            its.append(spent() - before)
+    cost = median(took[lucid]) - median(took[PROGRAM])
+    group.note(f"words: the script `lucid` adds {1000 * cost:.1f} ms of a processor to a call")
+    group.check(f"the script adds at most {1000 * MOST:.0f} ms", cost <= MOST, f"{1000 * cost:.1f} ms")

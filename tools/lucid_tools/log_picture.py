@@ -14,8 +14,8 @@ from .printed import Block, Said, Sent
 from .svg import LETTER, SMALL, Colours, Picture, width_of
 
 WIDEST = 1200
-# The texts of lanes, the lanes themselves, and the gap in which headings are repeated.
-LANES, GAP, HEADINGS = 620, 34, 800
+# The width of all lanes, and the height after which headings are repeated.
+LANES, HEADINGS = 620, 800
 
 
 @dataclass
@@ -65,7 +65,7 @@ class LogPicture:
             self.switches = sorted(it for it in choice.switches if it < scene.switches)
         self.is_part = len(self.shown) < len(trace.log.blocks)
         # Shown in columns, unless that is too wide.
-        self.is_wide = True
+        self.is_wide, self.is_tight = True, False
         self.set_slots()
         self.set_columns()
         if self.texts_end > WIDEST:
@@ -146,6 +146,8 @@ class LogPicture:
             self.column[switch] = x
             x += max(15.0, max(1, self.slots[switch]) * self.pitch + 6)
         self.texts = x + 14
+        places = list(self.column.values())
+        self.is_tight = any(right - left < 18 for left, right in zip(places, places[1:]))
 
     def text_x(self, it: Drawn) -> float:
         return self.column[it.block.switch] + self.slots[it.block.switch] * self.pitch + 4 if self.is_wide else self.texts
@@ -169,8 +171,8 @@ class LogPicture:
             for it in entering.get(tick, []):
                 y = max(y, row + 13, below.get(it.block.switch if self.is_wide else 0, 0))
             if tick in entering and y > heading:
-                y = max([y] + list(below.values())) + GAP
-                self.headings.append(y - GAP / 2 - 6)
+                y = max([y] + list(below.values())) + (44 if self.is_tight else 34)
+                self.headings.append(y - (28 if self.is_tight else 23))
                 heading = y + HEADINGS
             self.spots.append(y)
             row = y if tick in entering else row
@@ -286,13 +288,16 @@ class LogPicture:
         picture = self.picture
         right = self.texts_end if self.is_wide else self.texts - 8
         if y > 100:
-            picture.box(3, 0, y - 13, right, 18, 'fill="#fff" opacity="0.85"')
+            top = 23 if self.is_tight else 13
+            picture.box(3, 0, y - top, right, top + 5, 'fill="#fff" opacity="0.85"')
         picture.write(4, 20, y, "tick", "small grey")
-        for switch in self.switches:
+        for at, switch in enumerate(self.switches):
             if self.is_wide:
                 picture.write(4, self.column[switch], y, f"switch {switch}", "big")
             else:
-                picture.write(4, self.column[switch], y, str(switch), "small bold", title=f"switch {switch}")
+                # In tight lanes every second number is higher, so that neighbours do not touch.
+                higher = 10 if self.is_tight and at % 2 else 0
+                picture.write(4, self.column[switch], y - higher, str(switch), "small bold", title=f"switch {switch}")
 
     def draw_legend(self) -> None:
         picture = self.picture

@@ -148,11 +148,11 @@ class Lines:
         raise Refused(f"line {self.at + 1} is none of a {self.what}{': ' + why if why else ''}")
 
     def take(self, form: "re.Pattern[str]") -> Optional[Match[str]]:
-        """Reads the next line if it has this form and its numbers are below 2^64."""
+        """Reads the next line if it has this form and its numbers are below 2^64. The text of a `say` is no number, even if it is all digits."""
         if self.at >= len(self.lines) or self.is_cut and self.at == len(self.lines) - 1:
             return None
         found = form.fullmatch(self.lines[self.at])
-        if found is None or any(it and it.isdigit() and int(it) >= 2**64 for it in found.groups()):
+        if found is None or form is not SAY and any(it and it.isdigit() and int(it) >= 2**64 for it in found.groups()):
             return None
         self.at += 1
         return found
@@ -235,6 +235,16 @@ def read_log(text: bytes) -> Log:
             lines.refuse(f"{len(blocks)} entered and {lost} lost before it")
     lines.end()
     return Log(blocks, cells, (int(found[1]), int(found[2]), int(found[3])) if found else None)
+
+
+def read_cells(text: bytes) -> List[Cell]:
+    """Reads the cells of a log of `run` without its blocks, which takes less time. They follow the last line that is one of a block."""
+    block = max((b"\n" + text).rfind(start) for start in (b"\n[", b"\n  "))
+    lines = Lines(text[text.find(b"\n", block) + 1:] if block >= 0 else text, "log")
+    cells = lines.cells(False)
+    lines.need(END)
+    lines.end()
+    return cells
 
 
 def read_layout(text: bytes) -> Layout:

@@ -2,8 +2,8 @@
 import html
 from typing import Dict, List, Optional
 
-# A letter of the two fonts is this wide; labels are cut at so many letters.
-LETTER, SMALL, CUT = 7.25, 6.65, 40
+# A letter of the two fonts is this wide. Labels have at most CUT letters; a longer text keeps its last TAIL letters, which are arguments or a value.
+LETTER, SMALL, CUT, TAIL = 7.25, 6.65, 40, 12
 # None of the colours is near the red of what was lost.
 SHADES = "#4477aa #ee7733 #228833 #9955bb #3aa0c4 #b8960c #777777 #332288 #7a9a01 #994f00 #00897b #5c6bc0".split()
 RED = "#c00"
@@ -29,7 +29,7 @@ def number(x: float) -> str:
 
 def cut(text: str) -> str:
     """A label of at most CUT letters."""
-    return text if len(text) <= CUT else text[:CUT - 1] + "…"
+    return text if len(text) <= CUT else text[:CUT - TAIL - 1] + "…" + text[-TAIL:]
 
 
 def width_of(text: str, letter: float = LETTER) -> float:

@@ -1,7 +1,11 @@
 """How the tools read their words and files, and how they fail."""
 import os
+import re
 import sys
 from typing import List, NoReturn, Optional
+
+# `lucid` reads at most 8 MiB of a file. Its answers may be longer.
+FILE, ANSWER = 8 * 2**20, 256 * 2**20
 
 
 class Refused(Exception):
@@ -22,20 +26,26 @@ class Tool:
         print(f"{self.name}: {why}", file=sys.stderr)
         sys.exit(1)
 
-    def read(self, path: Optional[str]) -> bytes:
-        """Returns the bytes of a file, or of standard input if no path is given."""
-        if path is None:
-            return sys.stdin.buffer.read()
+    def read(self, path: Optional[str], most: int = FILE) -> bytes:
+        """Returns the bytes of a file, or of standard input if no path is given. Fails for more than `most` bytes, so no file is without an end."""
+        name = "standard input" if path is None else shown(path)
         try:
-            with open(path, "rb") as file:
-                return file.read()
-        except OSError:
-            self.fail(f"{shown(path)}: it can not be read")
+            with sys.stdin.buffer if path is None else open(path, "rb") as file:
+                text = file.read(most + 1)
+        except (OSError, ValueError):
+            self.fail(f"{name}: it can not be read")
+        if len(text) > most:
+            self.fail(f"{name}: it is longer than {most} bytes")
+        return text
+
+    def answer(self, path: Optional[str]) -> bytes:
+        """Returns the bytes of an answer of `lucid`."""
+        return self.read(path, ANSWER)
 
     def write(self, text: str) -> None:
         """Writes to standard output. If the reader has closed the pipe, the tool ends quietly with 1."""
         try:
-            sys.stdout.buffer.write(text.encode())
+            sys.stdout.buffer.write(text.encode("utf-8", "replace"))
             sys.stdout.buffer.flush()
         except BrokenPipeError:
             os.dup2(os.open(os.devnull, os.O_WRONLY), 1)
@@ -48,6 +58,11 @@ class Tool:
 def shown(path: str) -> str:
     """A path as it is printed: bytes that are not UTF-8 become question marks."""
     return path.encode("utf-8", "replace").decode()
+
+
+def number_of(word: str, most: int) -> Optional[int]:
+    """Returns the number that a word is in decimal digits, or None if it is no number of 0 to `most`."""
+    return int(word) if re.fullmatch("[0-9]{1,20}", word) and int(word) <= most else None
 
 
 def option(words: List[str], name: str) -> Optional[str]:
