@@ -31,10 +31,11 @@ TOP = Path(__file__).resolve().parent.parent
 sys.path[:0] = [str(TOP / 'tools'), str(TOP / 'tests')]
 from drawn_programs import Program  # noqa: E402
 from lucid_model import Answer, agrees, judge  # noqa: E402
-from lucid_model.answers import compose, deeply  # noqa: E402
-from lucid_model.code import contradicts  # noqa: E402
+from lucid_model.answers import deeply  # noqa: E402
+from lucid_model.code import Literal  # noqa: E402
 from lucid_model.json_files import Limits, read_limits  # noqa: E402
 from lucid_model.layout import FirstFit  # noqa: E402
+from lucid_model.passes import compose  # noqa: E402
 from lucid_model.refusals import Refused  # noqa: E402
 
 PROGRAM = TOP / 'crates/lucid_main/out/lucid_main'
@@ -248,6 +249,12 @@ class Tally:
 def command_of(words: List[str]) -> str:
     """The command of the words."""
     return ' '.join(words[:2]) if words[0] == 'run' else words[0]
+
+
+def contradicts(guard: Tuple[Literal, ...]) -> bool:
+    """Whether the literals of a guard never hold together."""
+    return any(a.field == b.field and (a.equal and b.equal and a.value != b.value or a.equal != b.equal and a.value == b.value)
+               for a in guard for b in guard)
 
 
 def look(case: Case, answer: Answer, seen: Counter) -> None:

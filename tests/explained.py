@@ -67,13 +67,13 @@ def same_place(report: Report, row: Row) -> bool:
     token = re.match(r'(syntax: nesting at|syntax:|sizes: broken at) token (\d+)', line)
     if token:
         at = lex(text)[int(token.group(2)) - 1].at
-        return (fault.others[0][0] if token.group(1) == 'syntax:' else fault.at) == at
+        return (fault.notes[0][0] if token.group(1) == 'syntax:' else fault.at) == at
     declaration = re.match(r'(types|order): declaration \d+ line (\d+)', line)
     if declaration and row.status == 5:
-        begin = fault.others[-1][0]
+        begin = fault.notes[-1][0]
         return text.count('\n', 0, begin) + 1 == int(declaration.group(2)) and begin <= fault.at
     if declaration:
-        return all(text.count('\n', 0, at) + 1 >= int(declaration.group(2)) for at, _ in fault.others)
+        return all(text.count('\n', 0, at) + 1 >= int(declaration.group(2)) for at, _ in report.explanation.words.notes)
     return True
 
 
@@ -84,8 +84,8 @@ def check_row(group: Any, row: Row) -> None:
     if not group.check(f'{row.name} is explained', made is not None and agrees(report.answer, row.status, row.out, row.err),
                        report.answer.err):
         return
-    group.check(f'{row.name} has a rule and a remedy', bool(made.problem and made.rule and made.remedy))
-    if row.status in PLACED and group.check(f'{row.name} has a place', made.place is not None, made.problem):
+    group.check(f'{row.name} has a rule and a remedy', bool(made.words.problem and made.words.rule and made.words.remedy))
+    if row.status in PLACED and group.check(f'{row.name} has a place', made.place is not None, made.words.problem):
         group.check(f'{row.name} shows its line', shows_its_line(report, row), made.place)
         group.check(f'{row.name} names the place of the refusal', same_place(report, row), made.lines())
 

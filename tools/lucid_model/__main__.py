@@ -2,7 +2,7 @@
 import os
 import sys
 
-from .answers import SCENARIO, answer
+from .answers import Answer, deeply, judge
 
 
 def read_file(name: bytes) -> bytes:
@@ -13,19 +13,19 @@ def read_file(name: bytes) -> bytes:
 
 def main() -> int:
     """Answers the words of the command line."""
-    status, out, err = answer([os.fsencode(word) for word in sys.argv[1:]], read_file)
+    made: Answer = deeply(lambda: judge([os.fsencode(word) for word in sys.argv[1:]], read_file))
     try:
-        sys.stdout.buffer.write(out)
+        sys.stdout.buffer.write(made.out)
         sys.stdout.buffer.flush()
     except (OSError, ValueError):
         os.dup2(os.open(os.devnull, os.O_WRONLY), 1)
-        status, err = 10, b'write fault\n'
+        made = Answer(10, b'', b'write fault\n')
     try:
-        sys.stderr.buffer.write(err)
+        sys.stderr.buffer.write(made.err)
         sys.stderr.buffer.flush()
     except (OSError, ValueError):
         pass
-    return status
+    return made.status
 
 
 if __name__ == '__main__':

@@ -1,39 +1,43 @@
 """The answer of a call: its words, then its files in word order, and what is asked of each (docs/ERRORS.md)."""
 import sys
 import threading
-from dataclasses import dataclass
-from typing import Callable, List, Optional, Sequence, Tuple, Union
+from dataclasses import dataclass, field
+from typing import Callable, Dict, List, Optional, Sequence, Tuple, Union
 
 from . import gen, interpret, log
 from .audit import audit, read_plan
 from .code import Code
-from .core import Core, fnv
+from .core import Core
 from .declarations import elaborate
 from .drive import drive
 from .expand import Expanded, expand
-from .inline import check_counts
-from .json_files import read_limits, read_scene
+from .json_files import read_limits
 from .layout import check_code, fit, layout_text
 from .lexer import Token, lex
 from .network import Network
 from .nodes import nodes_of
-from .normal import normal
 from .order import check_order
 from .parser import parse
-from .passes import run_passes
-from .refusals import Refused, usage
+from .passes import compose
+from .refusals import Fault, Refused
+from .scenes import read_scene
+from .values import fnv
 
-Word = Union[bytes, str]
+Word = Union[str, bytes]
 ReadFile = Callable[[bytes], bytes]
-PROGRAM, SCENARIO = 1048576, 8388608
-# The files of each form of words, with the numbers of the words that name them and their limits.
-FILES = {'check': [(1, PROGRAM)], 'once': [(1, PROGRAM)], 'expand': [(1, PROGRAM)], 'layout': [(1, PROGRAM), (2, PROGRAM)],
-         'run whole': [(2, PROGRAM), (3, PROGRAM), (4, SCENARIO)], 'run pipe': [(2, PROGRAM), (3, PROGRAM), (4, SCENARIO)],
-         'run placed': [(2, PROGRAM), (3, PROGRAM), (4, SCENARIO), (5, SCENARIO)],
-         'drive': [(1, PROGRAM), (2, PROGRAM), (3, SCENARIO)], 'snap': [(1, PROGRAM), (2, PROGRAM), (3, SCENARIO)],
-         'audit': [(1, PROGRAM), (2, PROGRAM), (3, SCENARIO)], 'gen': [], 'bench': []}
-COUNTS = {'check': 2, 'expand': 2, 'layout': 3, 'run whole': 5, 'run pipe': 5, 'run placed': 6, 'drive': 4, 'snap': 5, 'audit': 4,
-          'gen': 4, 'bench': 3}
+MOST_BYTES = {'program': 1048576, 'limits': 1048576, 'scenario': 8388608, 'placement': 8388608}
+NETWORK = ('program', 'limits', 'scenario')
+# The files of each form of words, which follow the command, and how many numbers follow them; `once` has an event and its arguments.
+FORMS = {('check',): (NETWORK[:1], 0), ('once',): (NETWORK[:1], None), ('expand',): (NETWORK[:1], 0), ('layout',): (NETWORK[:2], 0),
+         ('run', 'whole'): (NETWORK, 0), ('run', 'pipe'): (NETWORK, 0), ('run', 'placed'): (NETWORK + ('placement',), 0),
+         ('drive',): (NETWORK, 0), ('snap',): (NETWORK, 1), ('audit',): (NETWORK[:2] + ('placement',), 0),
+         ('gen', 'program'): ((), 2), ('gen', 'limits'): ((), 2), ('gen', 'scene'): ((), 2), ('bench',): ((), 2)}
+MOST_EVENTS = 10000
+
+
+def usage(problem: str) -> Refused:
+    """Returns the refusal of words that are no form (docs/ERRORS.md, 1 usage)."""
+    return Refused(1, 'usage', Fault('usage', None, problem), 'words')
 
 
 def number_of(word: str) -> int:
@@ -44,31 +48,49 @@ def number_of(word: str) -> int:
     return int(word)
 
 
-def command_of(words: List[str]) -> Tuple[str, List[int]]:
-    """Returns the form of the words, and the numbers among them."""
-    command = ' '.join(words[:2]) if words[:1] == ['run'] else ''.join(words[:1])
-    if command not in FILES or command != 'once' and len(words) != COUNTS[command] or command == 'once' and len(words) < 3:
-        raise usage('these words are no form of a call')
-    if command == 'gen' and words[1] not in ('program', 'limits', 'scene'):
-        raise usage(f'no text of the kind {words[1]!r} is generated')
-    first = {'once': 3, 'snap': 4, 'gen': 2, 'bench': 1}.get(command, len(words))
-    numbers = [number_of(word) for word in words[first:]]
-    if command in ('gen', 'bench') and not 1 <= numbers[1] <= 10000:
-        raise usage('N is 1 to 10,000')
-    return command, numbers
+@dataclass
+class Call:
+    """The words of a call: its command, the files that it names, the event of `once`, and its numbers."""
+
+    command: str
+    files: Dict[str, str]
+    event: str
+    numbers: List[int]
 
 
-def read_files(command: str, words: List[str], read: ReadFile) -> List[bytes]:
-    """Reads all files in word order, each whole, before any is looked at."""
-    found: List[bytes] = []
-    for number, most in FILES[command]:
+def call_of(raw: Sequence[bytes]) -> Call:
+    """Returns the call of these words, which must be one of the forms of README."""
+    words: List[str] = []
+    for word in raw:
         try:
-            data = read(words[number].encode('latin-1'))
+            word.decode('utf-8')
+        except UnicodeDecodeError:
+            raise usage('a word is no UTF-8') from None
+        words.append(word.decode('latin-1'))
+    command = next((form for form in (tuple(words[:2]), tuple(words[:1])) if form in FORMS), None)
+    if command is None:
+        raise usage('these words are no form of a call')
+    names, count = FORMS[command]
+    files, rest = words[len(command):][:len(names)], words[len(command) + len(names):]
+    if len(files) < len(names) or (len(rest) != count if count is not None else not rest):
+        raise usage('these words are no form of a call')
+    event, digits = (rest[0], rest[1:]) if count is None else ('', rest)
+    numbers = [number_of(word) for word in digits]
+    if command[0] in ('gen', 'bench') and not 1 <= numbers[1] <= MOST_EVENTS:
+        raise usage('N is 1 to 10,000')
+    return Call(' '.join(command), dict(zip(names, files)), event, numbers)
+
+
+def read_files(call: Call, read: ReadFile) -> Dict[str, bytes]:
+    """Reads all files in word order, each whole, before any is looked at."""
+    found: Dict[str, bytes] = {}
+    for kind, name in call.files.items():
+        try:
+            found[kind] = read(name.encode('latin-1'))
         except OSError:
-            raise Refused(2, f'read fault: {words[number]}', None, 'words') from None
-        if len(data) > most:
-            raise Refused(3, f'too long: {words[number]}', None, 'words')
-        found.append(data)
+            raise Refused(2, f'read fault: {name}', Fault('read fault', None, name), 'words') from None
+        if len(found[kind]) > MOST_BYTES[kind]:
+            raise Refused(3, f'too long: {name}', Fault('long file', None, name), 'words')
     return found
 
 
@@ -101,20 +123,15 @@ class Program:
 
 @dataclass
 class Answer:
-    """An answer: the exit code, both streams, and of a refusal its cause."""
+    """An answer: the exit code, both streams, and what it was made from."""
 
-    status: int
-    out: bytes
-    err: bytes
+    status: int = 0
+    out: bytes = b''
+    err: bytes = b''
     refused: Optional[Refused] = None
+    call: Optional[Call] = None
+    files: Dict[str, bytes] = field(default_factory=dict)
     program: Optional[Program] = None
-    files: Sequence[bytes] = ()
-
-
-def compose(core: Core) -> Tuple[Code, List[int]]:
-    """Returns what the passes make of the normal form, and how many operations each removed."""
-    check_counts(core)
-    return run_passes(normal(core))
 
 
 def once(core: Core, name: str, args: List[int]) -> str:
@@ -124,11 +141,12 @@ def once(core: Core, name: str, args: List[int]) -> str:
         raise usage(f'the program has no event {name!r} with these arguments')
     cells = interpret.empty_cells(core)
     outs = interpret.run_whole(core, cells, 0, 0, event, args)
-    return log.block_text(core, 0, 0, event, args, outs, [False] * len(outs)) + log.cells_text(core, 0, cells)
+    return log.block_text(core, 0, 0, event, args, [(out, False) for out in outs]) + log.cells_text(core, 0, cells)
 
 
-def run_command(command: str, words: List[str], numbers: List[int], files: List[bytes], program: Program) -> str:
+def run_call(call: Call, files: Dict[str, bytes], program: Program) -> str:
     """Does the work of a command that reads a program."""
+    command = call.command
     if command == 'expand':
         return program.expand()
     core = program.check()
@@ -136,60 +154,50 @@ def run_command(command: str, words: List[str], numbers: List[int], files: List[
         return (f'ok arrays {len(core.arrays)} memops {core.memops} events {len(core.events)} handlers {len(core.handlers)} '
                 f'functions {len(core.funs)}\n')
     if command == 'once':
-        return once(core, words[2], numbers)
-    limits = read_limits(files[1])
+        return once(core, call.event, call.numbers)
+    limits = read_limits(files['limits'])
     if command == 'run whole':
-        return Network(core, limits, read_scene(files[2], core), None).run()
-    code, gone = compose(core)
-    program.code = code
-    if command in ('audit', 'run placed'):  # the counts come first, and then the scenario and the placement
-        check_code(code, limits)
-        scene = read_scene(files[2], core) if command == 'run placed' else None
-        placed = audit(code, gone, limits, read_plan(files[-1], len(nodes_of(code))))
-        return layout_text(placed) if scene is None else Network(core, limits, scene, placed).run()
-    placed = fit(code, gone, limits)
-    if command == 'layout':
+        return Network(core, limits, read_scene(files['scenario'], core), None).run()
+    program.code, gone = compose(core)
+    if 'placement' in files:  # the counts come first, and then the scenario and the placement
+        check_code(program.code, limits)
+        scene = read_scene(files['scenario'], core) if 'scenario' in files else None
+        placed = audit(program.code, gone, limits, read_plan(files['placement'], len(nodes_of(program.code))))
+    else:
+        placed = fit(program.code, gone, limits)
+        scene = read_scene(files['scenario'], core) if 'scenario' in files else None
+    if scene is None:
         return layout_text(placed)
-    scene = read_scene(files[2], core)
-    if command == 'run pipe':
+    if command in ('run pipe', 'run placed'):
         return Network(core, limits, scene, placed).run()
-    return drive(placed, scene, numbers[0] if command == 'snap' else None)
+    return drive(placed, scene, call.numbers[0] if command == 'snap' else None)
 
 
-def generated(command: str, words: List[str], numbers: List[int]) -> str:
+def generated(call: Call) -> str:
     """Does the work of `gen` and `bench`."""
-    if command == 'gen':
-        return {'program': lambda: gen.make_program(numbers[0]), 'limits': gen.make_limits,
-                'scene': lambda: gen.make_scene(*numbers)}[words[1]]()
-    core = Program(gen.make_program(numbers[0])).check()
-    limits = read_limits(gen.make_limits().encode())
-    code, gone = compose(core)
-    text = Network(core, limits, read_scene(gen.make_scene(*numbers).encode(), core), fit(code, gone, limits)).run()
-    ending = text.splitlines()[-1]
-    return f'bench seed {numbers[0]} n {numbers[1]} {ending} bytes {len(text)} fnv {fnv(text.encode()):016x}\n'
+    seed, count = call.numbers
+    texts = {'gen program': gen.make_program(seed), 'gen limits': gen.make_limits(), 'gen scene': gen.make_scene(seed, count)}
+    if call.command != 'bench':
+        return texts[call.command]
+    files = {'limits': texts['gen limits'].encode(), 'scenario': texts['gen scene'].encode()}
+    text = run_call(Call('run pipe', {}, '', []), files, Program(texts['gen program']))
+    return f'bench seed {seed} n {count} {text.splitlines()[-1]} bytes {len(text)} fnv {fnv(text.encode()):016x}\n'
 
 
 def judge(words: Sequence[Word], read: ReadFile) -> Answer:
     """Returns the answer of a call. Texts are `str` with one character for each byte."""
-    raw = [word.encode('utf-8') if isinstance(word, str) else word for word in words]
-    shown = [word.decode('latin-1') for word in raw]
-    answer = Answer(0, b'', b'')
+    made = Answer()
     try:
-        for word in raw:
-            try:
-                word.decode('utf-8')
-            except UnicodeDecodeError:
-                raise usage('a word is no UTF-8') from None
-        command, numbers = command_of(shown)
-        if command in ('gen', 'bench'):
-            answer.out = generated(command, shown, numbers).encode('latin-1')
-            return answer
-        answer.files = read_files(command, shown, read)
-        answer.program = Program(answer.files[0].decode('latin-1'))
-        answer.out = run_command(command, shown, numbers, list(answer.files), answer.program).encode('latin-1')
+        made.call = call_of([word.encode('utf-8') if isinstance(word, str) else word for word in words])
+        if made.call.files:
+            made.files = read_files(made.call, read)
+            made.program = Program(made.files['program'].decode('latin-1'))
+            made.out = run_call(made.call, made.files, made.program).encode('latin-1')
+        else:
+            made.out = generated(made.call).encode('latin-1')
     except Refused as refused:
-        answer.status, answer.err, answer.refused = refused.status, (refused.line + '\n').encode('latin-1'), refused
-    return answer
+        made.status, made.err, made.refused = refused.status, (refused.line + '\n').encode('latin-1'), refused
+    return made
 
 
 def answer(words: Sequence[Word], read: ReadFile) -> Tuple[int, bytes, bytes]:
@@ -204,7 +212,7 @@ def agrees(made: Answer, status: int, out: bytes, err: bytes) -> bool:
         return True
     if made.status != 6 or status != 6 or out:
         return False
-    _, order, line = made.refused.details
+    line, order, _ = made.refused.fault.values
     text = err.decode('latin-1')
     return text.startswith(line + ' ') and text.endswith('\n') and order.allows(text[len(line):].split())
 

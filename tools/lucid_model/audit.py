@@ -1,86 +1,79 @@
 """Placements that come from a file (docs/ERRORS.md, 12 placement)."""
-from dataclasses import dataclass
-from typing import List, Tuple
+from typing import List, NamedTuple
 
 from .code import Code
-from .json_files import Limits, bad
-from .json_text import read_json
-from .layout import FirstFit, Placed, Table, merged, product
+from .json_files import File, Limits, is_number
+from .layout import FirstFit, Placed, Table, product
 from .refusals import Fault, Refused
 
-RULE = 'The file is {"nodes": [[stage, table], ..]}, with a pair for each node in their order.'
+
+class Pair(NamedTuple):
+    """The stage and the table of a node."""
+
+    stage: int
+    table: int
 
 
-@dataclass
-class Plan:
-    """The stage and the table of each node, and where each pair begins in the file."""
-
-    pairs: List[Tuple[int, int]]
-    places: List[int]
-
-
-def read_plan(data: bytes, count: int) -> Plan:
+def read_plan(data: bytes, count: int) -> List[Pair]:
     """Reads a placement file for so many nodes: its form, its keys, the length of its list, and then each item."""
-    root = read_json(data, 12, 'placement')
-    if root.kind != 'object':
-        raise bad(12, 'placement', 'file', root, 'an object', RULE)
-    for key in root.members:
-        if key != 'nodes':
-            raise bad(12, 'placement', 'other', root, 'no key but `nodes`', RULE, key)
-    nodes = root.members.get('nodes')
-    if nodes is None or nodes.kind != 'array' or len(nodes.items) != count:
-        raise bad(12, 'placement', 'nodes', nodes or root, f'a list of {count} pairs', RULE)
-    pairs: List[Tuple[int, int]] = []
-    for i, item in enumerate(nodes.items):
-        numbers = [x.number() for x in item.items] if item.kind == 'array' else []
-        if len(numbers) != 2 or any(n is None or n >= 2 ** 32 for n in numbers):
-            raise bad(12, 'placement', f'nodes {i}', item, 'a pair of numbers below 2^32', RULE)
-        pairs.append((numbers[0], numbers[1]))
-    return Plan(pairs, [item.at for item in nodes.items])
+    file = File(data, 12, 'placement', ['nodes'])
+    nodes = file.root.get('nodes')
+    if not isinstance(nodes, list) or len(nodes) != count:
+        raise file.bad('nodes', f'a list of {count} pairs')
+    for i, item in enumerate(nodes):
+        if not isinstance(item, list) or len(item) != 2 or not all(is_number(n) and n < 2 ** 32 for n in item):
+            raise file.bad(f'nodes {i}', 'a pair of numbers below 2^32')
+    return [Pair(*item) for item in nodes]
 
 
-def refuse(line: str, at: int, problem: str, rule: str, remedy: str, details: object) -> Refused:
-    """Returns the refusal of a placement, by its line; the place is that of a node's pair in the file."""
-    return Refused(12, 'placement: ' + line, Fault(at, problem, rule, remedy), 'placement', details)
+class Audit:
+    """The places of a file, which are looked at in the order of the refusals; a fault is at the pair of a node."""
+
+    def __init__(self, code: Code, limits: Limits, pairs: List[Pair]) -> None:
+        self.made, self.pairs, self.limits = FirstFit(code, limits), pairs, limits
+        self.nodes = self.made.nodes
+
+    def refused(self, line: str, rule: str, node: int, *values: object) -> Refused:
+        """Returns a refusal by its line."""
+        return Refused(12, 'placement: ' + line, Fault(rule, ('nodes', node), self.made, node, self.pairs[node], *values), 'placement')
+
+    def check_pairs(self) -> None:
+        """A stage is below `stages` and a table below `tables`; a node is behind all nodes that write what it reads."""
+        for i, (k, t) in enumerate(self.pairs):
+            if k >= self.limits.stages or t >= self.limits.tables:
+                raise self.refused(f'node {i} range', 'range', i)
+        for i, n in enumerate(self.nodes):
+            for j, m in enumerate(self.nodes):
+                if m.writes & n.reads and self.pairs[j].stage >= self.pairs[i].stage:
+                    raise self.refused(f'node {i} early', 'early', i, j, self.pairs[j].stage)
+
+    def table_at(self, k: int, t: int) -> Table:
+        """Returns a table with its nodes, one after another; refuses it where a product on the way has too many rows."""
+        table: Table = ()
+        for i, n in enumerate(self.nodes):
+            if self.pairs[i] == (k, t):
+                more, most = self.made.merged(n)
+                table = product(table, more)
+                rows = max(most, len(table))
+                if rows > self.limits.rows:
+                    raise self.refused(f'stage {k} table {t} rows', 'rows', i, rows)
+        return table
+
+    def fill(self) -> None:
+        """Fills all tables up to the last of each stage that has a node, and then counts the arrays of each stage."""
+        for k, stage in enumerate(self.made.stages):
+            last = max((t for s, t in self.pairs if s == k), default=-1)
+            stage.tables = [self.table_at(k, t) for t in range(last + 1)]
+        for k, stage in enumerate(self.made.stages):
+            arrays = [i for i, n in enumerate(self.nodes) if n.array is not None and self.pairs[i].stage == k]
+            stage.arrays = len(arrays)
+            if stage.arrays > self.limits.arrays:
+                raise self.refused(f'stage {k} arrays', 'stage arrays', arrays[-1], stage.arrays)
 
 
-def audit(code: Code, gone: List[int], limits: Limits, plan: Plan) -> Placed:
+def audit(code: Code, gone: List[int], limits: Limits, pairs: List[Pair]) -> Placed:
     """Returns the code at these places; refuses places that are not there, then early nodes, then tables, then stages."""
-    made = FirstFit(code, limits)
-    nodes, pairs = made.nodes, plan.pairs
-    for i, (k, t) in enumerate(pairs):
-        if k >= limits.stages or t >= limits.tables:
-            raise refuse(f'node {i} range', plan.places[i], f'node {i} is in stage {k}, table {t}', 'A node stands in a stage '
-                         'below `stages` and in a table below `tables`.', 'move it, or allow more', made)
-    for i, n in enumerate(nodes):
-        for j, m in enumerate(nodes):
-            if m.writes & n.reads and pairs[j][0] >= pairs[i][0]:
-                raise refuse(f'node {i} early', plan.places[i], f'node {i} is in stage {pairs[i][0]}, and reads what node {j} in '
-                             f'stage {pairs[j][0]} writes', 'A node stands in a stage behind all nodes that write what it reads.',
-                             f'move node {i} behind stage {pairs[j][0]}', made)
-    for k in range(limits.stages):
-        used = [t for s, t in pairs if s == k]
-        for t in range(max(used, default=-1) + 1):
-            made.stages[k].tables.append(table_at(made, plan, k, t))
-        made.stages[k].arrays = sum(n.array is not None for n, (s, _) in zip(nodes, pairs) if s == k)
-    for k, stage in enumerate(made.stages):
-        if stage.arrays > limits.arrays:
-            last = max(i for i, n in enumerate(nodes) if n.array is not None and pairs[i][0] == k)
-            raise refuse(f'stage {k} arrays', plan.places[last], f'stage {k} holds {stage.arrays} arrays, and {limits.arrays} are '
-                         'allowed', 'A stage holds no more arrays than `arrays`.', 'move the last of its array nodes to another '
-                         'stage', made)
-    return Placed(code, gone, nodes, made.stages, pairs)
-
-
-def table_at(made: FirstFit, plan: Plan, k: int, t: int) -> Table:
-    """Returns a table with its nodes, one after another; refuses it where a product on the way has too many rows."""
-    table: Table = ()
-    for i, n in enumerate(made.nodes):
-        if plan.pairs[i] == (k, t):
-            more, most = merged(made.tables(n))
-            table = product(table, more)
-            if max(most, len(table)) > made.limits.rows:
-                raise refuse(f'stage {k} table {t} rows', plan.places[i], f'table {t} of stage {k} has '
-                             f'{max(most, len(table))} rows with node {i}, and {made.limits.rows} are allowed', 'A table, and '
-                             'each product on the way to it, has no more rows than `rows`.', f'move node {i} to another table', made)
-    return table
+    found = Audit(code, limits, pairs)
+    found.check_pairs()
+    found.fill()
+    return Placed(code, gone, found.nodes, found.made.stages, list(pairs))

@@ -2,7 +2,8 @@
 from dataclasses import dataclass, field
 from typing import List, NamedTuple, Optional, Tuple
 
-from .core import BINARY, COMPARE, ArrayDef, Core, MemAlu, hash_of, low, unary
+from .core import Core
+from .values import MemAlu, binary, hash_of, low, unary
 
 
 class Operand(NamedTuple):
@@ -58,13 +59,14 @@ class Op:
 
     def result(self, values: List[int], to_width: int) -> int:
         """Computes what it writes from the values of its operands; each operator takes the low bits of its own width."""
+        if self.kind in ('move', 'cast'):
+            return low(values[0], to_width)
+        if self.kind == 'hash':
+            return hash_of(to_width, values)
+        taken = [low(value, self.width) for value in values]
         if self.kind == 'un':
-            return unary(self.sign, self.amount, low(values[0], self.width), self.width)
-        if self.kind == 'bin' and self.sign in COMPARE:
-            return int(COMPARE[self.sign](low(values[0], self.width), low(values[1], self.width)))
-        if self.kind == 'bin':
-            return BINARY[self.sign](low(values[0], self.width), low(values[1], self.width), self.width)
-        return hash_of(to_width, values) if self.kind == 'hash' else low(values[0], to_width)
+            return unary(self.sign, self.amount, taken[0], self.width)
+        return binary(self.sign, taken[0], taken[1], self.width)
 
 
 @dataclass
@@ -75,10 +77,6 @@ class Code:
     widths: List[int]
     inputs: int
     ops: List[Op] = field(default_factory=list)
-
-    def arrays(self) -> List[ArrayDef]:
-        """Returns the declared arrays."""
-        return self.core.arrays
 
     def bits(self) -> int:
         """Returns what a packet carries: the inputs, and each field that some operation reads or writes."""
@@ -91,9 +89,3 @@ class Code:
     def calls(self, array: int) -> List[int]:
         """Returns the operations that call an array."""
         return [i for i, op in enumerate(self.ops) if op.kind == 'touch' and op.number == array]
-
-
-def contradicts(guard: Tuple[Literal, ...]) -> bool:
-    """Whether the literals of a guard never hold together."""
-    return any(a.field == b.field and (a.equal and b.equal and a.value != b.value or a.equal != b.equal and a.value == b.value)
-               for a in guard for b in guard)

@@ -1,76 +1,9 @@
-"""The typed program, and what its operations compute (docs/LANGUAGE.md, What a program means)."""
+"""The typed program (docs/LANGUAGE.md, What a program means). The last field of a form is its place in the text."""
 from dataclasses import dataclass, field
-from typing import Any, Callable, Dict, List, NamedTuple, Optional, Tuple, Union
+from typing import Any, Iterator, List, NamedTuple, Optional, Tuple, Union
 
 from .tree import form
-
-# ---- numbers
-
-BINARY: Dict[str, Callable[[int, int, int], int]] = {
-    '+': lambda a, b, w: (a + b) % 2 ** w, '-': lambda a, b, w: (a - b) % 2 ** w,
-    '&': lambda a, b, w: a & b, '|': lambda a, b, w: a | b, '^': lambda a, b, w: a ^ b,
-    '|+|': lambda a, b, w: min(a + b, 2 ** w - 1), '|-|': lambda a, b, w: max(a - b, 0)}
-COMPARE: Dict[str, Callable[[int, int], bool]] = {
-    '==': lambda a, b: a == b, '!=': lambda a, b: a != b, '<': lambda a, b: a < b, '>': lambda a, b: a > b,
-    '<=': lambda a, b: a <= b, '>=': lambda a, b: a >= b}
-
-
-def low(value: int, width: int) -> int:
-    """Returns the low bits of a value."""
-    return value % 2 ** width
-
-
-def unary(op: str, amount: int, value: int, width: int) -> int:
-    """Computes `-`, `~` or a shift; a shift by the width or more gives 0."""
-    if op == '-':
-        return -value % 2 ** width
-    if op == '~':
-        return value ^ (2 ** width - 1)
-    if amount >= width:
-        return 0
-    return low(value << amount, width) if op == '<<' else value >> amount
-
-
-def fnv(data: bytes) -> int:
-    """Returns FNV-1a of 64 bits over bytes."""
-    value = 14695981039346656037
-    for byte in data:
-        value = (value ^ byte) * 1099511628211 % 2 ** 64
-    return value
-
-
-def hash_of(width: int, words: List[int]) -> int:
-    """Returns the low bits of FNV-1a over the eight little-endian bytes of each word."""
-    return low(fnv(b''.join(word.to_bytes(8, 'little') for word in words)), width)
-
-
-MemArg = Union[str, int]
-
-
-@dataclass
-class MemAlu:
-    """A memop as values: an argument is 'stored', 'arg' or a number; a side is one, or an operator between two."""
-
-    width: int
-    test: Optional[Tuple[str, MemArg, MemArg]]
-    yes: Tuple
-    no: Tuple
-
-    def apply(self, stored: int, arg: int) -> int:
-        """Computes the memop; without a test `yes` is taken."""
-        value = lambda x: stored if x == 'stored' else arg if x == 'arg' else low(x, self.width)
-        side = self.yes
-        if self.test is not None and not COMPARE[self.test[0]](value(self.test[1]), value(self.test[2])):
-            side = self.no
-        return value(side[0]) if len(side) == 1 else BINARY[side[0]](value(side[1]), value(side[2]), self.width)
-
-
-def returning(width: int, what: str) -> MemAlu:
-    """Returns the memop that gives the stored value, or its argument."""
-    return MemAlu(width, None, (what,), (what,))
-
-
-# ---- expressions and statements; `at` is a place in the text
+from .values import MemAlu
 
 
 class ArrayName(NamedTuple):
@@ -83,22 +16,13 @@ class ArrayName(NamedTuple):
 Expr = Any
 Fixed = form('Fixed', 'width', 'value')
 Local = form('Local', 'number', 'width')
+Input = form('Input', 'name')  # `Sys.time()` ('now') or `SELF` ('me'), of 32 bits
 Un = form('Un', 'op', 'amount', 'arg', 'width')
 Bin = form('Bin', 'op', 'left', 'right', 'width')  # of a comparison the width is that of its operands, and its value has one bit
 Cast = form('Cast', 'width', 'arg')
 Hash = form('Hash', 'width', 'args')
 Touch = form('Touch', 'array', 'index', 'get', 'get_arg', 'set', 'set_arg', 'answers')
 Fun = form('Fun', 'number', 'arrays', 'args')
-
-
-@dataclass
-class Input:
-    """`SELF` ('me') or `Sys.time()` ('now')."""
-
-    name: str
-    at: int
-    width: int = 32
-
 
 Stmt = Any
 Assign = form('Assign', 'local', 'value')
@@ -114,40 +38,54 @@ class Gen:
 
     event: int
     args: List[Expr]
-    delay: Optional[Expr]
-    to: Optional[Expr]
-    members: Optional[List[int]]
-    delay_first: bool
-    at: int
+    delay: Optional[Expr] = None
+    to: Optional[Expr] = None
+    members: Optional[List[int]] = None
+    delay_first: bool = False
+    at: int = 0
 
-    def parts(self) -> List[Expr]:
-        """Returns the expressions in the order in which they are evaluated."""
-        behind = [self.delay, self.to] if self.delay_first or self.to is None else [self.to, self.delay]
-        return self.args + [x for x in behind if x is not None]
+    def behind(self) -> List[str]:
+        """Returns which of `delay` and `to` there are, in the order in which they are evaluated, after the arguments."""
+        return [name for name in (('delay', 'to') if self.delay_first else ('to', 'delay')) if getattr(self, name) is not None]
+
+    def split(self, parts: List[Any]) -> Tuple[List[Any], Any, Any]:
+        """Splits what its expressions became into the arguments, the delay and the target; None where there is none."""
+        behind = dict(zip(self.behind(), parts[len(self.args):]))
+        return parts[:len(self.args)], behind.get('delay'), behind.get('to')
 
 
-def children(x: Union[Expr, Stmt]) -> List[Expr]:
+# The fields of each form that are expressions, or lists of them, in the order in which they are evaluated.
+PARTS = {Un: ['arg'], Cast: ['arg'], Bin: ['left', 'right'], Hash: ['args'], Fun: ['args'], Touch: ['index', 'get_arg', 'set_arg'],
+         Assign: ['value'], Drop: ['value'], Return: ['value'], If: ['test'], Say: ['args']}
+
+
+Node = Union[Expr, Stmt]
+
+
+def children(x: Node) -> List[Expr]:
     """Returns the expressions directly in a node, in the order in which they are evaluated."""
-    if isinstance(x, (Un, Cast)):
-        return [x.arg]
-    if isinstance(x, Bin):
-        return [x.left, x.right]
-    if isinstance(x, (Hash, Fun, Say)):
-        return x.args
-    if isinstance(x, Touch):
-        return [x.index, x.get_arg, x.set_arg]
     if isinstance(x, Gen):
-        return x.parts()
-    if isinstance(x, If):
-        return [x.test]
-    return [x.value] if isinstance(x, (Assign, Drop, Return)) and x.value is not None else []
+        return x.args + [getattr(x, name) for name in x.behind()]
+    found: List[Expr] = []
+    for name in PARTS.get(type(x), []):
+        part = getattr(x, name)
+        found += part if isinstance(part, list) else [part] if part is not None else []
+    return found
 
 
-# ---- definitions
+def walk(nodes: List[Node]) -> Iterator[Node]:
+    """Yields these nodes and all within them, each before its parts."""
+    waiting = nodes[::-1]
+    while waiting:
+        x = waiting.pop()
+        yield x
+        waiting += (children(x) + (x.yes + x.no if isinstance(x, If) else []))[::-1]
 
 
 @dataclass
 class ArrayDef:
+    """A declared array."""
+
     name: str
     width: int
     size: int
@@ -156,6 +94,8 @@ class ArrayDef:
 
 @dataclass
 class EventDef:
+    """A declared event: the widths of its parameters, and its handler."""
+
     name: str
     params: List[int]
     handler: Optional[int] = None
@@ -163,7 +103,8 @@ class EventDef:
 
 @dataclass
 class Body:
-    """A function or a handler: value parameters are the first locals. `event` is that of a handler."""
+    """A function or a handler: value parameters are the first locals. `event` is that of a handler; `long_matches` are the places of
+    matches with too many cases."""
 
     name: str
     decl: int
@@ -176,6 +117,7 @@ class Body:
     answer: Optional[int] = None
     body: List[Stmt] = field(default_factory=list)
     event: int = 0
+    long_matches: List[int] = field(default_factory=list)
 
 
 @dataclass

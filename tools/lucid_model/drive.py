@@ -1,44 +1,60 @@
 """One pipeline that is moved by the steps of a scenario, and snapshots of it (docs/SCENARIO.md, Steps)."""
-from typing import List, Optional
+from typing import Optional, Tuple
 
-from .json_files import Scene
 from .layout import Placed
 from .log import block_text, cells_text
-from .pipe import Packet, Pipe, step_line
+from .pipe import Packet, Pipe
+from .scenes import Scene
 
 
-def packet_text(pipe: Pipe, p: Packet) -> str:
-    """Returns the block of a packet that left; in a drive nothing is lost."""
-    outs = p.outs()
-    return block_text(pipe.code.core, p.now, p.me, p.event, p.args, outs, [False] * len(outs))
+def packet_text(pipe: Pipe, p: Optional[Packet]) -> str:
+    """Returns the block of a packet that left, if one did; in a drive nothing is lost."""
+    return '' if p is None else block_text(pipe.code.core, p.now, p.me, p.event, p.args, [(out, False) for out in p.outs()])
+
+
+class Drive:
+    """A pipeline, the events of the file, and how many of them entered."""
+
+    def __init__(self, placed: Placed, scene: Scene) -> None:
+        self.pipe, self.core, self.events = Pipe(placed), placed.code.core, scene.events
+        self.entered = 0
+
+    def step(self, step: Tuple) -> str:
+        """Does a step, and returns its lines; one that cannot be done changes nothing."""
+        slots = self.pipe.slots
+        if step[0] == 'look':
+            a = self.core.arrays[step[1]]
+            cell = step[2] % a.size
+            return f'look {a.name}[{cell}] = {self.pipe.cells[step[1]][cell]}\n'
+        if step[0] == 'go':
+            k = step[1]
+            if k >= len(slots) or slots[k] is None:
+                return f'empty {k}\n'
+            if k + 1 < len(slots) and slots[k + 1] is not None:
+                return f'ahead {k}\n'
+            return f'go {k}\n' + packet_text(self.pipe, self.pipe.go(k))
+        if self.entered == len(self.events):
+            return 'none\n'
+        if slots[0] is not None:
+            return 'busy\n'
+        e = self.events[self.entered]
+        self.pipe.enter(e.event, e.args, e.at, e.switch)
+        self.entered += 1
+        return f'enter {self.entered - 1}\n'
+
+    def snap(self) -> str:
+        """Returns a snapshot: how many entered, and the cells once they have left."""
+        return f'snap after {self.entered}\n' + cells_text(self.core, 0, self.pipe.settled())
 
 
 def drive(placed: Placed, scene: Scene, snap_after: Optional[int]) -> str:
     """Does the steps, lets the packets in flight finish, and writes what `drive` or `snap` writes."""
-    core, pipe = placed.code.core, Pipe(placed)
-    lines: List[str] = []
-    snap = ''
-    entered = 0
-    for number, step in enumerate(scene.steps + [('end',)]):
-        if snap_after is not None and (number == snap_after or step[0] == 'end' and not snap):
-            snap = f'snap after {entered}\n' + cells_text(core, 0, pipe.settled())
-        if step[0] == 'enter':
-            if entered == len(scene.events):
-                lines.append('none\n')
-            elif pipe.slots[0] is not None:
-                lines.append('busy\n')
-            else:
-                e = scene.events[entered]
-                pipe.enter(e.event, e.args, e.at, e.switch)
-                lines.append(f'enter {entered}\n')
-                entered += 1
-        elif step[0] != 'end':
-            line = step_line(pipe, step)
-            lines.append(line or f'go {step[1]}\n')
-            if not line:
-                left = pipe.go(step[1])
-                lines.append('' if left is None else packet_text(pipe, left))
-    lines += [packet_text(pipe, p) for p in pipe.drain()]
-    lines.append(cells_text(core, 0, pipe.cells))
-    lines.append(f'entered {entered} left {len(scene.events) - entered}\n')
+    made = Drive(placed, scene)
+    first = scene.steps[:snap_after]
+    lines = [made.step(step) for step in first]
+    snap = '' if snap_after is None else made.snap()
+    lines += [made.step(step) for step in scene.steps[len(first):]]
+    lines += [packet_text(made.pipe, p) for p in made.pipe.drain()]
+    lines.append(cells_text(made.core, 0, made.pipe.cells))
+    lines.append(f'entered {made.entered} left {len(scene.events) - made.entered}\n')
     return ''.join(lines) + snap

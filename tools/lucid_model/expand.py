@@ -1,39 +1,31 @@
 """Functions over a width, written out before the tree is read (docs/LANGUAGE.md, Functions over a width)."""
 import re
 from dataclasses import dataclass
-from typing import Dict, List, Optional, Set, Tuple
+from typing import Dict, List, NamedTuple, Optional, Set, Tuple
 
-from .lexer import Token
+from .lexer import Token, depth_behind
 from .refusals import Fault, Refused
 
 MOST_BYTES = 8388608
-RULE = 'A function over a width is `fun <<w>>`, a name before its parameters, and a body in braces.'
+Use = Tuple[int, int]  # the number of a template, and a width
 
 
-@dataclass(frozen=True)
-class Template:
-    """A function over a width: the numbers of its `fun`, of its name, and of the token behind its `}`."""
+class Span(NamedTuple):
+    """Tokens from `first` to before `end`. In an instance of a template, `value` replaces its name `width`, and `name` is renamed."""
 
     first: int
-    name: int
     end: int
+    width: Optional[str] = None
+    value: int = 0
+    name: int = -1
 
 
 @dataclass
 class Expanded:
-    """An expanded text, and for each part of it where the part begins in it and in the file."""
+    """An expanded text, and for each piece of it where the piece begins in it and in the file."""
 
     text: str
-    parts: List[Tuple[int, int]]
-
-    def source(self, at: int) -> int:
-        """Returns the place in the file of a place in the expanded text."""
-        best = (0, 0)
-        for part in self.parts:
-            if part[0] > at:
-                break
-            best = part
-        return best[1] + at - best[0]
+    pieces: List[Tuple[int, int]]
 
 
 def is_text(tokens: List[Token], at: int, *texts: str) -> bool:
@@ -43,135 +35,122 @@ def is_text(tokens: List[Token], at: int, *texts: str) -> bool:
                                            for t, text in zip(here, texts))
 
 
-def template_at(tokens: List[Token], first: int) -> Optional[Template]:
+def template_at(tokens: List[Token], first: int) -> Optional[Span]:
     """Returns the template whose `fun` is here: its name is the first before the first `{` that `(` follows."""
-    name = None
-    at = first + 4
-    while at < len(tokens) and tokens[at].text != '{':
-        if name is None and is_text(tokens, at, '', '('):
-            name = at
-        at += 1
+    at = next((at for at in range(first + 4, len(tokens)) if tokens[at].text == '{'), len(tokens))
+    name = next((k for k in range(first + 4, at) if is_text(tokens, k, '', '(')), None)
     braces = 0
     for end in range(at, len(tokens)):
         braces += {'{': 1, '}': -1}.get(tokens[end].text, 0)
         if braces == 0:
-            return Template(first, name, end + 1) if name is not None else None
+            return None if name is None else Span(first, end + 1, tokens[first + 2].text, 0, name)
     return None
 
 
-def templates_of(tokens: List[Token]) -> List[Template]:
+def templates_of(tokens: List[Token]) -> List[Span]:
     """Returns the templates: those that begin outside all brackets and outside earlier templates."""
-    found: List[Template] = []
+    found: List[Span] = []
     brackets = 0
     for at, token in enumerate(tokens):
-        is_free = token.text == 'fun' and brackets == 0 and (not found or at >= found[-1].end)
-        if is_free and is_text(tokens, at, 'fun', '<<', '', '>>'):
+        is_outside = brackets == 0 and (not found or at >= found[-1].end)
+        if token.text == 'fun' and is_outside and is_text(tokens, at, 'fun', '<<', '', '>>'):
             template = template_at(tokens, at)
             if template is None:
-                raise Refused(13, f'sizes: broken at token {at + 1}', Fault(
-                    token.at, 'this function over a width has no name, no body or no end', RULE,
-                    'write `fun <<w>> int<<w>> NAME(..) { .. }`, and close its braces'))
+                raise Refused(13, f'sizes: broken at token {at + 1}', Fault('template', token.at))
             found.append(template)
-        if token.kind == 'sign':
-            brackets = max(0, brackets + {'(': 1, '{': 1, ')': -1, '}': -1}.get(token.text, 0))
+        brackets = depth_behind(brackets, token)
     return found
 
 
 class Writer:
     """Writes the expanded text: substitutes widths and names in instances, and names in uses."""
 
-    def __init__(self, text: str, tokens: List[Token], templates: List[Template]) -> None:
+    def __init__(self, text: str, tokens: List[Token], templates: List[Span]) -> None:
         self.text, self.tokens, self.templates = text, tokens, templates
-        self.names: Dict[str, int] = {tokens[t.name].text: k for k, t in enumerate(templates)}
+        self.numbers: Dict[str, int] = {tokens[t.name].text: k for k, t in enumerate(templates)}
+        ends = [0] + [t.end for t in templates]
+        self.outside = [Span(a, b) for a, b in zip(ends, [t.first for t in templates] + [len(tokens)])]
         runs = [len(run) for t in tokens if t.kind == 'name' for run in re.findall('_+', t.text)]
         self.line = '_' * (1 + max(runs, default=0))
         self.used: List[Set[int]] = [set() for _ in templates]
         self.out: List[str] = []
-        self.parts: List[Tuple[int, int]] = []
+        self.pieces: List[Tuple[int, int]] = []
         self.size = 0
 
-    def put(self, piece: str, source: int) -> None:
-        """Adds a piece to the text, with the place in the file that it comes from."""
-        self.parts.append((self.size, source))
-        self.out.append(piece)
-        self.size += len(piece)
-        if self.size > MOST_BYTES:
-            raise Refused(13, 'sizes: too long', Fault(
-                source, f'the expanded text has more than {MOST_BYTES} bytes', RULE, 'use fewer widths'))
+    def instance(self, use: Use) -> Span:
+        """Returns the tokens of a template behind its `fun <<w>>`, at a width."""
+        template = self.templates[use[0]]
+        return template._replace(first=template.first + 4, value=use[1])
 
-    def before(self, at: int) -> Tuple[str, int]:
-        """Returns the blanks and comments before a token, and where they begin."""
-        start = self.tokens[at - 1].end if at > 0 else 0
-        stop = self.tokens[at].at if at < len(self.tokens) else len(self.text)
-        return self.text[start:stop], start
-
-    def use_at(self, at: int, width: Optional[str], value: int) -> Optional[Tuple[int, int]]:
+    def use_at(self, at: int, span: Span) -> Optional[Use]:
         """Returns the template and the width that a use here names: `NAME << width >> (`."""
-        here = self.tokens[at:at + 5]
-        if len(here) < 5 or here[0].kind != 'name' or here[0].text not in self.names:
+        if not is_text(self.tokens, at, '', '<<') or not is_text(self.tokens, at + 3, '>>', '('):
             return None
-        if [t.text for t in here[1:2] + here[3:]] != ['<<', '>>', '(']:
+        name, width = self.tokens[at], self.tokens[at + 2]
+        if name.text not in self.numbers or width.kind != 'number' and (width.kind, width.text) != ('name', span.width):
             return None
-        if here[2].kind == 'number':
-            return self.names[here[0].text], here[2].value
-        return (self.names[here[0].text], value) if here[2].kind == 'name' and here[2].text == width else None
+        return self.numbers[name.text], width.value if width.kind == 'number' else span.value
 
-    def uses(self, start: int, end: int, width: Optional[str], value: int) -> List[Tuple[int, int]]:
+    def uses(self, span: Span) -> List[Use]:
         """Returns all uses among these tokens."""
-        found = [self.use_at(at, width, value) for at in range(start, end)]
+        found = [self.use_at(at, span) for at in range(span.first, span.end)]
         return [use for use in found if use is not None]
 
     def find_used(self) -> None:
         """Finds the pairs of a template and a width that are used outside all templates or in a used pair."""
-        waiting: List[Tuple[int, int]] = []
-        at = 0
-        for template in self.templates + [Template(len(self.tokens), 0, 0)]:
-            waiting += self.uses(at, template.first, None, 0)
-            at = template.end
+        waiting = [use for span in self.outside for use in self.uses(span)]
         while waiting:
-            number, value = waiting.pop()
-            if value not in self.used[number]:
-                self.used[number].add(value)
-                t = self.templates[number]
-                waiting += self.uses(t.first + 4, t.end, self.tokens[t.first + 2].text, value)
+            use = waiting.pop()
+            if use[1] not in self.used[use[0]]:
+                self.used[use[0]].add(use[1])
+                waiting += self.uses(self.instance(use))
 
-    def write(self, start: int, end: int, width: Optional[str], value: int, own: int = -1) -> None:
-        """Writes these tokens with what stands before each, in the instance of a width where there is one."""
-        at = start
-        while at < end:
+    def put(self, piece: str, source: int) -> None:
+        """Adds a piece to the text, with the place in the file that it comes from."""
+        self.pieces.append((self.size, source))
+        self.out.append(piece)
+        self.size += len(piece)
+        if self.size > MOST_BYTES:
+            raise Refused(13, 'sizes: too long', Fault('too long', source, MOST_BYTES))
+
+    def put_before(self, at: int) -> None:
+        """Adds the blanks and comments before a token."""
+        start = self.tokens[at - 1].end if at > 0 else 0
+        self.put(self.text[start:self.tokens[at].at if at < len(self.tokens) else len(self.text)], start)
+
+    def write(self, span: Span) -> None:
+        """Writes these tokens with the blanks and comments before each."""
+        at = span.first
+        while at < span.end:
             token = self.tokens[at]
-            self.put(*self.before(at))
-            use = self.use_at(at, width, value)
-            if at == own:
-                self.put(f'{token.text}{self.line}{value}', token.at)
-                at += 1
+            self.put_before(at)
+            use = self.use_at(at, span)
+            if at == span.name:
+                piece, count = f'{token.text}{self.line}{span.value}', 1
             elif use is not None:
-                self.put(f'{token.text}{self.line}{use[1]}(', token.at)
-                at += 5
-            elif width is not None and is_text(self.tokens, at, '<<', width, '>>') and self.tokens[at + 1].kind == 'name':
-                self.put(f'<<{value}>>', token.at)
-                at += 3
+                piece, count = f'{token.text}{self.line}{use[1]}(', 5
+            elif span.width is not None and is_text(self.tokens, at, '<<', span.width, '>>'):
+                piece, count = f'<<{span.value}>>', 3
             else:
-                self.put(token.text, token.at)
-                at += 1
+                piece, count = token.text, 1
+            self.put(piece, token.at)
+            at += count
 
     def write_all(self) -> Expanded:
         """Writes the text, with the used instances in place of each template, by rising width."""
-        at = 0
-        for number, t in enumerate(self.templates):
-            self.write(at, t.first, None, 0)
-            self.put(*self.before(t.first))
-            for value in sorted(self.used[number]):
-                if value != min(self.used[number]):
-                    self.put('\n', self.tokens[t.first].at)
-                self.put('fun ', self.tokens[t.first].at)
-                self.write(t.first + 4, t.end, self.tokens[t.first + 2].text, value, t.name)
+        for number, template in enumerate(self.templates):
+            self.write(self.outside[number])
+            self.put_before(template.first)
+            at = self.tokens[template.first].at
+            for k, value in enumerate(sorted(self.used[number])):
+                self.put('\n' if k > 0 else '', at)
+                self.put('fun ', at)
+                self.write(self.instance((number, value)))
             if not self.used[number]:
-                self.put('\n', self.tokens[t.first].at)
-            at = t.end
-        self.write(at, len(self.tokens), None, 0)
-        self.put(*self.before(len(self.tokens)))
-        return Expanded(''.join(self.out), self.parts)
+                self.put('\n', at)
+        self.write(self.outside[-1])
+        self.put_before(len(self.tokens))
+        return Expanded(''.join(self.out), self.pieces)
 
 
 def expand(text: str, tokens: List[Token]) -> Expanded:
@@ -180,12 +159,9 @@ def expand(text: str, tokens: List[Token]) -> Expanded:
     if not templates:
         return Expanded(text, [(0, 0)])
     names: Set[str] = set()
-    for t in templates:
-        name = tokens[t.name]
+    for name in (tokens[t.name] for t in templates):
         if name.text in names:
-            raise Refused(13, f'sizes: {name.text} twice', Fault(
-                name.at, f'two functions over a width have the name {name.text}',
-                'Each function over a width has a name of its own.', 'rename one of them'))
+            raise Refused(13, f'sizes: {name.text} twice', Fault('two templates', name.at, name.text))
         names.add(name.text)
     writer = Writer(text, tokens, templates)
     writer.find_used()

@@ -1,8 +1,9 @@
 """The whole step: one event runs its handler to its end (docs/LANGUAGE.md, What a program means)."""
 from dataclasses import dataclass
-from typing import Dict, List, Optional, Tuple
+from typing import Any, Dict, List, Optional, Tuple
 
 from . import core
+from .values import binary, hash_of, low, unary
 
 Cells = List[List[int]]
 
@@ -27,7 +28,7 @@ class Run:
 
     def __init__(self, c: core.Core, cells: Cells, now: int, me: int) -> None:
         self.core, self.cells = c, cells
-        self.inputs = {'now': now % 2 ** 32, 'me': me}
+        self.inputs = {'now': low(now, 32), 'me': me}
         self.outs: List[Out] = []
 
     def value(self, x: core.Expr, arrays: List[int], held: Dict[int, int]) -> Optional[int]:
@@ -40,21 +41,21 @@ class Run:
             return self.inputs[x.name]
         parts = [self.value(y, arrays, held) for y in core.children(x)]
         if isinstance(x, core.Un):
-            return core.unary(x.op, x.amount, parts[0], x.width)
+            return unary(x.op, x.amount, parts[0], x.width)
         if isinstance(x, core.Bin):
-            return int(core.COMPARE[x.op](*parts)) if x.op in core.COMPARE else core.BINARY[x.op](*parts, x.width)
+            return binary(x.op, parts[0], parts[1], x.width)
         if isinstance(x, core.Cast):
-            return core.low(parts[0], x.width)
+            return low(parts[0], x.width)
         if isinstance(x, core.Hash):
-            return core.hash_of(x.width, parts)
+            return hash_of(x.width, parts)
+        named = lambda name: name.number if name.declared else arrays[name.number]
         if isinstance(x, core.Touch):
-            cells = self.cells[x.array.number if x.array.declared else arrays[x.array.number]]
+            cells = self.cells[named(x.array)]
             i = parts[0] % len(cells)
             old = cells[i]
             cells[i] = x.set.apply(old, parts[2])
             return x.get.apply(old, parts[1]) if x.answers else None
-        given = [a.number if a.declared else arrays[a.number] for a in x.arrays]
-        return self.block(self.core.funs[x.number].body, given, dict(enumerate(parts)))[1]
+        return self.block(self.core.funs[x.number].body, [named(a) for a in x.arrays], dict(enumerate(parts)))[1]
 
     def block(self, stmts: List[core.Stmt], arrays: List[int], held: Dict[int, int]) -> Tuple[bool, Optional[int]]:
         """Runs statements; says whether they returned, and with which value."""
@@ -71,12 +72,8 @@ class Run:
             elif isinstance(s, core.Say):
                 self.outs.append(Out(s.form, parts))
             elif isinstance(s, core.Gen):
-                args, behind = parts[:len(s.args)], parts[len(s.args):]
-                if s.to is not None and not s.delay_first:
-                    behind.reverse()
-                delay = behind[0] if s.delay is not None else 0
-                for to in s.members or [behind[-1] if s.to is not None else None]:
-                    self.outs.append(Out(s.event, args, delay, to))
+                args, delay, to = s.split(parts)
+                self.outs += [Out(s.event, args, delay or 0, target) for target in s.members or [to]]
         return False, None
 
 

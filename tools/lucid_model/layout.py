@@ -1,5 +1,6 @@
 """Rows, products of tables, first fit, and the lines of a layout (docs/ERRORS.md, 7 nofit)."""
 from dataclasses import dataclass, field
+from itertools import accumulate
 from typing import FrozenSet, List, NamedTuple, Optional, Tuple
 
 from .code import Code, Literal
@@ -41,15 +42,6 @@ def product(a: Table, b: Table) -> Table:
     return tuple(kept)
 
 
-def merged(tables: List[Table]) -> Tuple[Table, int]:
-    """Merges the tables of a node's calls one after another; also returns the most rows of a product on the way."""
-    table, most = tables[0], 0
-    for other in tables[1:]:
-        table = product(table, other)
-        most = max(most, len(table))
-    return table, most
-
-
 @dataclass
 class Stage:
     """A stage of the pipeline: its tables, and how many array nodes are in it."""
@@ -70,21 +62,12 @@ class Placed:
 
 
 def check_code(code: Code, limits: Limits) -> None:
-    """Refuses code whose bits, or the calls of one of whose arrays, pass their limit."""
-    bits = code.bits()
-    if bits > limits.bits:
-        widest = sorted((op for op in code.ops if op.to is not None), key=lambda op: -code.widths[op.to])[:5]
-        raise Refused(7, f'nofit: bits {bits}', Fault(
-            widest[0].at if widest else None, f'a packet carries {bits} bits, and {limits.bits} are allowed', 'A packet carries '
-            'the inputs, and each field that an operation reads or writes.', 'use smaller widths, and fewer locals that are joined '
-            'behind an `if`', others=[(op.at, f'{code.widths[op.to]} bits are made here') for op in widest]), details=code)
-    for array, a in enumerate(code.arrays()):
-        calls = code.calls(array)
-        if len(calls) > limits.arms:
-            raise Refused(7, f'nofit: arms {a.name}', Fault(
-                a.at, f'{a.name} is called at {len(calls)} places, and {limits.arms} are allowed',
-                'An array is called at no more places than `arms`.', 'make one call, with the cell chosen before it',
-                others=[(code.ops[i].at, f'{a.name} is called here') for i in calls]), details=code)
+    """Refuses code whose bits, or the calls of one of whose arrays, exceed their limit."""
+    if code.bits() > limits.bits:
+        raise Refused(7, f'nofit: bits {code.bits()}', Fault('bits', None, code, limits))
+    for array, a in enumerate(code.core.arrays):
+        if len(code.calls(array)) > limits.arms:
+            raise Refused(7, f'nofit: arms {a.name}', Fault('arms', a.at, code, array, limits))
 
 
 class FirstFit:
@@ -96,18 +79,18 @@ class FirstFit:
         self.stages = [Stage() for _ in range(limits.stages)]
         self.pairs: List[Tuple[int, int]] = []
 
-    def tables(self, n: Node) -> List[Table]:
-        """Returns the tables of a node's operations."""
-        return [table_of(self.code.ops[i].guard, i) for i in n.ops]
+    def merged(self, n: Node) -> Tuple[Table, int]:
+        """Merges the tables of a node's operations one after another; also returns the most rows of a product on the way."""
+        tables = list(accumulate([table_of(self.code.ops[i].guard, i) for i in n.ops], product))
+        return tables[-1], max((len(table) for table in tables[1:]), default=0)
 
     def earliest(self, n: Node) -> int:
         """Returns the first stage behind all nodes that write what this one reads."""
-        behind = [s + 1 for m, (s, _) in zip(self.nodes, self.pairs) if m.writes & n.reads]
-        return max(behind, default=0)
+        return max((s + 1 for m, (s, _) in zip(self.nodes, self.pairs) if m.writes & n.reads), default=0)
 
     def place(self, n: Node) -> Optional[Tuple[int, int]]:
         """Places a node; returns None where no stage has room for it."""
-        more, most = merged(self.tables(n))
+        more, most = self.merged(n)
         if most > self.limits.rows:
             return None
         for k in range(self.earliest(n), self.limits.stages):
@@ -127,10 +110,7 @@ class FirstFit:
         for number, n in enumerate(self.nodes):
             pair = self.place(n)
             if pair is None:
-                raise Refused(7, f'nofit: node {number}', Fault(
-                    self.code.ops[n.ops[0]].at, f'node {number} finds no stage', 'A node stands in a stage behind all nodes that '
-                    'write what it reads, which has room for a table, its rows and its array.',
-                    'allow more, or send what depends on an array in an event of its own'), details=self)
+                raise Refused(7, f'nofit: node {number}', Fault('node', self.code.ops[n.ops[0]].at, self))
             self.pairs.append(pair)
         return Placed(self.code, gone, self.nodes, self.stages, self.pairs)
 
@@ -150,6 +130,6 @@ def layout_text(placed: Placed) -> str:
         for t, table in enumerate(stage.tables):
             ops = {i for row in table for i in row.ops}
             arrays = sorted({code.ops[i].number for i in ops if code.ops[i].kind == 'touch'})
-            names = ' arrays ' + ' '.join(code.arrays()[a].name for a in arrays) if arrays else ''
+            names = ' arrays ' + ' '.join(code.core.arrays[a].name for a in arrays) if arrays else ''
             lines.append(f'stage {k} table {t} rows {len(table)} ops {len(ops)}{names}')
     return ''.join(line + '\n' for line in lines)

@@ -37,30 +37,18 @@ def lex(text: str) -> List[Token]:
     at = 0
     while at < len(text):
         found = PIECE.match(text, at)
-        if found is None:
-            raise Refused(4, f'syntax: byte {at}', no_token(text, at))
-        kind, end = found.lastgroup, found.end()
-        if kind != 'blank':
-            piece = text[at:end]
-            value = number_of(piece) if kind == 'number' else 0
-            if value == 2 ** 64:
-                raise Refused(4, f'syntax: byte {at}', no_token(text, at))
-            tokens.append(Token('word' if piece in WORDS else kind, piece, at, end, value))
-        at = end
+        value = number_of(found.group()) if found is not None and found.lastgroup == 'number' else 0
+        if found is None or value == 2 ** 64:
+            raise Refused(4, f'syntax: byte {at}', Fault('no token', at, text))
+        if found.lastgroup != 'blank':
+            kind = 'word' if found.group() in WORDS else found.lastgroup
+            tokens.append(Token(kind, found.group(), at, found.end(), value))
+        at = found.end()
     return tokens
 
 
-def no_token(text: str, at: int) -> Fault:
-    """Says why no token begins at a byte."""
-    rule = 'Each piece of a text is a blank, a comment, a name, a number below 2^64, a text in quotes or a sign.'
-    if text.startswith('/*', at):
-        return Fault(at, 'a comment without its end', rule, 'close the comment with */')
-    if text[at] == '"':
-        return Fault(at, 'a text without its end, or with a byte that is not printable ASCII', rule,
-                     'close the text with " on its line, and write no \\ in it')
-    if text[at].isdigit():
-        return Fault(at, 'a number of 2^64 or more', rule, 'write a smaller number')
-    signs = {'*': 'write sums and shifts, as n << 1', '/': 'write a shift, as n >> 1', '%': 'write a mask, as n & 7',
-             '#': 'write // before a comment', '[': 'call an array by Array.get and Array.set'}
-    shown = text[at] if '!' <= text[at] <= '~' else f'byte 0x{ord(text[at]):02x}'
-    return Fault(at, f'no token begins with {shown}', rule, signs.get(text[at], 'remove this byte'))
+def depth_behind(depth: int, token: Token) -> int:
+    """Returns how many brackets are open behind a token; a closing one without its opening one does not count."""
+    if token.kind != 'sign':
+        return depth
+    return max(0, depth + (token.text in '({') - (token.text in ')}'))

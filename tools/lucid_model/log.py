@@ -1,5 +1,5 @@
 """The lines of a log: blocks of events, and cells that are not 0 (README, The forms of words)."""
-from typing import List
+from typing import List, Tuple
 
 from .core import Core
 from .interpret import Cells, Out
@@ -19,10 +19,9 @@ def out_text(core: Core, out: Out, lost: bool) -> str:
     return f'  generate {call_text(core, out.number, out.args)} delay {out.delay} {to}{" lost" if lost else ""}\n'
 
 
-def block_text(core: Core, tick: int, switch: int, event: int, args: List[int], outs: List[Out], lost: List[bool]) -> str:
-    """Returns the block of an event: its line, and a line for each out."""
-    lines = [f'[{tick}] s{switch} {call_text(core, event, args)}\n']
-    return ''.join(lines + [out_text(core, out, l) for out, l in zip(outs, lost)])
+def block_text(core: Core, tick: int, switch: int, event: int, args: List[int], outs: List[Tuple[Out, bool]]) -> str:
+    """Returns the block of an event: its line, and a line for each out, which may be lost."""
+    return f'[{tick}] s{switch} {call_text(core, event, args)}\n' + ''.join(out_text(core, out, lost) for out, lost in outs)
 
 
 def cells_text(core: Core, switch: int, cells: Cells) -> str:

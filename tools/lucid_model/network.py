@@ -4,10 +4,11 @@ from typing import List, Optional, Tuple
 
 from .core import Core
 from .interpret import Cells, Out, empty_cells, run_whole
-from .json_files import Limits, Scene
+from .json_files import Limits
 from .layout import Placed
 from .log import block_text, cells_text
 from .pipe import Packet, Pipe
+from .scenes import Scene
 
 LAST = 2 ** 64 - 1
 # What waits at a switch, by the order in which it enters: ready time, events of the file before sent ones, tick and switch of the
@@ -39,16 +40,14 @@ class Network:
 
     def leave(self, tick: int, me: int, event: int, args: List[int], outs: List[Out]) -> None:
         """Writes the block of an event, and makes what it sends wait or be lost."""
-        lost = [False] * len(outs)
+        shown: List[Tuple[Out, bool]] = []
         for index, out in enumerate(outs):
-            if out.delay is None:
-                continue
-            arrival = self.arrival(tick, me, out)
-            lost[index] = arrival is None
+            arrival = self.arrival(tick, me, out) if out.delay is not None else None
+            shown.append((out, out.delay is not None and arrival is None))
             if arrival is not None:
                 heapq.heappush(self.waiting[arrival[0]], (arrival[1], True, tick, me, index, out.number, out.args))
-        self.lost += sum(lost)
-        self.lines.append(block_text(self.core, tick, me, event, args, outs, lost))
+        self.lost += sum(lost for _, lost in shown)
+        self.lines.append(block_text(self.core, tick, me, event, args, shown))
 
     def left(self, p: Packet) -> None:
         """Takes a packet that left its pipeline."""

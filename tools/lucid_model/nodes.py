@@ -18,15 +18,11 @@ class Node:
 def nodes_of(code: Code) -> List[Node]:
     """Returns the nodes in the order of their keys, those of one key in the order of the list."""
     found: List[Node] = []
-    seen = set()
     for i in sorted(range(len(code.ops)), key=lambda i: (code.ops[i].key(), i)):
         op = code.ops[i]
         array = op.number if op.kind == 'touch' else None
-        if array is not None and array in seen:
-            continue
-        seen.add(array)
         ops = [i] if array is None else code.calls(array)
-        reads = frozenset(k for j in ops for k in code.ops[j].reads())
-        writes = frozenset(code.ops[j].to for j in ops if code.ops[j].to is not None)
-        found.append(Node(ops, array, reads, writes))
+        if ops[0] == i:  # the first call of an array is there for all of them
+            reads = frozenset(k for j in ops for k in code.ops[j].reads())
+            found.append(Node(ops, array, reads, frozenset(code.ops[j].to for j in ops if code.ops[j].to is not None)))
     return found

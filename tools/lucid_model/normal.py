@@ -1,12 +1,11 @@
 """The normal form: each handler becomes operations under the guard that the event is its own; calls are inlined here."""
 from dataclasses import dataclass
-from typing import Dict, List, Optional, Tuple
+from typing import Any, Dict, List, Optional, Tuple
 
 from . import core
 from .code import Code, Literal, Op, Operand
 from .inline import needs_move
-
-NOTHING = Operand(False, 0)
+from .values import COMPARE
 
 
 @dataclass(frozen=True)
@@ -26,6 +25,11 @@ class Frame:
     answer: Optional[Held] = None
 
 
+def number(value: int, width: int) -> Held:
+    """Returns what holds a number."""
+    return Held(Operand(False, value), width)
+
+
 class Translation:
     """Translates one handler after another. `place` is where the walk stands among the arrays, `slot` counts the outs."""
 
@@ -38,41 +42,49 @@ class Translation:
         self.via: Tuple[int, ...] = ()
         self.place = self.slot = 0
 
-    def emit(self, kind: str, operands: List[Operand], to_width: Optional[int], at: int, **more) -> Optional[Held]:
-        """Adds an operation, which writes a new field of a width where one is given."""
-        to = None
-        if to_width is not None:
-            to = len(self.code.widths)
-            self.code.widths.append(to_width)
-        self.code.ops.append(Op(self.guard, self.place, kind, tuple(operands), to, at, self.via, **more))
-        return None if to is None else Held(Operand(True, to), to_width)
+    def new_field(self, width: int) -> Held:
+        """Adds a field of a width."""
+        self.code.widths.append(width)
+        return Held(Operand(True, len(self.code.widths) - 1), width)
+
+    def emit(self, kind: str, parts: List[Held], to: Optional[Held], at: int, **more: Any) -> Optional[Held]:
+        """Adds an operation, which writes a field where one is given, and returns that."""
+        field = None if to is None else to.operand.value
+        self.code.ops.append(Op(self.guard, self.place, kind, tuple(p.operand for p in parts), field, at, self.via, **more))
+        return to
+
+    def emit_out(self, kind: str, parts: List[Held], at: int, number: int, **more: Any) -> None:
+        """Adds an operation of the next slot of outs."""
+        self.emit(kind, parts, None, at, number=number, slot=self.slot, **more)
+        self.slot += 1
+
+    def move(self, value: Held, at: int) -> Held:
+        """Moves a value to a new field."""
+        return self.emit('move', [value], self.new_field(value.width), at)
 
     # ---- expressions
 
     def value(self, x: core.Expr, f: Frame) -> Optional[Held]:
         """Translates an expression; it may give no value."""
         if isinstance(x, core.Fixed):
-            return Held(Operand(False, x.value), x.width)
+            return number(x.value, x.width)
         if isinstance(x, core.Local):
             return f.held[x.number]
         if isinstance(x, core.Input):
             return Held(Operand(True, 1 if x.name == 'now' else 2), 32)
         parts = [self.value(y, f) for y in core.children(x)]
-        operands = [p.operand for p in parts]
         if isinstance(x, core.Un):
-            return self.emit('un', operands, x.width, x.at, sign=x.op, amount=x.amount, width=x.width)
+            return self.emit('un', parts, self.new_field(x.width), x.at, sign=x.op, amount=x.amount, width=x.width)
         if isinstance(x, core.Bin):
-            return self.emit('bin', operands, 1 if x.op in core.COMPARE else x.width, x.at, sign=x.op, width=x.width)
-        if isinstance(x, core.Cast):
-            return self.emit('cast', operands, x.width, x.at)
-        if isinstance(x, core.Hash):
-            return self.emit('hash', operands, x.width, x.at)
+            return self.emit('bin', parts, self.new_field(1 if x.op in COMPARE else x.width), x.at, sign=x.op, width=x.width)
+        if isinstance(x, (core.Cast, core.Hash)):
+            return self.emit('cast' if isinstance(x, core.Cast) else 'hash', parts, self.new_field(x.width), x.at)
         if isinstance(x, core.Touch):
-            array = self.array(x.array, f)
-            made = self.emit('touch', operands, x.get.width if x.answers else None, x.at, number=array, get=x.get, set=x.set,
-                             width=x.get.width)
+            array, width = self.array(x.array, f), x.get.width
+            to = self.new_field(width) if x.answers else None
+            self.emit('touch', parts, to, x.at, number=array, get=x.get, set=x.set, width=width)
             self.place = array + 1
-            return made
+            return to
         return self.call(x, parts, f)
 
     def array(self, name: core.ArrayName, f: Frame) -> int:
@@ -101,27 +113,18 @@ class Translation:
             elif isinstance(s, core.Gen):
                 self.send(s, parts)
             elif isinstance(s, core.Say):
-                self.emit('say', [p.operand for p in parts], None, s.at, number=s.form, slot=self.slot)
-                self.slot += 1
+                self.emit_out('say', parts, s.at, s.form)
             elif isinstance(s, core.Return):
                 f.held, f.answer = None, parts[0] if parts else None
-
-    def move(self, value: Held, at: int) -> Held:
-        """Moves a value to a new field."""
-        return self.emit('move', [value.operand], value.width, at)
 
     def send(self, s: core.Gen, parts: List[Held]) -> None:
         """One operation; for a group moves of the arguments and of the delay, and then one for each member."""
         if s.members is not None:
             parts = [self.move(p, s.at) for p in parts]
-        operands = [p.operand for p in parts]
-        args, behind = operands[:len(s.args)], operands[len(s.args):]
-        target_first = s.to is not None and not s.delay_first
-        delay = NOTHING if s.delay is None else behind[1 if target_first else 0]
-        to = [] if s.to is None else [behind[0] if target_first else behind[-1]]
-        for targets in [to] if s.members is None else [[Operand(False, m)] for m in s.members]:
-            self.emit('gen', args + [delay] + targets, None, s.at, number=s.event, slot=self.slot, targeted=bool(targets))
-            self.slot += 1
+        args, delay, to = s.split(parts)
+        for target in [to] if s.members is None else [number(m, 32) for m in s.members]:
+            targets = [] if target is None else [target]
+            self.emit_out('gen', args + [delay or number(0, 32)] + targets, s.at, s.event, targeted=target is not None)
 
     def choice(self, s: core.If, f: Frame) -> None:
         """The condition, the two branches under its literal, and then the joins."""
@@ -130,37 +133,36 @@ class Translation:
             test = self.move(test, s.test.at)
         bit = test.operand.value
         guard, before, place, slot = self.guard, f.held, self.place, self.slot
-        ends: List[Tuple[Optional[Dict[int, Held]], Optional[Held], int, int]] = []
+        ends: List[Tuple[Frame, int, int]] = []
         for truth, branch in ((1, s.yes), (0, s.no)):
             self.guard, self.place, self.slot = guard + (Literal(bit, True, truth),), place, slot
-            f.held, f.answer = dict(before), None
-            self.block(branch, f)
-            ends.append((f.held, f.answer, self.place, self.slot))
-        (yes, yes_answer, *_), (no, no_answer, *_) = ends
-        self.guard, self.place, self.slot = guard, max(e[2] for e in ends), max(e[3] for e in ends)
+            inner = Frame(f.arrays, dict(before))
+            self.block(branch, inner)
+            ends.append((inner, self.place, self.slot))
+        self.guard, self.place, self.slot = guard, max(end[1] for end in ends), max(end[2] for end in ends)
+        yes, no = ends[0][0], ends[1][0]
         f.held, f.answer = None, None
-        if yes is not None and no is not None:
-            f.held = {i: yes[i] if yes[i] == no[i] else self.join(bit, yes[i], no[i], s.at) for i in sorted(before)}
-        elif yes_answer is not None and no_answer is not None:
-            f.answer = self.join(bit, yes_answer, no_answer, s.at)
+        if yes.held is not None and no.held is not None:
+            f.held = {i: self.join(bit, yes.held[i], no.held[i], s.at) for i in sorted(before)}
+        elif yes.answer is not None and no.answer is not None:
+            f.answer = self.join(bit, yes.answer, no.answer, s.at, always=True)
 
-    def join(self, bit: int, yes: Held, no: Held, at: int) -> Held:
-        """Returns what holds a value behind an `if`: a new field with a move in each branch, also where both move the same."""
-        guard, to = self.guard, len(self.code.widths)
-        self.code.widths.append(yes.width)
+    def join(self, bit: int, yes: Held, no: Held, at: int, always: bool = False) -> Held:
+        """Returns what holds a value behind an `if`: a new field with a move in each branch, unless both hold a local by the same."""
+        if yes == no and not always:
+            return yes
+        guard, to = self.guard, self.new_field(yes.width)
         for truth, value in ((1, yes), (0, no)):
-            self.code.ops.append(Op(guard + (Literal(bit, True, truth),), self.place, 'move', (value.operand,), to, at, self.via))
-        return Held(Operand(True, to), yes.width)
-
-    def handler(self, h: core.Body) -> None:
-        """A handler begins at place 0 with its parameters held by the argument fields."""
-        self.guard, self.place, self.slot = (Literal(0, True, h.event),), 0, 0
-        self.block(h.body, Frame([], {i: Held(Operand(True, 3 + i), h.locals[i]) for i in range(h.params)}))
+            self.guard = guard + (Literal(bit, True, truth),)
+            self.emit('move', [value], to, at)
+        self.guard = guard
+        return to
 
 
 def normal(c: core.Core) -> Code:
-    """Returns the normal form of a program, whose counts keep their bounds."""
+    """Returns the normal form of a program: a handler begins at place 0 with its parameters held by the argument fields."""
     made = Translation(c)
     for h in c.handlers:
-        made.handler(h)
+        made.guard, made.place, made.slot = (Literal(0, True, h.event),), 0, 0
+        made.block(h.body, Frame([], {i: Held(Operand(True, 3 + i), h.locals[i]) for i in range(h.params)}))
     return made.code

@@ -1,7 +1,7 @@
 """The order of arrays (docs/LANGUAGE.md, The order of arrays): what each body needs, found once, and its cycles."""
 from collections import deque
 from dataclasses import dataclass, field
-from typing import Deque, Dict, List, Optional, Tuple, Union
+from typing import Deque, Dict, List, Optional, Tuple
 
 from . import core
 from .core import ArrayName
@@ -15,16 +15,17 @@ Places = Dict[Atom, int]  # where the walk stands, and the call behind which tha
 class Scheme:
     """What a body needs: pairs of an atom and the array that must not come before it, each with the places of both calls."""
 
+    ends: Places
     needs: Dict[Tuple[Atom, ArrayName], Tuple[int, int]] = field(default_factory=dict)
-    ends: Places = field(default_factory=dict)
 
 
 class Walk:
     """Walks along a body in the order of evaluation, from the schemes of the functions before."""
 
-    def __init__(self, schemes: List[Scheme], at: int) -> None:
+    def __init__(self, schemes: List[Scheme], body: core.Body) -> None:
         self.schemes = schemes
-        self.found = Scheme({}, {None: at})
+        self.found = Scheme({None: body.at})
+        self.walk(body.body)
 
     def call(self, array: ArrayName, at: int) -> None:
         """To call an array the walk must not stand behind it, and then it stands behind it."""
@@ -34,17 +35,19 @@ class Walk:
 
     def enter(self, x: core.Fun) -> None:
         """A function's scheme, with the caller's arrays and places for its own."""
-        put = lambda name: name if name.declared else x.arrays[name.number]
-        scheme = self.schemes[x.number]
-        for (atom, array), places in scheme.needs.items():
-            for before, at in (self.found.ends if atom is None else {put(atom): x.at}).items():
-                self.found.needs.setdefault((before, put(array)), (at, x.at))
-        ends: Places = {}
-        for atom in scheme.ends:
-            ends.update(self.found.ends if atom is None else {put(atom): x.at})
-        self.found.ends = ends
+        def put(atom: Atom) -> Places:
+            if atom is None:
+                return self.found.ends
+            return {atom if atom.declared else x.arrays[atom.number]: x.at}
 
-    def walk(self, nodes: List[Union[core.Expr, core.Stmt]]) -> None:
+        scheme = self.schemes[x.number]
+        for atom, array in scheme.needs:
+            for before, at in put(atom).items():
+                for behind in put(array):
+                    self.found.needs.setdefault((before, behind), (at, x.at))
+        self.found.ends = {atom: at for end in scheme.ends for atom, at in put(end).items()}
+
+    def walk(self, nodes: List[core.Node]) -> None:
         """Arguments come before a call, and a condition before its branches, which begin where it ends."""
         for x in nodes:
             self.walk(core.children(x))
@@ -64,7 +67,6 @@ class Walk:
 class Order:
     """Which arrays must come before which, for one body: by its pairs, and by their declarations."""
 
-    arrays: int
     scheme: Scheme
     names: Dict[ArrayName, str]
 
@@ -79,24 +81,22 @@ class Order:
     def cycle(self) -> Optional[List[ArrayName]]:
         """Returns a shortest cycle, begun with its earliest name; None exactly where there is a numbering."""
         touched = sorted({a for pair in self.scheme.needs for a in pair if a is not None}, key=self.key)
-        best: Optional[List[ArrayName]] = None
-        for start in touched:
-            came: Dict[ArrayName, Optional[ArrayName]] = {start: None}
-            waiting: Deque[ArrayName] = deque([start])
-            while waiting:
-                x = waiting.popleft()
-                if self.needed(x, start):
-                    path = [x]
-                    while came[path[0]] is not None:
-                        path.insert(0, came[path[0]])
-                    if best is None or len(path) < len(best):
-                        best = path
-                    break
-                for y in touched:
-                    if y not in came and self.key(y) > self.key(start) and self.needed(x, y):
-                        came[y] = x
-                        waiting.append(y)
-        return best
+        cycles = [cycle for cycle in (self.cycle_from(start, touched) for start in touched) if cycle is not None]
+        return min(cycles, key=len, default=None)
+
+    def cycle_from(self, start: ArrayName, touched: List[ArrayName]) -> Optional[List[ArrayName]]:
+        """Returns a shortest cycle through an array and later ones."""
+        waiting: Deque[List[ArrayName]] = deque([[start]])
+        seen = {start}
+        while waiting:
+            path = waiting.popleft()
+            if self.needed(path[-1], start):
+                return path
+            for y in touched:
+                if y not in seen and self.key(y) > self.key(start) and self.needed(path[-1], y):
+                    seen.add(y)
+                    waiting.append(path + [y])
+        return None
 
     def allows(self, names: List[str]) -> bool:
         """Whether these names are a cycle: none twice, each before the next, the last before the first, the earliest first."""
@@ -111,39 +111,18 @@ class Order:
 def check_order(c: core.Core) -> None:
     """Refuses the first function or handler that no numbering derives, with a cycle of what it needs."""
     schemes: List[Scheme] = []
-    refused: List[Refused] = []
+    refused: Dict[int, Refused] = {}  # by the number of the declaration: all functions are walked before the handlers
     for number, body in enumerate(c.funs + c.handlers):
-        walk = Walk(schemes, body.at)
-        walk.walk(body.body)
+        found = Walk(schemes, body).found
         if number < len(c.funs):
-            schemes.append(walk.found)
+            schemes.append(found)
         names = {ArrayName(True, i): a.name for i, a in enumerate(c.arrays)}
         names.update({ArrayName(False, i): name for i, (name, _) in enumerate(body.arrays)})
-        order = Order(len(c.arrays), walk.found, names)
+        order = Order(found, names)
         cycle = order.cycle()
         if cycle is not None:
             line = f'order: declaration {body.decl} line {body.line} cycle'
-            text = ' '.join([line] + [names[x] for x in cycle])
-            refused.append(Refused(6, text, cause(order, cycle), details=(body.decl, order, line)))
+            at = next(order.scheme.needs[pair][1] for pair in zip(cycle, cycle[1:] + cycle[:1]) if pair in order.scheme.needs)
+            refused[body.decl] = Refused(6, ' '.join([line] + [names[x] for x in cycle]), Fault('cycle', at, line, order, cycle))
     if refused:
-        raise min(refused, key=lambda r: r.details[0])
-
-
-def cause(order: Order, cycle: List[ArrayName]) -> Fault:
-    """Says both places of a cycle, and which of its names the declarations put in order."""
-    others: List[Tuple[int, str]] = []
-    at: Optional[int] = None
-    for x, y in zip(cycle, cycle[1:] + cycle[:1]):
-        if (x, y) in order.scheme.needs:
-            before, here = order.scheme.needs[x, y]
-            at = here if at is None else at
-            others += [(before, f'{order.names[x]} is called here'), (here, f'and {order.names[y]} is called behind it, here')]
-    names = [order.names[x] for x in cycle]
-    if len(cycle) == 1:
-        problem = f'{names[0]} is called twice on one path'
-        remedy = 'make both calls one `Array.update`, or send an event between them'
-    else:
-        problem = f'{names[0]} must come before {names[-1]}, and {names[-1]} before {names[0]}'
-        remedy = 'swap the calls or the declarations, or send an event between the calls'
-    return Fault(at, problem, 'On each path a handler calls each array at most once, in the order of their declarations.', remedy,
-                 others=others)
+        raise refused[min(refused)]

@@ -1,44 +1,44 @@
 """The four passes: `fold`, `copies`, `dead` and `direct` (crates/lucid_pass_spec/specs)."""
+from collections import Counter
 from dataclasses import replace
-from typing import Callable, Dict, List, Optional, Tuple
+from typing import Callable, Dict, List, Optional, Set, Tuple
 
+from . import core
 from .code import Code, Literal, Op, Operand
+from .inline import check_counts
+from .normal import normal
+from .values import low
 
 
 def only_writers(ops: List[Op]) -> Dict[int, int]:
     """Returns, of each field that just one operation writes, that operation."""
-    writers: Dict[int, List[int]] = {}
-    for i, op in enumerate(ops):
-        if op.to is not None:
-            writers.setdefault(op.to, []).append(i)
-    return {field: found[0] for field, found in writers.items() if len(found) == 1}
-
-
-def moved_from(ops: List[Op], writers: Dict[int, int], reader: Op, field: int) -> Optional[Operand]:
-    """Returns what a field is moved from, where the reader's guard has all literals of that move's guard."""
-    if field not in writers:
-        return None
-    writer = ops[writers[field]]
-    return writer.operands[0] if writer.kind == 'move' and set(writer.guard) <= set(reader.guard) else None
+    counts = Counter(op.to for op in ops)
+    return {op.to: i for i, op in enumerate(ops) if op.to is not None and counts[op.to] == 1}
 
 
 def look_through(code: Code, put: Callable[[int, Operand], Operand], settle: Callable[[Op], Op]) -> List[Op]:
-    """Changes each operation in the order of the list, as it then stands; `put` chooses what stands for a moved field."""
+    """Changes each operation in the order of the list, as it then stands; `put` chooses what stands for a moved field.
+
+    A field is moved if a `move` alone writes it, and the reader's guard has all literals of that move's guard.
+    """
     ops = list(code.ops)
     writers = only_writers(ops)
+
+    def seen(x: Operand, reader: Op) -> Operand:
+        writer = ops[writers[x.value]] if x.is_field and x.value in writers else None
+        if writer is None or writer.kind != 'move' or not set(writer.guard) <= set(reader.guard):
+            return x
+        return put(x.value, writer.operands[0])
+
     for i, op in enumerate(ops):
-        operands = []
-        for x in op.operands:
-            source = moved_from(ops, writers, op, x.value) if x.is_field else None
-            operands.append(x if source is None else put(x.value, source))
-        ops[i] = settle(replace(op, operands=tuple(operands)))
+        ops[i] = settle(replace(op, operands=tuple(seen(x, op) for x in op.operands)))
     return ops
 
 
 def fold(code: Code) -> List[Op]:
     """A field that is moved from a number becomes that number; what computes from numbers alone becomes a move."""
     def put(field: int, source: Operand) -> Operand:
-        return Operand(True, field) if source.is_field else Operand(False, source.value % 2 ** code.widths[field])
+        return Operand(True, field) if source.is_field else Operand(False, low(source.value, code.widths[field]))
 
     def settle(op: Op) -> Op:
         if op.kind not in ('un', 'bin', 'cast', 'hash') or any(x.is_field for x in op.operands):
@@ -68,28 +68,33 @@ def dead(code: Code) -> List[Op]:
     return kept[::-1]
 
 
+def compared(code: Code, op: Op) -> Optional[Tuple[int, int]]:
+    """Returns the field and the number that an operation compares by `==`, if it compares whole fields."""
+    if op.kind != 'bin' or op.sign != '==':
+        return None
+    left, right = op.operands
+    if not left.is_field or right.is_field or op.width != code.widths[left.value] or right.value >= 2 ** op.width:
+        return None
+    return left.value, right.value
+
+
 def direct(code: Code) -> List[Op]:
     """A test of a field that compares another with a number becomes a test of that other field."""
-    writers = only_writers(code.ops)
-    guards: Dict[int, List[set]] = {}
+    guards: Dict[int, List[Set[Literal]]] = {}
     for op in code.ops:
-        for field in {x.field for x in op.guard}:
-            guards.setdefault(field, []).append(set(op.guard))
+        for x in op.guard:
+            guards.setdefault(x.field, []).append(set(op.guard))
     tests: Dict[int, Tuple[int, int]] = {}
-    for field, i in writers.items():
-        op = code.ops[i]
-        if op.kind != 'bin' or op.sign != '==':
-            continue
-        left, right = op.operands
-        if left.is_field and not right.is_field and op.width == code.widths[left.value] and right.value < 2 ** op.width \
-                and all(set(op.guard) <= guard for guard in guards.get(field, [])):
-            tests[field] = (left.value, right.value)
+    for field, i in only_writers(code.ops).items():
+        found = compared(code, code.ops[i])
+        if found is not None and all(set(code.ops[i].guard) <= guard for guard in guards.get(field, [])):
+            tests[field] = found
 
     def literal(x: Literal) -> Literal:
         if x.field not in tests:
             return x
-        says = x.value == 1 if x.equal else x.value == 0
-        return Literal(tests[x.field][0], says, tests[x.field][1])
+        field, value = tests[x.field]
+        return Literal(field, x.value == 1 if x.equal else x.value == 0, value)
 
     ops = [replace(op, guard=tuple(dict.fromkeys(literal(x) for x in op.guard))) for op in code.ops]
     read = {field for op in ops for field in op.reads()}
@@ -99,8 +104,10 @@ def direct(code: Code) -> List[Op]:
 PASSES: List[Tuple[str, Callable[[Code], List[Op]]]] = [('fold', fold), ('copies', copies), ('dead', dead), ('direct', direct)]
 
 
-def run_passes(code: Code) -> Tuple[Code, List[int]]:
-    """Runs each pass in order; returns the code and how many operations each removed."""
+def compose(c: core.Core) -> Tuple[Code, List[int]]:
+    """Returns what the passes make of the normal form, and how many operations each removed; the two counts come first."""
+    check_counts(c)
+    code = normal(c)
     gone: List[int] = []
     for _, one in PASSES:
         ops = one(code)

@@ -1,9 +1,10 @@
 """A pipeline whose packets move stage by stage, and run the operations of the placed code (not whole handlers)."""
-from dataclasses import dataclass
-from typing import Dict, List, Optional, Tuple
+from dataclasses import dataclass, replace
+from typing import Dict, List, Optional
 
 from .interpret import Cells, Out, empty_cells
 from .layout import Placed
+from .values import low
 
 
 @dataclass
@@ -25,14 +26,14 @@ class Packet:
 class Pipe:
     """A pipeline with a slot before each stage."""
 
-    def __init__(self, placed: Placed, cells: Optional[Cells] = None) -> None:
+    def __init__(self, placed: Placed) -> None:
         self.placed, self.code = placed, placed.code
-        self.cells = empty_cells(placed.code.core) if cells is None else [list(row) for row in cells]
+        self.cells = empty_cells(placed.code.core)
         self.slots: List[Optional[Packet]] = [None] * len(placed.stages)
 
     def enter(self, event: int, args: List[int], now: int, me: int) -> None:
         """Puts a packet into slot 0, which must be free; fields that are no inputs begin as 0."""
-        fields = [event, now % 2 ** 32, me] + args
+        fields = [event, low(now, 32), me] + args
         self.slots[0] = Packet(event, args, now, me, fields + [0] * (len(self.code.widths) - len(fields)), {})
 
     def go(self, k: int) -> Optional[Packet]:
@@ -47,14 +48,12 @@ class Pipe:
     def run_stage(self, k: int, packet: Packet) -> None:
         """Lets each table read the fields as the packet entered the stage; then all that act write together."""
         entered = list(packet.fields)
-        acting: List[int] = []
         for table in self.placed.stages[k].tables:
             for row in table:
                 if all(entered[field] == value for field, value in row.pattern):
-                    acting += row.ops
+                    for i in row.ops:
+                        self.act(i, entered, packet)
                     break
-        for i in acting:
-            self.act(i, entered, packet)
 
     def act(self, i: int, entered: List[int], packet: Packet) -> None:
         """Lets an operation act with its operands read from these fields."""
@@ -62,7 +61,7 @@ class Pipe:
         values = [entered[x.value] if x.is_field else x.value for x in op.operands]
         if op.kind == 'touch':
             cells = self.cells[op.number]
-            cell, (get, put) = values[0] % len(cells), (v % 2 ** op.width for v in values[1:])
+            cell, get, put = values[0] % len(cells), low(values[1], op.width), low(values[2], op.width)
             old = cells[cell]
             cells[cell] = op.set.apply(old, put)
             if op.to is not None:
@@ -85,20 +84,8 @@ class Pipe:
 
     def settled(self) -> Cells:
         """Returns the cells that the packets in flight leave behind when they finish."""
-        copy = Pipe(self.placed, self.cells)
-        copy.slots = [None if p is None else Packet(p.event, p.args, p.now, p.me, list(p.fields), {}) for p in self.slots]
+        copy = Pipe(self.placed)
+        copy.cells = [list(row) for row in self.cells]
+        copy.slots = [None if p is None else replace(p, fields=list(p.fields), slots={}) for p in self.slots]
         copy.drain()
         return copy.cells
-
-
-def step_line(pipe: Pipe, step: Tuple) -> str:
-    """Returns the line of a `look`, or of a `go` that can not be done; an empty text for a `go` that can."""
-    core = pipe.code.core
-    if step[0] == 'look':
-        a = core.arrays[step[1]]
-        cell = step[2] % a.size
-        return f'look {a.name}[{cell}] = {pipe.cells[step[1]][cell]}\n'
-    k = step[1]
-    if k >= len(pipe.slots) or pipe.slots[k] is None:
-        return f'empty {k}\n'
-    return f'ahead {k}\n' if k + 1 < len(pipe.slots) and pipe.slots[k + 1] is not None else ''

@@ -1,5 +1,5 @@
-"""Takes tokens from the left, and reads expressions (docs/LANGUAGE.md, The tree): one method for each line of the grammar."""
-from typing import List
+"""Takes tokens from the left, and reads types and expressions by the grammar of docs/LANGUAGE.md (The tree)."""
+from typing import Any, Callable, List, Union
 
 from . import tree
 from .lexer import Token
@@ -13,51 +13,65 @@ COMPARISONS, SHIFTS = 2, 6
 class Stuck(Exception):
     """The number of the token with which no declaration goes on, and what may stand there."""
 
-    def __init__(self, at: int, wanted: str) -> None:
-        super().__init__(wanted)
+    def __init__(self, at: int, *wanted: str) -> None:
+        super().__init__(*wanted)
         self.at, self.wanted = at, wanted
 
 
 class Reader:
-    """Takes tokens by the next one alone, or by the next two."""
+    """Takes tokens by the next one alone, or by the next two; behind the last stands one without text."""
 
     def __init__(self, tokens: List[Token], text: str) -> None:
-        self.tokens, self.text, self.here = tokens, text, 0
+        self.tokens, self.text, self.here = tokens + [Token('end', '', len(text), len(text))], text, 0
 
-    # ---- tokens
+    @property
+    def token(self) -> Token:
+        """The next token."""
+        return self.tokens[self.here]
 
-    def peek(self, ahead: int = 0) -> str:
-        """Returns the text of a token ahead, or nothing behind the last."""
-        at = self.here + ahead
-        return self.tokens[at].text if at < len(self.tokens) else ''
-
-    def at(self) -> int:
-        """Returns the place of the next token, or the end of the text."""
-        return self.tokens[self.here].at if self.here < len(self.tokens) else len(self.text)
-
-    def stuck(self, wanted: str) -> Stuck:
-        """Returns the error that this token does not go on."""
-        return Stuck(self.here, wanted)
-
-    def take(self, text: str) -> bool:
-        """Takes this word or sign, if it is next."""
-        if self.peek() != text:
-            return False
+    def take(self, *texts: str) -> str:
+        """Takes the next token if it is one of these, and returns its text, or else nothing."""
+        if self.token.text not in texts:
+            return ''
         self.here += 1
-        return True
+        return self.tokens[self.here - 1].text
 
-    def need(self, text: str) -> None:
-        """Takes this word or sign, which must be next."""
-        if not self.take(text):
-            raise self.stuck(f'`{text}`')
+    def one_of(self, *texts: str) -> str:
+        """Takes the next token, which must be one of these, and returns its text."""
+        found = self.take(*texts)
+        if not found:
+            raise Stuck(self.here, *(f'`{text}`' for text in texts))
+        return found
 
-    def kind(self, kind: str, wanted: str, *texts: str) -> Token:
-        """Takes a token of a kind, with one of these texts where some are given."""
-        token = self.tokens[self.here] if self.here < len(self.tokens) else None
-        if token is None or token.kind != kind or texts and token.text not in texts:
-            raise self.stuck(wanted)
+    def kind(self, kind: str, wanted: str) -> Token:
+        """Takes the next token, which must be of a kind."""
+        if self.token.kind != kind:
+            raise Stuck(self.here, wanted)
         self.here += 1
-        return token
+        return self.tokens[self.here - 1]
+
+    def read(self, *parts: Union[str, Callable[[], Any]]) -> List[Any]:
+        """Reads a line of the grammar, part by part: a text is the next token, a method reads; returns what the methods read."""
+        found: List[Any] = []
+        for part in parts:
+            if isinstance(part, str):
+                self.one_of(part)
+            else:
+                found.append(part())
+        return found
+
+    def several(self, item: Callable[[], Any], close: str) -> List[Any]:
+        """item { "," item } close"""
+        found = [item()]
+        while self.take(','):
+            found.append(item())
+        self.read(close)
+        return found
+
+    def bracketed(self, item: Callable[[], Any]) -> List[Any]:
+        """"(" [ item { "," item } ] ")" """
+        self.read('(')
+        return [] if self.take(')') else self.several(item, ')')
 
     def name(self, wanted: str = 'a name') -> Token:
         """Takes a name."""
@@ -72,36 +86,30 @@ class Reader:
 
     def type(self) -> tree.Ty:
         """type = "int" [ width ] | "bool" """
-        at = self.at()
-        if self.take('bool'):
-            return tree.Ty(False, None, at)
-        if not self.take('int'):
-            raise self.stuck('a type, `int`, `int<<width>>` or `bool`')
-        return tree.Ty(True, self.width() if self.peek() == '<<' else None, at)
+        at = self.token.at
+        is_int = self.one_of('int', 'bool') == 'int'
+        return tree.Ty(is_int, self.width() if is_int and self.token.text == '<<' else None, at)
 
     def width(self) -> int:
         """width = "<<" number ">>" """
-        self.need('<<')
-        number = self.number()
-        self.need('>>')
-        return number.value
+        return self.read('<<', self.number, '>>')[0].value
 
     def array(self) -> int:
         """array = "Array" [ "." 't' ] width"""
-        self.need('Array')
+        self.read('Array')
         if self.take('.'):
-            self.kind('name', '`t`', 't')
+            self.read('t')
         return self.width()
 
     # ---- expressions
 
     def expr(self, level: int = 0) -> tree.Expr:
         """Operands with operators of this level and tighter ones between; operators of one level group to the left."""
-        at = self.at()
+        at = self.token.at
         left = self.pre()
         loosest = len(LEVELS) - 1
-        while level <= LEVEL_OF.get(self.peek(), -1) <= loosest:
-            sign_at, sign = self.at(), self.peek()
+        while level <= LEVEL_OF.get(self.token.text, -1) <= loosest:
+            sign_at, sign = self.token.at, self.token.text
             self.here += 1
             here = LEVEL_OF[sign]
             if here == SHIFTS:
@@ -113,78 +121,47 @@ class Reader:
 
     def pre(self) -> tree.Expr:
         """pre = ( "-" | "~" | "!" ) pre | "(" "int" [ width ] ")" pre | prim"""
-        at = self.at()
-        for sign in ('-', '~', '!'):
-            if self.take(sign):
-                return tree.Prefix(sign, self.pre(), at)
-        if self.peek() == '(' and self.peek(1) == 'int':
-            self.here += 1
-            width = self.type().width
-            self.need(')')
-            return tree.Cast(width, self.pre(), at)
+        at = self.token.at
+        sign = self.take('-', '~', '!')
+        if sign:
+            return tree.Prefix(sign, self.pre(), at)
+        if self.token.text == '(' and self.tokens[self.here + 1].text == 'int':
+            ty, arg = self.read('(', self.type, ')', self.pre)
+            return tree.Cast(ty.width, arg, at)
         return self.prim()
 
     def prim(self) -> tree.Expr:
         """prim, by its first token"""
-        at, word = self.at(), self.peek()
-        if self.here < len(self.tokens) and self.tokens[self.here].kind == 'number':
+        at, word = self.token.at, self.token.text
+        if self.token.kind == 'number':
             return self.number()
-        if word in ('true', 'false'):
-            self.here += 1
+        if word == 'Array':
+            return self.access()
+        if self.take('true', 'false'):
             return tree.Truth(word == 'true', at)
         if self.take('SELF'):
             return tree.Me(at)
         if self.take('Sys'):
-            self.need('.')
-            self.kind('name', '`time`', 'time')
-            self.need('(')
-            self.need(')')
+            self.read('.', 'time', '(', ')')
             return tree.Time(at)
         if self.take('hash'):
-            width = self.width()
-            self.need('(')
-            args = [self.expr()]
-            while self.take(','):
-                args.append(self.expr())
-            self.need(')')
-            return tree.Hash(width, args, at)
-        if word == 'Array':
-            return self.access()
+            (width,) = self.read(self.width, '(')
+            return tree.Hash(width, self.several(self.expr, ')'), at)
         if self.take('('):
-            inner = self.expr()
-            self.need(')')
-            return tree.Paren(inner, at)
+            return tree.Paren(*self.read(self.expr, ')'), at)
         name = self.name('an expression').text
-        return tree.Call(name, self.arguments(), at) if self.peek() == '(' else tree.Name(name, at)
-
-    def arguments(self) -> List[tree.Expr]:
-        """"(" [ expr { "," expr } ] ")" """
-        self.need('(')
-        found: List[tree.Expr] = []
-        if self.take(')'):
-            return found
-        found.append(self.expr())
-        while self.take(','):
-            found.append(self.expr())
-        self.need(')')
-        return found
+        return tree.Call(name, self.bracketed(self.expr), at) if self.token.text == '(' else tree.Name(name, at)
 
     def access(self) -> tree.Access:
         """access = "Array" "." ( 'get' .. | 'set' .. | 'getm' .. | 'setm' .. | 'update' .. )"""
-        at = self.at()
-        self.need('Array')
-        self.need('.')
-        kind = self.kind('name', '`get`, `set`, `getm`, `setm` or `update`', 'get', 'set', 'getm', 'setm', 'update').text
-        self.need('(')
-        array = self.name('an array').text
-        self.need(',')
-        found = tree.Access(kind, array, self.expr(), [], [], at)
+        at = self.token.at
+        self.read('Array', '.')
+        kind = self.one_of('get', 'set', 'getm', 'setm', 'update')
+        array, index = self.read('(', self.name, ',', self.expr)
+        found = tree.Access(kind, array.text, index, [], [], at)
         for _ in range({'get': 0, 'update': 2}.get(kind, 1)):
-            self.need(',')
             if kind != 'set':
-                memop = self.name('a memop')
-                found.memops.append(tree.Name(memop.text, memop.at))
-                self.need(',')
-            found.args.append(self.expr())
-        self.need(')')
+                found.memops += self.read(',', lambda: self.name('a memop'))
+            found.args += self.read(',', self.expr)
+        self.read(')')
         return found

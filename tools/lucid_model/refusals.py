@@ -1,19 +1,17 @@
-"""Refusals: the exit code and the line of docs/ERRORS.md, with the place and the reason for tools/explain."""
-from dataclasses import dataclass, field
-from typing import List, Optional, Tuple
+"""Refusals: the exit code and the line of docs/ERRORS.md, and the broken rule for tools/explain."""
+from dataclasses import dataclass
+from typing import Any, Optional, Sequence, Tuple
 
 
-@dataclass(eq=False)
 class Fault(Exception):
-    """A broken rule: where it is in the expanded text, what is wrong, the rule and the remedy."""
+    """A broken rule: the name of its words in tools/lucid_explain/words.py, its place, what the words name, and notes at places.
 
-    at: Optional[int]
-    problem: str
-    rule: str
-    remedy: str
-    expected: Optional[str] = None
-    found: Optional[str] = None
-    others: List[Tuple[int, str]] = field(default_factory=list)
+    A place is a byte of the expanded program. In a JSON file it is a byte, or the keys and the numbers that lead to a value.
+    """
+
+    def __init__(self, rule: str, at: Any, *values: Any, notes: Sequence[Tuple[int, str]] = ()) -> None:
+        super().__init__(rule)
+        self.rule, self.at, self.values, self.notes = rule, at, values, list(notes)
 
 
 @dataclass(eq=False)
@@ -24,10 +22,3 @@ class Refused(Exception):
     line: str
     fault: Optional[Fault] = None
     file: str = 'program'
-    details: object = None
-
-
-def usage(problem: str) -> Refused:
-    """Returns the refusal of words that are no form (docs/ERRORS.md, 1 usage)."""
-    return Refused(1, 'usage', Fault(None, problem, 'The words must be one of the forms of docs/ERRORS.md and the README.',
-                                     'use a form of the table in the README'), 'words')

@@ -2,6 +2,8 @@
 from dataclasses import dataclass, make_dataclass
 from typing import Any, List, Optional
 
+from .lexer import Token
+
 
 def form(name: str, *fields: str) -> Any:
     """Returns the dataclass of a form with these parts."""
@@ -30,7 +32,6 @@ Infix = form('Infix', 'sign', 'left', 'right', 'sign_at')
 # Events that are sent.
 Sent = Any
 SentCall = form('SentCall', 'name', 'args')
-SentParen = form('SentParen', 'inner')
 Delay = form('Delay', 'inner', 'amount')
 Locate = form('Locate', 'inner', 'to')
 
@@ -51,10 +52,9 @@ class Decl:
     """A declaration: `kind` is its first word, and the rest is what that kind has."""
 
     kind: str
-    name: str
     at: int
-    name_at: int
-    line: int = 0
+    line: int
+    name: Optional[Token] = None
     type: Optional[Ty] = None
     width: int = 0
     size: Any = None  # the number of a constant, or the size of an array: a number or a name

@@ -4,6 +4,7 @@ from typing import ChainMap, List, Optional, Tuple, Union
 
 from . import core, tree
 from .refusals import Fault
+from .values import COMPARE, MemAlu, returning
 
 BOOL = 'bool'
 Type = Union[int, str]  # the width of an int, or BOOL
@@ -19,33 +20,20 @@ class Entry:
     type: Optional[Type] = None
     number: int = 0
     array: Optional[core.ArrayName] = None
-    alu: Optional[core.MemAlu] = None
+    alu: Optional[MemAlu] = None
     params: List[Tuple[bool, Type]] = field(default_factory=list)  # of an array or not, and its type
     members: List[int] = field(default_factory=list)
 
 
-def shown(t: Optional[Type]) -> str:
-    """Returns a type as it is written."""
-    return 'no value' if t is None else BOOL if t == BOOL else 'int' if t == 32 else f'int<<{t}>>'
-
-
-def mismatch(at: int, asked: Type, found: Optional[Type]) -> Fault:
-    """Returns the fault that a place asks for another type."""
-    remedy = f'cast it, as ({shown(asked)}) (..)'
-    if asked == BOOL and found is not None:
-        remedy = 'compare it with a number, as (..) != 0'
-    elif found == BOOL:
-        remedy = 'assign a number by an `if`'
-    elif found is None:
-        remedy = 'call it as a statement, or call a function or an access that gives a value'
-    return Fault(at, f'expected `{shown(asked)}`, found `{shown(found)}`',
-                 'No value is widened or narrowed but by a cast, and an int is no bool.', remedy, shown(asked), shown(found))
+def bits(t: Type) -> int:
+    """Returns the bits of a value of a type."""
+    return 1 if t == BOOL else t
 
 
 def check_width(width: int, at: int) -> int:
     """Returns a width, which must be 1 to 64."""
     if not 1 <= width <= 64:
-        raise Fault(at, f'the width {width}', 'A width is 1 to 64.', 'write a width from 1 to 64', '1 to 64', str(width))
+        raise Fault('width', at, width)
     return width
 
 
@@ -57,8 +45,7 @@ def value_type(ty: tree.Ty) -> Type:
 def number(width: int, e: tree.Number) -> core.Fixed:
     """Types a number, which must fit its place."""
     if e.value >= 2 ** width:
-        raise Fault(e.at, f'{e.value} does not fit {width} bits', 'A number must fit its place.',
-                    f'write a number below {2 ** width}, or a wider place', f'a number below {2 ** width}', str(e.value))
+        raise Fault('number', e.at, e.value, width)
     return core.Fixed(width, e.value, e.at)
 
 
@@ -71,14 +58,10 @@ class Expressions:
     def entry(self, name: str, at: int, *kinds: str) -> Entry:
         """Returns what a visible name means, which must be of one of these kinds."""
         found = self.names.get(name)
-        wanted = ' or '.join(kinds)
         if found is None:
-            raise Fault(at, f'no visible {wanted} has the name {name}', 'A name is visible after its declaration only.',
-                        f'declare {name} before this place', wanted, 'an unknown name')
+            raise Fault('unknown name', at, name, ' or '.join(kinds))
         if found.kind not in kinds:
-            raise Fault(at, f'{name} is a {found.kind}, and a {wanted} is wanted here',
-                        'All names share one space, and a declaration hides earlier ones of its name.',
-                        f'name a {wanted}', wanted, found.kind)
+            raise Fault('kind of name', at, name, ' or '.join(kinds), found.kind)
         return found
 
     # ---- the widths of free places
@@ -96,8 +79,7 @@ class Expressions:
             return self.leaf_width(e.right) if left is None else left
         found = self.own_type(e)
         if found is None or found == BOOL:
-            raise Fault(e.at, f'expected an int, found `{shown(found)}`', 'A free place takes ints alone.',
-                        'write an int here', 'an int', shown(found))
+            raise Fault('free type', e.at, found)
         return found
 
     def own_type(self, e: tree.Expr) -> Optional[Type]:
@@ -115,7 +97,7 @@ class Expressions:
             return width if e.kind in ('get', 'getm', 'update') else None
         return BOOL
 
-    def free_width(self, es: List[tree.Expr]) -> int:
+    def free_width(self, *es: tree.Expr) -> int:
         """Returns the width of a free place that these expressions share: 32 where all leaves are numbers."""
         for e in es:
             width = self.leaf_width(e)
@@ -125,9 +107,14 @@ class Expressions:
 
     def free(self, e: tree.Expr) -> core.Expr:
         """Types an expression at a free place of its own."""
-        return self.value(self.free_width([e]), e)
+        return self.value(self.free_width(e), e)
 
     # ---- expressions
+
+    def must_be(self, asked: Type, found: Optional[Type], at: int) -> None:
+        """Asks that a type is the one that the place asks for."""
+        if asked != found:
+            raise Fault('type', at, asked, found)
 
     def value(self, asked: Type, e: tree.Expr) -> core.Expr:
         """Types an expression at a place that asks for a type."""
@@ -135,18 +122,16 @@ class Expressions:
             return self.value(asked, e.inner)
         if isinstance(e, tree.Number):
             if asked == BOOL:
-                raise mismatch(e.at, BOOL, 32)
+                raise Fault('type', e.at, BOOL, 32)
             return number(asked, e)
-        if isinstance(e, tree.Truth):
-            self.must_be(asked, BOOL, e.at)
-            return core.Fixed(1, int(e.value), e.at)
         if isinstance(e, (tree.Shift, tree.Prefix, tree.Infix)):
             return self.operation(asked, e)
         self.must_be(asked, self.own_type(e), e.at)
+        if isinstance(e, tree.Truth):
+            return core.Fixed(1, int(e.value), e.at)
         if isinstance(e, tree.Name):
             entry = self.names[e.name]
-            width = 1 if asked == BOOL else asked
-            return core.Local(entry.number, width, e.at) if entry.kind == 'local' else core.Fixed(width, entry.number, e.at)
+            return core.Local(entry.number, bits(asked), e.at) if entry.kind == 'local' else core.Fixed(asked, entry.number, e.at)
         if isinstance(e, tree.Cast):
             return core.Cast(asked, self.free(e.arg), e.at)
         if isinstance(e, tree.Hash):
@@ -157,59 +142,44 @@ class Expressions:
             return self.access(e)
         return core.Input('me' if isinstance(e, tree.Me) else 'now', e.at)
 
-    def must_be(self, asked: Type, found: Optional[Type], at: int) -> None:
-        """Asks that a type is the one that the place asks for."""
-        if asked != found:
-            raise mismatch(at, asked, found)
-
     def operation(self, asked: Type, e: Union[tree.Shift, tree.Prefix, tree.Infix]) -> core.Expr:
         """Types an operator: arithmetic takes and gives the asked width, a comparison two ints of one free place."""
-        if isinstance(e, tree.Prefix) and e.sign == '!':
-            self.must_be(asked, BOOL, e.at)
-            return core.Un('~', 0, self.value(BOOL, e.arg), 1, e.at)
-        if isinstance(e, tree.Infix) and e.sign in LOGIC:
-            self.must_be(asked, BOOL, e.sign_at)
-            return core.Bin(LOGIC[e.sign], self.value(BOOL, e.left), self.value(BOOL, e.right), 1, e.sign_at)
-        if isinstance(e, tree.Infix) and e.sign in core.COMPARE:
-            self.must_be(asked, BOOL, e.sign_at)
-            width = self.free_width([e.left, e.right])
-            return core.Bin(e.sign, self.value(width, e.left), self.value(width, e.right), width, e.sign_at)
+        sign = e.sign
+        at = e.sign_at if isinstance(e, tree.Infix) else e.at
+        if sign == '!' or sign in LOGIC or sign in COMPARE:
+            self.must_be(asked, BOOL, at)
+            if sign == '!':
+                return core.Un('~', 0, self.value(BOOL, e.arg), 1, at)
+            width = BOOL if sign in LOGIC else self.free_width(e.left, e.right)
+            return core.Bin(LOGIC.get(sign, sign), self.value(width, e.left), self.value(width, e.right), bits(width), at)
         if asked == BOOL:
-            raise mismatch(e.at, BOOL, self.free_width([e]))
-        if isinstance(e, tree.Shift):
-            return core.Un(e.sign, e.amount, self.value(asked, e.arg), asked, e.at)
-        if isinstance(e, tree.Prefix):
-            return core.Un(e.sign, 0, self.value(asked, e.arg), asked, e.at)
-        return core.Bin(e.sign, self.value(asked, e.left), self.value(asked, e.right), asked, e.sign_at)
+            raise Fault('type', e.at, BOOL, self.free_width(e))
+        if isinstance(e, tree.Infix):
+            return core.Bin(sign, self.value(asked, e.left), self.value(asked, e.right), asked, at)
+        return core.Un(sign, e.amount if isinstance(e, tree.Shift) else 0, self.value(asked, e.arg), asked, at)
 
     # ---- calls
 
     def call(self, e: tree.Call) -> core.Fun:
         """Types a call of a function: a value for each value parameter, a bare name for each array parameter."""
         entry = self.entry(e.name, e.at, 'fun')
-        arrays, args = self.given(e.name, entry, e.args, e.at)
-        return core.Fun(entry.number, arrays, args, e.at)
+        return core.Fun(entry.number, *self.given(e, entry), e.at)
 
-    def given(self, name: str, entry: Entry, args: List[tree.Expr], at: int) -> Tuple[List[core.ArrayName], List[core.Expr]]:
+    def given(self, call: Union[tree.Call, tree.SentCall], entry: Entry) -> Tuple[List[core.ArrayName], List[core.Expr]]:
         """Types the arguments of a function or an event, one for each parameter."""
-        if len(args) != len(entry.params):
-            raise Fault(at, f'{name} takes {len(entry.params)} arguments, and {len(args)} are given',
-                        'One argument is given for each parameter.', f'give {len(entry.params)} arguments',
-                        str(len(entry.params)), str(len(args)))
+        if len(call.args) != len(entry.params):
+            raise Fault('arguments', call.at, call.name, len(entry.params), len(call.args))
         arrays: List[core.ArrayName] = []
         values: List[core.Expr] = []
-        for (is_array, wanted), e in zip(entry.params, args):
+        for (is_array, wanted), e in zip(entry.params, call.args):
             if not is_array:
                 values.append(self.value(wanted, e))
                 continue
             if not isinstance(e, tree.Name):
-                raise Fault(e.at, 'an array is wanted here', 'An array parameter is given the bare name of an array.',
-                            'write the name of an array without parentheses', 'the bare name of an array', 'an expression')
+                raise Fault('bare name', e.at)
             array = self.entry(e.name, e.at, 'array')
             if array.type != wanted:
-                raise Fault(e.at, f'{e.name} has cells of {array.type} bits, and cells of {wanted} are wanted',
-                            'An array parameter is given an array with cells of the same width.',
-                            f'give an array of cells of {wanted} bits', f'Array<<{wanted}>>', f'Array<<{array.type}>>')
+                raise Fault('cells', e.at, e.name, array.type, wanted)
             arrays.append(array.array)
         return arrays, values
 
@@ -219,16 +189,13 @@ class Expressions:
         width = array.type
         index = self.free(e.index)
         zero = core.Fixed(width, 0, e.at)
-        alus: List[core.MemAlu] = []
+        alus: List[MemAlu] = []
         for memop in e.memops:
-            alu = self.entry(memop.name, memop.at, 'memop').alu
-            if alu.width != width:
-                raise Fault(memop.at, f'{memop.name} is of {alu.width} bits, and the cells of {e.array} have {width}',
-                            'A memop argument is the name of a memop of the cells\' width.',
-                            f'declare a memop of {width} bits', f'a memop of {width} bits', f'a memop of {alu.width} bits')
-            alus.append(alu)
+            alus.append(self.entry(memop.text, memop.at, 'memop').alu)
+            if alus[-1].width != width:
+                raise Fault('memop width', memop.at, memop.text, alus[-1].width, e.array, width)
         args = [self.value(width, x) for x in e.args]
-        old, new = core.returning(width, 'stored'), core.returning(width, 'arg')
+        old, new = returning(width, 'stored'), returning(width, 'arg')
         get = (alus[0], args[0]) if e.kind in ('getm', 'update') else (old, zero)
         put = (old, zero) if e.kind in ('get', 'getm') else (new, args[0]) if e.kind == 'set' else (alus[-1], args[-1])
         return core.Touch(array.array, index, *get, *put, e.kind in ('get', 'getm', 'update'), e.at)

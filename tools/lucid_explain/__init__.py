@@ -1,0 +1,130 @@
+"""Explanations of refusals and of layouts, on the second implementation in tools/lucid_model (not verified).
+
+`explain(words, read_file)` explains the call of `lucid` with these words; tools/explain is its command line. The modules are `words`
+for the text of each refusal, `places` for lines and columns, and `nodes` for the nodes of a program.
+"""
+from __future__ import annotations
+
+from dataclasses import dataclass, field
+from typing import Any, Callable, Dict, List, Optional, Sequence, Tuple
+
+from lucid_model.answers import Answer, judge
+from lucid_model.json_files import Limits, read_limits
+from lucid_model.layout import FirstFit
+from lucid_model.passes import compose
+from lucid_model.refusals import Refused
+
+from .nodes import Described
+from .places import Place, Sources
+from .words import Words, words_of
+
+ReadFile = Callable[[bytes], bytes]
+GREATEST = Limits(stages=32, tables=64, rows=1024, arrays=64, arms=64, bits=1048576)
+
+
+@dataclass
+class Explanation:
+    """A refusal that is explained: its line, its words, its place where it has one, and what else is to be said."""
+
+    refusal: str
+    status: int
+    words: Words
+    place: Optional[Place] = None
+    notes: List[Tuple[Place, str]] = field(default_factory=list)
+    details: List[str] = field(default_factory=list)
+
+    def lines(self) -> List[str]:
+        """The explanation, without the refusal's own line."""
+        head = self.place.head() + ': ' if self.place else ''
+        lines = [f'{head}error: {self.words.problem}'] + (self.place.shown() if self.place else [])
+        lines += [f'rule: {self.words.rule}', f'remedy: {self.words.remedy}']
+        for place, text in self.notes:
+            lines += [f'{place.head()}: note: {text}'] + place.shown()
+        return lines + self.details
+
+    def data(self) -> Dict[str, Any]:
+        """The explanation as JSON."""
+        words = self.words
+        return {'refusal': self.refusal, 'status': self.status, 'place': self.place.data() if self.place else None,
+                'problem': words.problem, 'expected': words.expected, 'found': words.found, 'rule': words.rule, 'remedy': words.remedy,
+                'notes': [{**place.data(), 'text': text} for place, text in self.notes], 'details': self.details}
+
+
+def explanation_of(answer: Answer) -> Explanation:
+    """Explains the refusal of an answer."""
+    refused, sources = answer.refused, Sources(answer)
+    fault, at, more = refused.fault, refused.fault.at, {}
+    if isinstance(at, tuple):
+        at, found = sources.span(refused.file, at, fault.rule == 'other key')
+        more = {'found': found} if fault.rule in ('value', 'other key') else {}
+    if fault.rule == 'no token':
+        more = {'at': at}
+    words = words_of(fault.rule, fault.values, **more)
+    notes = list(words.notes) + fault.notes
+    if at is None and notes:
+        at = notes[0][0]
+    made = Explanation(refused.line, refused.status, words, notes=[(sources.place('program', place), text) for place, text in notes])
+    if at is not None:
+        made.place = sources.place(refused.file, at)
+        made.details = sources.copies(at) if refused.file == 'program' else []
+    if fault.values and isinstance(fault.values[0], FirstFit):
+        fit = fault.values[0]
+        described = Described(fit.code, sources)
+        made.details += described.why(fit) if refused.status == 7 else []
+        made.details += described.table(fit if refused.status == 7 else FirstFit(fit.code, fit.limits))
+    return made
+
+
+@dataclass
+class Report:
+    """What is said of a call: of a refusal why, and of a program that is accepted its nodes and its layout."""
+
+    answer: Answer
+    explanation: Optional[Explanation]
+    nodes: List[Dict[str, Any]] = field(default_factory=list)
+    table: List[str] = field(default_factory=list)
+    tables: List[Dict[str, Any]] = field(default_factory=list)
+    placement: Optional[Dict[str, Any]] = None
+    counts: Dict[str, Any] = field(default_factory=dict)
+
+    def data(self) -> Dict[str, Any]:
+        """The report as JSON."""
+        return {'refused': self.explanation.data() if self.explanation else None, 'counts': self.counts or None, 'nodes': self.nodes,
+                'tables': self.tables, 'placement': self.placement}
+
+
+def tables_of(made: FirstFit) -> List[Dict[str, Any]]:
+    """The tables of a first fit, each with its nodes, its rows and its arrays."""
+    found: List[Dict[str, Any]] = []
+    for k, stage in enumerate(made.stages):
+        for t, table in enumerate(stage.tables):
+            nodes = [i for i, pair in enumerate(made.pairs) if pair == (k, t)]
+            arrays = [made.code.core.arrays[made.nodes[i].array].name for i in nodes if made.nodes[i].array is not None]
+            found.append({'stage': k, 'table': t, 'rows': len(table), 'nodes': nodes, 'arrays': arrays})
+    return found
+
+
+def explain(words: Sequence[str], read: ReadFile, with_nodes: bool = True) -> Report:
+    """Explains a call of `lucid`; also lists the nodes of the program, unless that is not wanted."""
+    answer = judge(list(words), read)
+    report = Report(answer, explanation_of(answer) if answer.refused is not None else None)
+    program = answer.program
+    if program is None or program.core is None or not with_nodes:
+        return report
+    try:
+        limits = read_limits(answer.files['limits']) if 'limits' in answer.files else GREATEST
+        code, gone = compose(program.core)
+    except Refused:
+        return report
+    made = FirstFit(code, limits)
+    try:
+        made.run(gone)
+        report.placement = {'nodes': [list(pair) for pair in made.pairs]}
+    except Refused:
+        pass
+    described = Described(code, Sources(answer))
+    report.nodes = [described.data(i, made) for i in range(len(made.nodes))]
+    report.table = described.table(made)
+    report.tables = tables_of(made)
+    report.counts = {'ops': len(code.ops), 'bits': code.bits(), 'nodes': len(made.nodes), 'removed': gone, 'limits': vars(limits)}
+    return report

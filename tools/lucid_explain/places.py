@@ -1,0 +1,116 @@
+"""Places in the files of a call: line and column of a byte, of a value of a JSON file, and of the expanded program."""
+import re
+from dataclasses import dataclass
+from typing import Any, Dict, List, Optional, Tuple
+
+from lucid_model.answers import Answer
+from lucid_model.json_files import STRING
+
+WIDEST = 140  # of a shown line
+PIECE = re.compile(STRING + r'|[][{}:,]|[^][{}:,"\s]+', re.DOTALL)
+
+
+@dataclass
+class Place:
+    """A place in a file: line and column, from 1, with columns in bytes."""
+
+    file: str
+    line: int
+    column: int
+    source: str
+    caret: str
+
+    def head(self) -> str:
+        """`file:line:column`."""
+        return f'{self.file}:{self.line}:{self.column}'
+
+    def shown(self) -> List[str]:
+        """The source line, and a mark below it."""
+        return [self.source, self.caret]
+
+    def data(self) -> Dict[str, Any]:
+        """The place as JSON."""
+        return {'file': self.file, 'line': self.line, 'column': self.column}
+
+
+def place_in(file: str, data: bytes, at: int) -> Place:
+    """The place of a byte of a file; of a long line what stands round it is shown."""
+    start = data.rfind(b'\n', 0, at) + 1
+    end = data.find(b'\n', at)
+    end = len(data) if end < 0 else end
+    first = start if at - start <= WIDEST - 40 else at - 60
+    before = data[first:at].decode('utf-8', 'replace')
+    source = before + data[at:min(end, first + WIDEST)].decode('utf-8', 'replace')
+    clean = lambda text: ''.join(c if c == '\t' or c.isprintable() else '?' for c in text)
+    caret = ''.join('\t' if c == '\t' else ' ' for c in before) + '^'
+    return Place(file, data.count(b'\n', 0, at) + 1, at - start + 1, clean(source), caret)
+
+
+class Values:
+    """The values of a JSON text, each by the keys and numbers that lead to it; of equal keys the last counts."""
+
+    def __init__(self, text: str) -> None:
+        self.pieces = list(PIECE.finditer(text))
+        self.here = 0
+        self.found: Dict[Tuple, Tuple[int, int]] = {}  # where a value begins and ends
+        self.keys: Dict[Tuple, Tuple[int, int]] = {}
+        self.value(())
+
+    def next(self) -> str:
+        """The text of the next piece."""
+        return self.pieces[self.here].group()
+
+    def value(self, path: Tuple) -> None:
+        """Finds a value and all within it."""
+        start, sign = self.pieces[self.here].start(), self.next()
+        self.here += 1
+        if sign in ('[', '{'):
+            number = 0
+            while self.next() not in (']', '}'):
+                key: Any = number
+                if sign == '{':
+                    key = self.next()[1:-1]
+                    self.keys[path + (key,)] = self.pieces[self.here].span()
+                    self.here += 2
+                self.value(path + (key,))
+                self.here += self.next() == ','
+                number += 1
+            self.here += 1
+        self.found[path] = start, self.pieces[self.here - 1].end()
+
+
+class Sources:
+    """The files of a call."""
+
+    def __init__(self, answer: Answer) -> None:
+        self.answer = answer
+        program = answer.program
+        self.expanded = program.expanded if program is not None else None
+        self.is_other = self.expanded is not None and self.expanded.text != program.text
+
+    def place(self, file: str, at: int) -> Place:
+        """A place of the program as it was given, or of the limits, the scenario or the placement."""
+        if file == 'program' and self.expanded is not None:
+            begin, source = max((piece for piece in self.expanded.pieces if piece[0] <= at), default=(0, 0))
+            at += source - begin
+        data = self.answer.files[file]
+        return place_in(self.answer.call.files[file], data, min(at, len(data)))
+
+    def span(self, file: str, path: Tuple, is_key: bool) -> Tuple[int, str]:
+        """Where a value or a key is in a JSON file, and its text; what is not there is at the value round it."""
+        text = self.answer.files[file].decode('latin-1')
+        values = Values(text)
+        found: Optional[Tuple[int, int]] = (values.keys if is_key else values.found).get(path)
+        if found is None:
+            return values.found[path[:-1]][0], f'no key `{path[-1]}`'
+        shown = text[slice(*found)].encode('latin-1').decode('utf-8', 'replace')
+        if len(shown) > 60 or '\n' in shown:
+            shown = {'{': 'an object', '[': 'a list'}.get(shown[0], shown[:60] + '..')
+        return found[0], shown
+
+    def copies(self, at: int) -> List[str]:
+        """Says where a place is in the expanded text, where that is another."""
+        if not self.is_other:
+            return []
+        line = self.expanded.text.count('\n', 0, at) + 1
+        return [f'note: this is line {line} of the text that `lucid expand` prints; refusals count lines and tokens of that text']
