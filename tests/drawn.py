@@ -31,12 +31,12 @@ TOP = Path(__file__).resolve().parent.parent
 sys.path[:0] = [str(TOP / 'tools'), str(TOP / 'tests')]
 from drawn_programs import Program  # noqa: E402
 from lucid_model import Answer, agrees, judge  # noqa: E402
-from lucid_model.answers import deeply  # noqa: E402
 from lucid_model.code import Literal  # noqa: E402
 from lucid_model.json_files import Limits, read_limits  # noqa: E402
-from lucid_model.layout import FirstFit  # noqa: E402
+from lucid_model.layout import Layout  # noqa: E402
 from lucid_model.passes import compose  # noqa: E402
 from lucid_model.refusals import Refused  # noqa: E402
+from lucid_tools.stack import deeply  # noqa: E402
 
 PROGRAM = TOP / 'crates/lucid_main/out/lucid_main'
 COMMANDS = {'check': 60, 'once': 80, 'expand': 40, 'layout': 120, 'run whole': 120, 'run pipe': 160, 'run placed': 120, 'drive': 100,
@@ -90,13 +90,13 @@ def draw_limits(r: Random) -> Dict[str, Any]:
     return found
 
 
-def made_of(text: bytes, limits: Dict[str, Any]) -> Optional[FirstFit]:
+def made_of(text: bytes, limits: Dict[str, Any]) -> Optional[Layout]:
     """The nodes of a program under limits, before any is placed; None where one of them is refused."""
     try:
         answer = judge(['check', 'p'], lambda name: text)
         if answer.status != 0:
             return None
-        return FirstFit(compose(answer.program.core)[0], read_limits(json.dumps(limits).encode()))
+        return Layout(compose(answer.program.core), read_limits(json.dumps(limits).encode()))
     except Refused:
         return None
 
@@ -107,15 +107,12 @@ def draw_tight_limits(r: Random, text: bytes) -> Dict[str, Any]:
     made = made_of(text, roomy)
     if made is None:
         return {}
-    for n in made.nodes:
-        pair = made.place(n)
-        if pair is None:
-            return {}
-        made.pairs.append(pair)
+    if not all(made.place(n) for n in made.nodes):
+        return {}
     taken = {'stages': 1 + max((k for k, _ in made.pairs), default=0), 'bits': made.code.bits(),
-             'arrays': max(stage.arrays for stage in made.stages),
+             'arrays': max(len(made.arrays(k)) for k in range(32)),
              'arms': max((len(n.ops) for n in made.nodes if n.array is not None), default=1),
-             'rows': max((len(table) for stage in made.stages for table in stage.tables), default=1)}
+             'rows': max((len(table) for tables in made.stages for table in tables), default=1)}
     return {**roomy, **{key: max(1, taken[key] - r.choice([0, 1, 1])) for key in r.sample(list(taken), r.choice([1, 1, 2]))}}
 
 

@@ -23,8 +23,9 @@ from typing import Any, Dict, List, Optional
 TOP = Path(__file__).resolve().parent.parent
 sys.path[:0] = [str(TOP / 'tools'), str(TOP / 'tests')]
 from lucid_explain import Report, explain  # noqa: E402
-from lucid_model.answers import agrees, deeply  # noqa: E402
+from lucid_model import agrees  # noqa: E402
 from lucid_model.lexer import lex  # noqa: E402
+from lucid_tools.stack import deeply  # noqa: E402
 from rowfile import Row, read_rows  # noqa: E402
 
 PROGRAM = TOP / 'crates/lucid_main/out/lucid_main'

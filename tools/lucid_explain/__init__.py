@@ -10,7 +10,7 @@ from typing import Any, Callable, Dict, List, Optional, Sequence, Tuple
 
 from lucid_model.answers import Answer, judge
 from lucid_model.json_files import Limits, read_limits
-from lucid_model.layout import FirstFit
+from lucid_model.layout import Layout
 from lucid_model.passes import compose
 from lucid_model.refusals import Refused
 
@@ -67,11 +67,11 @@ def explanation_of(answer: Answer) -> Explanation:
     if at is not None:
         made.place = sources.place(refused.file, at)
         made.details = sources.copies(at) if refused.file == 'program' else []
-    if fault.values and isinstance(fault.values[0], FirstFit):
+    if fault.values and isinstance(fault.values[0], Layout):
         fit = fault.values[0]
         described = Described(fit.code, sources)
         made.details += described.why(fit) if refused.status == 7 else []
-        made.details += described.table(fit if refused.status == 7 else FirstFit(fit.code, fit.limits))
+        made.details += described.table(fit if refused.status == 7 else Layout(fit.code, fit.limits))
     return made
 
 
@@ -93,11 +93,11 @@ class Report:
                 'tables': self.tables, 'placement': self.placement}
 
 
-def tables_of(made: FirstFit) -> List[Dict[str, Any]]:
+def tables_of(made: Layout) -> List[Dict[str, Any]]:
     """The tables of a first fit, each with its nodes, its rows and its arrays."""
     found: List[Dict[str, Any]] = []
-    for k, stage in enumerate(made.stages):
-        for t, table in enumerate(stage.tables):
+    for k, tables in enumerate(made.stages):
+        for t, table in enumerate(tables):
             nodes = [i for i, pair in enumerate(made.pairs) if pair == (k, t)]
             arrays = [made.code.core.arrays[made.nodes[i].array].name for i in nodes if made.nodes[i].array is not None]
             found.append({'stage': k, 'table': t, 'rows': len(table), 'nodes': nodes, 'arrays': arrays})
@@ -113,12 +113,12 @@ def explain(words: Sequence[str], read: ReadFile, with_nodes: bool = True) -> Re
         return report
     try:
         limits = read_limits(answer.files['limits']) if 'limits' in answer.files else GREATEST
-        code, gone = compose(program.core)
+        code = compose(program.core)
     except Refused:
         return report
-    made = FirstFit(code, limits)
+    made = Layout(code, limits)
     try:
-        made.run(gone)
+        made.fit()
         report.placement = {'nodes': [list(pair) for pair in made.pairs]}
     except Refused:
         pass
@@ -126,5 +126,5 @@ def explain(words: Sequence[str], read: ReadFile, with_nodes: bool = True) -> Re
     report.nodes = [described.data(i, made) for i in range(len(made.nodes))]
     report.table = described.table(made)
     report.tables = tables_of(made)
-    report.counts = {'ops': len(code.ops), 'bits': code.bits(), 'nodes': len(made.nodes), 'removed': gone, 'limits': vars(limits)}
+    report.counts = {'ops': len(code.ops), 'bits': code.bits(), 'nodes': len(made.nodes), 'removed': code.gone, 'limits': vars(limits)}
     return report

@@ -3,7 +3,7 @@ from typing import Any, Dict, List, Optional
 
 from lucid_model.code import Code, Literal, Op, Operand
 from lucid_model.json_files import Limits
-from lucid_model.layout import FirstFit, product
+from lucid_model.layout import Layout, product
 from lucid_model.nodes import Node, nodes_of
 from lucid_model.values import COMPARE
 
@@ -68,12 +68,12 @@ class Described:
         place = self.sources.place('program', at)
         return f'{place.line}:{place.column}'
 
-    def data(self, i: int, made: Optional[FirstFit]) -> Dict[str, Any]:
+    def data(self, i: int, made: Optional[Layout]) -> Dict[str, Any]:
         """A node as JSON; `made` is a first fit that got so far."""
         n = self.nodes[i]
         ops = [self.code.ops[k] for k in n.ops]
         place = self.sources.place('program', ops[0].at)
-        table, most = (made or FirstFit(self.code, Limits())).merged(n)
+        table, most = (made or Layout(self.code, Limits())).merged(n)
         pair = made.pairs[i] if made is not None and i < len(made.pairs) else None
         reads = sorted({self.writer[k] for k in n.reads if k in self.writer})
         return {'node': i, 'line': place.line, 'column': place.column, 'what': self.what(i), 'handlers': self.handlers(n),
@@ -85,7 +85,7 @@ class Described:
                 'earliest': made.earliest(n) if made is not None and i <= len(made.pairs) else None,
                 'stage': pair[0] if pair else None, 'table': pair[1] if pair else None}
 
-    def table(self, made: FirstFit) -> List[str]:
+    def table(self, made: Layout) -> List[str]:
         """All nodes, one a line."""
         rows = [['node', 'place', 'what it is', 'reads', 'array', 'earliest', 'stage', 'table', 'rows', 'bits']]
         for i in range(len(self.nodes)):
@@ -100,26 +100,26 @@ class Described:
 
     # ---- why a node has no place
 
-    def refusing(self, made: FirstFit, n: Node, k: int) -> str:
+    def refusing(self, made: Layout, n: Node, k: int) -> str:
         """Says why a stage has no room for a node."""
-        stage, limits = made.stages[k], made.limits
-        if n.array is not None and stage.arrays >= limits.arrays:
-            return f'stage {k} holds {stage.arrays} arrays, and `arrays` is {limits.arrays}'
+        tables, arrays, limits = made.stages[k], len(made.arrays(k)), made.limits
+        if n.array is not None and arrays >= limits.arrays:
+            return f'stage {k} holds {arrays} arrays, and `arrays` is {limits.arrays}'
         more, _ = made.merged(n)
-        rows = [len(product(table, more)) for table in stage.tables]
+        rows = [len(product(table, more)) for table in tables]
         full = ', '.join(f'table {t} would have {count}' for t, count in enumerate(rows))
-        if len(stage.tables) < limits.tables:
+        if len(tables) < limits.tables:
             return f'a new table of stage {k} would have {len(product((), more))} rows, and `rows` is {limits.rows}'
-        return f'stage {k} has {len(stage.tables)} tables, `tables` is {limits.tables}, and `rows` is {limits.rows}: {full} rows'
+        return f'stage {k} has {len(tables)} tables, `tables` is {limits.tables}, and `rows` is {limits.rows}: {full} rows'
 
-    def until(self, made: FirstFit, i: int) -> FirstFit:
+    def until(self, made: Layout, i: int) -> Layout:
         """First fit as it stood before a node."""
-        again = FirstFit(self.code, made.limits)
+        again = Layout(self.code, made.limits)
         for n in again.nodes[:i]:
-            again.pairs.append(again.place(n))
+            again.place(n)
         return again
 
-    def chain(self, made: FirstFit, i: int) -> List[str]:
+    def chain(self, made: Layout, i: int) -> List[str]:
         """The nodes that push a node on, each with why it stands no earlier."""
         lines: List[str] = []
         n = self.nodes[i]
@@ -137,7 +137,7 @@ class Described:
             lines.append(f'  node {i} reads node {j} ({place.line}:{place.column}, {self.what(j)}), which stands in stage {s}')
             i, n = j, self.nodes[j]
 
-    def why(self, made: FirstFit) -> List[str]:
+    def why(self, made: Layout) -> List[str]:
         """Why first fit stops: the chain that pushes the node beyond the last stage, or the tables that are full."""
         i = len(made.pairs)
         n = self.nodes[i]

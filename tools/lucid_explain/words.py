@@ -5,7 +5,7 @@ from typing import Any, Callable, Dict, List, Optional, Tuple
 from lucid_model.code import Code
 from lucid_model.core import ArrayName
 from lucid_model.json_files import Limits
-from lucid_model.layout import FirstFit
+from lucid_model.layout import Layout
 from lucid_model.lexer import Token
 from lucid_model.order import Order
 from lucid_model.types import BOOL, Type
@@ -60,6 +60,15 @@ def no_tree(token: Token, *texts: str) -> Words:
         found, remedy = found + ', which is a reserved word', 'choose another name'
     return Words(f'expected {wanted}, found {found}', 'The tokens must form one of the declarations of docs/LANGUAGE.md (The tree).',
                  remedy, wanted, found)
+
+
+def wrong_name(name: str, kind: str, found: Optional[str]) -> Words:
+    """A name that is not visible, or that means something else."""
+    if found is None:
+        return Words(f'no visible {kind} has the name {name}', 'A name is visible after its declaration only.',
+                     f'declare {name} before this place', kind, 'an unknown name')
+    return Words(f'{name} is a {found}, and a {kind} is wanted here',
+                 'All names share one space, and a declaration hides earlier ones of its name.', f'name a {kind}', kind, found)
 
 
 def wrong_type(asked: Type, found: Optional[Type]) -> Words:
@@ -129,7 +138,7 @@ def arms(code: Code, array: int, limits: Limits) -> Words:
                  notes=[(code.ops[i].at, f'{name} is called here') for i in calls])
 
 
-def node(made: FirstFit) -> Words:
+def node(made: Layout) -> Words:
     """The first node for which first fit finds no place."""
     return Words(f'node {len(made.pairs)} finds no stage', 'A node stands in a stage behind all nodes that write what it reads, which '
                  'has room for a table, its rows and its array.',
@@ -165,11 +174,7 @@ WORDS: Dict[str, Callable[..., Words]] = {
                                  f'write a number below {2 ** w}, or a wider place', f'a number below {2 ** w}', str(n)),
     'int': lambda found: Words(f'expected an int, found {found}', 'Constants, and parameters of events and memops, are ints.',
                                'write an int', 'an int', found),
-    'unknown name': lambda name, kind: Words(f'no visible {kind} has the name {name}', 'A name is visible after its declaration only.',
-                                             f'declare {name} before this place', kind, 'an unknown name'),
-    'kind of name': lambda name, kind, found: Words(
-        f'{name} is a {found}, and a {kind} is wanted here',
-        'All names share one space, and a declaration hides earlier ones of its name.', f'name a {kind}', kind, found),
+    'name': wrong_name,
     'type': wrong_type,
     'free type': lambda found: Words(f'expected an int, found `{shown(found)}`', 'A free place takes ints alone.', 'write an int here',
                                      'an int', shown(found)),

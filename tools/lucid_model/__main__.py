@@ -2,13 +2,9 @@
 import os
 import sys
 
-from .answers import Answer, deeply, judge
+from lucid_tools.stack import deeply, read_file
 
-
-def read_file(name: bytes) -> bytes:
-    """Returns the bytes of a file, but no more than one more than any file may have."""
-    with open(name, 'rb') as file:
-        return file.read(SCENARIO + 1)
+from .answers import Answer, judge
 
 
 def main() -> int:

@@ -1,21 +1,18 @@
 """The answer of a call: its words, then its files in word order, and what is asked of each (docs/ERRORS.md)."""
-import sys
-import threading
 from dataclasses import dataclass, field
 from typing import Callable, Dict, List, Optional, Sequence, Tuple, Union
 
 from . import gen, interpret, log
-from .audit import audit, read_plan
+from .audit import audit
 from .code import Code
 from .core import Core
 from .declarations import elaborate
 from .drive import drive
 from .expand import Expanded, expand
 from .json_files import read_limits
-from .layout import check_code, fit, layout_text
+from .layout import Layout
 from .lexer import Token, lex
 from .network import Network
-from .nodes import nodes_of
 from .order import check_order
 from .parser import parse
 from .passes import compose
@@ -60,13 +57,11 @@ class Call:
 
 def call_of(raw: Sequence[bytes]) -> Call:
     """Returns the call of these words, which must be one of the forms of README."""
-    words: List[str] = []
-    for word in raw:
-        try:
-            word.decode('utf-8')
-        except UnicodeDecodeError:
-            raise usage('a word is no UTF-8') from None
-        words.append(word.decode('latin-1'))
+    words = [word.decode('latin-1') for word in raw]
+    try:
+        b' '.join(raw).decode('utf-8')
+    except UnicodeDecodeError:
+        raise usage('a word is no UTF-8') from None
     command = next((form for form in (tuple(words[:2]), tuple(words[:1])) if form in FORMS), None)
     if command is None:
         raise usage('these words are no form of a call')
@@ -158,16 +153,17 @@ def run_call(call: Call, files: Dict[str, bytes], program: Program) -> str:
     limits = read_limits(files['limits'])
     if command == 'run whole':
         return Network(core, limits, read_scene(files['scenario'], core), None).run()
-    program.code, gone = compose(core)
-    if 'placement' in files:  # the counts come first, and then the scenario and the placement
-        check_code(program.code, limits)
-        scene = read_scene(files['scenario'], core) if 'scenario' in files else None
-        placed = audit(program.code, gone, limits, read_plan(files['placement'], len(nodes_of(program.code))))
+    program.code = compose(core)
+    placed, has_scene = Layout(program.code, limits), 'scenario' in files
+    placed.check_code()
+    if 'placement' in files:  # the scenario comes before the placement, but behind a first fit
+        scene = read_scene(files['scenario'], core) if has_scene else None
+        audit(placed, files['placement'])
     else:
-        placed = fit(program.code, gone, limits)
-        scene = read_scene(files['scenario'], core) if 'scenario' in files else None
+        placed.fit()
+        scene = read_scene(files['scenario'], core) if has_scene else None
     if scene is None:
-        return layout_text(placed)
+        return placed.text()
     if command in ('run pipe', 'run placed'):
         return Network(core, limits, scene, placed).run()
     return drive(placed, scene, call.numbers[0] if command == 'snap' else None)
@@ -215,24 +211,3 @@ def agrees(made: Answer, status: int, out: bytes, err: bytes) -> bool:
     line, order, _ = made.refused.fault.values
     text = err.decode('latin-1')
     return text.startswith(line + ' ') and text.endswith('\n') and order.allows(text[len(line):].split())
-
-
-def deeply(work: Callable[[], object]) -> object:
-    """Does work on a stack that holds programs as deep as their limits let them be."""
-    found: List[object] = []
-    failed: List[BaseException] = []
-
-    def on_stack() -> None:
-        try:
-            found.append(work())
-        except BaseException as e:  # raised again by the caller
-            failed.append(e)
-
-    sys.setrecursionlimit(10 ** 6)
-    threading.stack_size(1 << 29)
-    thread = threading.Thread(target=on_stack)
-    thread.start()
-    thread.join()
-    if failed:
-        raise failed[0]
-    return found[0]

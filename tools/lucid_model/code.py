@@ -49,10 +49,6 @@ class Op:
         """Returns the fields that it reads, in its guard and in its operands."""
         return [x.field for x in self.guard] + [x.value for x in self.operands if x.is_field]
 
-    def only_writes(self) -> bool:
-        """Whether it does nothing but write a field."""
-        return self.kind not in ('touch', 'gen', 'say')
-
     def key(self) -> int:
         """Returns its key: a call of an array comes behind what stands before the call."""
         return 2 * self.number + 1 if self.kind == 'touch' else 2 * self.level
@@ -71,12 +67,16 @@ class Op:
 
 @dataclass
 class Code:
-    """The widths of the fields, how many of them are inputs (event, tick, switch and arguments), and the operations."""
+    """The widths of the fields, how many of them are inputs (event, tick, switch and arguments), and the operations.
+
+    `gone` is how many operations each pass so far has removed.
+    """
 
     core: Core
     widths: List[int]
     inputs: int
     ops: List[Op] = field(default_factory=list)
+    gone: List[int] = field(default_factory=list)
 
     def bits(self) -> int:
         """Returns what a packet carries: the inputs, and each field that some operation reads or writes."""

@@ -1,7 +1,7 @@
 """One pipeline that is moved by the steps of a scenario, and snapshots of it (docs/SCENARIO.md, Steps)."""
 from typing import Optional, Tuple
 
-from .layout import Placed
+from .layout import Layout
 from .log import block_text, cells_text
 from .pipe import Packet, Pipe
 from .scenes import Scene
@@ -15,7 +15,7 @@ def packet_text(pipe: Pipe, p: Optional[Packet]) -> str:
 class Drive:
     """A pipeline, the events of the file, and how many of them entered."""
 
-    def __init__(self, placed: Placed, scene: Scene) -> None:
+    def __init__(self, placed: Layout, scene: Scene) -> None:
         self.pipe, self.core, self.events = Pipe(placed), placed.code.core, scene.events
         self.entered = 0
 
@@ -47,7 +47,7 @@ class Drive:
         return f'snap after {self.entered}\n' + cells_text(self.core, 0, self.pipe.settled())
 
 
-def drive(placed: Placed, scene: Scene, snap_after: Optional[int]) -> str:
+def drive(placed: Layout, scene: Scene, snap_after: Optional[int]) -> str:
     """Does the steps, lets the packets in flight finish, and writes what `drive` or `snap` writes."""
     made = Drive(placed, scene)
     first = scene.steps[:snap_after]

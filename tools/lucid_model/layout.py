@@ -1,7 +1,6 @@
 """Rows, products of tables, first fit, and the lines of a layout (docs/ERRORS.md, 7 nofit)."""
-from dataclasses import dataclass, field
 from itertools import accumulate
-from typing import FrozenSet, List, NamedTuple, Optional, Tuple
+from typing import FrozenSet, List, NamedTuple, Tuple
 
 from .code import Code, Literal
 from .json_files import Limits
@@ -42,42 +41,22 @@ def product(a: Table, b: Table) -> Table:
     return tuple(kept)
 
 
-@dataclass
-class Stage:
-    """A stage of the pipeline: its tables, and how many array nodes are in it."""
-
-    tables: List[Table] = field(default_factory=list)
-    arrays: int = 0
-
-
-@dataclass
-class Placed:
-    """Code with its stages, and the stage and the table of each node."""
-
-    code: Code
-    gone: List[int]
-    nodes: List[Node]
-    stages: List[Stage]
-    pairs: List[Tuple[int, int]]
-
-
-def check_code(code: Code, limits: Limits) -> None:
-    """Refuses code whose bits, or the calls of one of whose arrays, exceed their limit."""
-    if code.bits() > limits.bits:
-        raise Refused(7, f'nofit: bits {code.bits()}', Fault('bits', None, code, limits))
-    for array, a in enumerate(code.core.arrays):
-        if len(code.calls(array)) > limits.arms:
-            raise Refused(7, f'nofit: arms {a.name}', Fault('arms', a.at, code, array, limits))
-
-
-class FirstFit:
-    """Gives each node in order the least stage and table that it may have behind those before it."""
+class Layout:
+    """Code on a target: its nodes, the stage and the table of each node that is placed so far, and the tables of each stage."""
 
     def __init__(self, code: Code, limits: Limits) -> None:
-        self.code, self.limits = code, limits
-        self.nodes = nodes_of(code)
-        self.stages = [Stage() for _ in range(limits.stages)]
+        self.code, self.limits, self.nodes = code, limits, nodes_of(code)
         self.pairs: List[Tuple[int, int]] = []
+        self.stages: List[List[Table]] = [[] for _ in range(limits.stages)]
+
+    def check_code(self) -> None:
+        """Refuses code whose bits, or the calls of one of whose arrays, exceed their limit."""
+        code, limits = self.code, self.limits
+        if code.bits() > limits.bits:
+            raise Refused(7, f'nofit: bits {code.bits()}', Fault('bits', None, code, limits))
+        for array, a in enumerate(code.core.arrays):
+            if len(code.calls(array)) > limits.arms:
+                raise Refused(7, f'nofit: arms {a.name}', Fault('arms', a.at, code, array, limits))
 
     def merged(self, n: Node) -> Tuple[Table, int]:
         """Merges the tables of a node's operations one after another; also returns the most rows of a product on the way."""
@@ -88,48 +67,42 @@ class FirstFit:
         """Returns the first stage behind all nodes that write what this one reads."""
         return max((s + 1 for m, (s, _) in zip(self.nodes, self.pairs) if m.writes & n.reads), default=0)
 
-    def place(self, n: Node) -> Optional[Tuple[int, int]]:
-        """Places a node; returns None where no stage has room for it."""
+    def arrays(self, k: int) -> List[int]:
+        """Returns the array nodes in a stage."""
+        return [i for i, (s, _) in enumerate(self.pairs) if s == k and self.nodes[i].array is not None]
+
+    def place(self, n: Node) -> bool:
+        """Gives the next node the first stage and table that have room for it; says whether there is one."""
         more, most = self.merged(n)
         if most > self.limits.rows:
-            return None
+            return False
         for k in range(self.earliest(n), self.limits.stages):
-            stage = self.stages[k]
-            if n.array is not None and stage.arrays >= self.limits.arrays:
+            tables = self.stages[k]
+            if n.array is not None and len(self.arrays(k)) >= self.limits.arrays:
                 continue
-            for t in range(min(len(stage.tables) + 1, self.limits.tables)):
-                table = product(stage.tables[t] if t < len(stage.tables) else (), more)
+            for t in range(min(len(tables) + 1, self.limits.tables)):
+                table = product(tables[t] if t < len(tables) else (), more)
                 if len(table) <= self.limits.rows:
-                    stage.tables[t:t + 1] = [table]
-                    stage.arrays += n.array is not None
-                    return k, t
-        return None
+                    tables[t:t + 1] = [table]
+                    self.pairs.append((k, t))
+                    return True
+        return False
 
-    def run(self, gone: List[int]) -> Placed:
-        """Places all nodes, or refuses the first that has no place."""
+    def fit(self) -> None:
+        """Places all nodes in their order, or refuses the first that has no place."""
         for number, n in enumerate(self.nodes):
-            pair = self.place(n)
-            if pair is None:
+            if not self.place(n):
                 raise Refused(7, f'nofit: node {number}', Fault('node', self.code.ops[n.ops[0]].at, self))
-            self.pairs.append(pair)
-        return Placed(self.code, gone, self.nodes, self.stages, self.pairs)
 
-
-def fit(code: Code, gone: List[int], limits: Limits) -> Placed:
-    """Returns the first fit of code within limits."""
-    check_code(code, limits)
-    return FirstFit(code, limits).run(gone)
-
-
-def layout_text(placed: Placed) -> str:
-    """Returns the lines of the passes, of the counts, and of each table by stage and table."""
-    code = placed.code
-    lines = [f'pass {name} removed {gone}' for (name, _), gone in zip(PASSES, placed.gone)]
-    lines.append(f'ops {len(code.ops)} bits {code.bits()} nodes {len(placed.nodes)}')
-    for k, stage in enumerate(placed.stages):
-        for t, table in enumerate(stage.tables):
-            ops = {i for row in table for i in row.ops}
-            arrays = sorted({code.ops[i].number for i in ops if code.ops[i].kind == 'touch'})
-            names = ' arrays ' + ' '.join(code.core.arrays[a].name for a in arrays) if arrays else ''
-            lines.append(f'stage {k} table {t} rows {len(table)} ops {len(ops)}{names}')
-    return ''.join(line + '\n' for line in lines)
+    def text(self) -> str:
+        """Returns the lines of the passes, of the counts, and of each table by stage and table."""
+        ops, arrays = self.code.ops, self.code.core.arrays
+        lines = [f'pass {name} removed {gone}' for (name, _), gone in zip(PASSES, self.code.gone)]
+        lines.append(f'ops {len(ops)} bits {self.code.bits()} nodes {len(self.nodes)}')
+        for k, tables in enumerate(self.stages):
+            for t, table in enumerate(tables):
+                acting = {i for row in table for i in row.ops}
+                called = sorted({ops[i].number for i in acting if ops[i].kind == 'touch'})
+                names = ' arrays ' + ' '.join(arrays[a].name for a in called) if called else ''
+                lines.append(f'stage {k} table {t} rows {len(table)} ops {len(acting)}{names}')
+        return ''.join(line + '\n' for line in lines)

@@ -5,7 +5,7 @@ from typing import List, Optional, Tuple
 from .core import Core
 from .interpret import Cells, Out, empty_cells, run_whole
 from .json_files import Limits
-from .layout import Placed
+from .layout import Layout
 from .log import block_text, cells_text
 from .pipe import Packet, Pipe
 from .scenes import Scene
@@ -19,7 +19,7 @@ Waiting = Tuple[int, bool, int, int, int, int, List[int]]
 class Network:
     """A network whose switches run handlers whole, or move packets through pipelines where there is placed code."""
 
-    def __init__(self, core: Core, limits: Limits, scene: Scene, placed: Optional[Placed]) -> None:
+    def __init__(self, core: Core, limits: Limits, scene: Scene, placed: Optional[Layout]) -> None:
         self.core, self.limits, self.scene = core, limits, scene
         self.pipes = [Pipe(placed) for _ in range(scene.switches)] if placed is not None else []
         self.cells: List[Cells] = [pipe.cells for pipe in self.pipes] or [empty_cells(core) for _ in range(scene.switches)]

@@ -62,7 +62,7 @@ def dead(code: Code) -> List[Op]:
     kept: List[Op] = []
     read = set()
     for op in reversed(code.ops):
-        if not op.only_writes() or op.to in read:
+        if op.kind in ('touch', 'gen', 'say') or op.to in read:
             kept.append(op)
             read.update(op.reads())
     return kept[::-1]
@@ -104,13 +104,11 @@ def direct(code: Code) -> List[Op]:
 PASSES: List[Tuple[str, Callable[[Code], List[Op]]]] = [('fold', fold), ('copies', copies), ('dead', dead), ('direct', direct)]
 
 
-def compose(c: core.Core) -> Tuple[Code, List[int]]:
-    """Returns what the passes make of the normal form, and how many operations each removed; the two counts come first."""
+def compose(c: core.Core) -> Code:
+    """Returns what the passes make of the normal form of a program; the two counts come first."""
     check_counts(c)
     code = normal(c)
-    gone: List[int] = []
     for _, one in PASSES:
         ops = one(code)
-        gone.append(len(code.ops) - len(ops))
-        code = replace(code, ops=ops)
-    return code, gone
+        code = replace(code, ops=ops, gone=code.gone + [len(code.ops) - len(ops)])
+    return code

@@ -3,7 +3,7 @@ from dataclasses import dataclass, replace
 from typing import Dict, List, Optional
 
 from .interpret import Cells, Out, empty_cells
-from .layout import Placed
+from .layout import Layout
 from .values import low
 
 
@@ -26,7 +26,7 @@ class Packet:
 class Pipe:
     """A pipeline with a slot before each stage."""
 
-    def __init__(self, placed: Placed) -> None:
+    def __init__(self, placed: Layout) -> None:
         self.placed, self.code = placed, placed.code
         self.cells = empty_cells(placed.code.core)
         self.slots: List[Optional[Packet]] = [None] * len(placed.stages)
@@ -48,7 +48,7 @@ class Pipe:
     def run_stage(self, k: int, packet: Packet) -> None:
         """Lets each table read the fields as the packet entered the stage; then all that act write together."""
         entered = list(packet.fields)
-        for table in self.placed.stages[k].tables:
+        for table in self.placed.stages[k]:
             for row in table:
                 if all(entered[field] == value for field, value in row.pattern):
                     for i in row.ops:

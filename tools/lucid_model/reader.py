@@ -140,10 +140,10 @@ class Reader:
         if self.take('true', 'false'):
             return tree.Truth(word == 'true', at)
         if self.take('SELF'):
-            return tree.Me(at)
+            return tree.Input('me', at)
         if self.take('Sys'):
             self.read('.', 'time', '(', ')')
-            return tree.Time(at)
+            return tree.Input('now', at)
         if self.take('hash'):
             (width,) = self.read(self.width, '(')
             return tree.Hash(width, self.several(self.expr, ')'), at)

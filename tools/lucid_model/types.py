@@ -58,10 +58,8 @@ class Expressions:
     def entry(self, name: str, at: int, *kinds: str) -> Entry:
         """Returns what a visible name means, which must be of one of these kinds."""
         found = self.names.get(name)
-        if found is None:
-            raise Fault('unknown name', at, name, ' or '.join(kinds))
-        if found.kind not in kinds:
-            raise Fault('kind of name', at, name, ' or '.join(kinds), found.kind)
+        if found is None or found.kind not in kinds:
+            raise Fault('name', at, name, ' or '.join(kinds), found and found.kind)
         return found
 
     # ---- the widths of free places
@@ -88,7 +86,7 @@ class Expressions:
             return self.entry(e.name, e.at, 'local', 'constant').type
         if isinstance(e, (tree.Cast, tree.Hash)):
             return check_width(32 if e.width is None else e.width, e.at)
-        if isinstance(e, (tree.Me, tree.Time)):
+        if isinstance(e, tree.Input):
             return 32
         if isinstance(e, tree.Call):
             return self.entry(e.name, e.at, 'fun').type
@@ -140,7 +138,7 @@ class Expressions:
             return self.call(e)
         if isinstance(e, tree.Access):
             return self.access(e)
-        return core.Input('me' if isinstance(e, tree.Me) else 'now', e.at)
+        return core.Input(e.name, e.at)
 
     def operation(self, asked: Type, e: Union[tree.Shift, tree.Prefix, tree.Infix]) -> core.Expr:
         """Types an operator: arithmetic takes and gives the asked width, a comparison two ints of one free place."""
