@@ -5,7 +5,7 @@
 
 For each refused row the refusal that tools/explain works out is the row's line, and where it has a place in a text, the explanation
 names file, line and column, and shows that line. A declaration, a token, a byte and a line that the refusal counts are those of the
-place. Then tools/explain itself is called on a row of each kind: its first line is the program's own, and its code the program's.
+place. The examples on a target of two stages are refused, and the explanation names the node and why it finds no stage. Then tools/explain itself is called on a row of each kind: its first line is the program's own, and its code the program's.
 
 It fails if a rule refuses without a place, if a place is not within the declaration that is refused, and if the second implementation
 refuses something else. It does not judge the words of an explanation.
@@ -107,9 +107,27 @@ def call_tool(group: Any, row: Row, program: str) -> None:
     group.check(f'tools/explain {row.name}: file:line:column', re.match(rb'[pltq]:\d+:\d+: error: ', second) is not None, second)
 
 
+def check_example(group: Any, path: Path) -> bool:
+    """Whether an example finds no stage on a target of two; then its explanation names the operation, its place, and the reason."""
+    files = {b'p': path.read_bytes(), b'l': b'{"stages": 2}'}
+    report = explain(['layout', 'p', 'l'], files.__getitem__, with_nodes=False)
+    made = report.explanation
+    if made is None or not made.refusal.startswith('nofit: node '):
+        return False
+    named = re.match(r'node (\d+) is .+ \((\d+:\d+)\); `stages` is 2', made.details[0])
+    group.check(f'{path.name} with two stages: the operation', named is not None and made.refusal == f'nofit: node {named.group(1)}'
+                and made.place.head() == f'p:{named.group(2)}', made.details[0])
+    reasons = [re.match(r'  it can stand in stage \d+ at the earliest', made.details[1]),
+               re.match(r'  node \d+ reads node \d+ \(\d+:\d+, |   *(a new table of )?stage \d+ ', made.details[2])]
+    group.check(f'{path.name} with two stages: the reason', None not in reasons, made.details[1:3])
+    return True
+
+
 def run(group: Any) -> None:
-    """Checks the explanation of each refused row, and calls the tool on one row of each kind."""
+    """Checks the explanation of each refused row and of each example, and calls the tool on one row of each kind."""
     def work() -> None:
+        refused = [path for path in sorted((TOP / 'examples').glob('*.luc')) if check_example(group, path)]
+        group.check('there are ten examples that need more than two stages', len(refused) >= 10, len(refused))
         kinds: Dict[str, Row] = {}
         for path in sorted((TOP / 'tests/rows').glob('*.rows')):
             for row in read_rows(path)[0]:

@@ -15,7 +15,7 @@ SAYS = b"lucid: unproved: this answer comes from a build whose proofs were not c
 def answer(group: Group, name: str, words: List[str]) -> Ended:
     """A call in a copy of the sources, from a folder of the caller's."""
     copy = group.room / name
-    skipped = shutil.ignore_patterns("out", "rows", "*.awk")
+    skipped = shutil.ignore_patterns("out", "rows")
     for folder in "crates", "tests":
         shutil.copytree(TOP / folder, copy / folder, ignore=skipped)
     for file in "crates.txt", "lucid", "HANDLES":
