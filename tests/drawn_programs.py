@@ -2,7 +2,7 @@
 
 `Program(random).text()` is a program; its arrays and events are kept, so that scenarios can be drawn for it. Arrays are called in
 the order of their declarations, but for a slip. Conditions compare parameters with few numbers, so that branches within one another
-are often impossible, and operations under them never act.
+are often impossible, and operations under them never act; each program with an integer parameter begins one of its handlers so.
 """
 from __future__ import annotations
 
@@ -79,6 +79,7 @@ class Program:
         self.templates: List[str] = []
         self.groups: List[Tuple[str, int]] = []
         self.count = 0
+        self.has_impossible = False
 
     def chance(self, p: float) -> bool:
         """Whether something of this likelihood comes about."""
@@ -271,12 +272,9 @@ class Program:
         """An if, with or without an else; or one that returns, before the rest; or one that never comes about."""
         test = self.truth(b, 2)
         more = indent + '  '
-        some = [name for w, names in b.locals.items() if w > 1 for name in names if name[0] == 'x']
-        if alone and some and b.depth < 4 and self.chance(0.3):
-            name = self.r.choice(some)
-            inner, other = self.branches(b, [lambda: self.touching(b, more + '  '), lambda: self.block(b, more)])
-            inner = [f'{more}if ({name} == 2) {{'] + inner + [f'{more}}}']
-            return [f'{indent}if ({name} == 1) {{'] + inner + [f'{indent}}} else {{'] + other + [f'{indent}}}']
+        never = self.impossible(b, indent) if alone and b.depth < 4 and self.chance(0.3) else []
+        if never:
+            return never
         if alone and self.chance(0.2 if b.depth == 1 else 0.004):
             kept = b.place, b.outs
             inner = self.block(b, more, True)
@@ -290,6 +288,16 @@ class Program:
             return [f'{indent}if ({test}) {{'] + yes + [f'{indent}}} else {no[0].strip()}'] + no[1:]
         yes, no = self.branches(b, [lambda: self.block(b, more), lambda: self.block(b, more)])
         return [f'{indent}if ({test}) {{'] + yes + [f'{indent}}} else {{'] + no + [f'{indent}}}']
+
+    def impossible(self, b: Body, indent: str) -> List[str]:
+        """An if within which a parameter is two numbers at once, so that its statements never act; no line without such a parameter."""
+        some = [name for w, names in b.locals.items() if w > 1 for name in names if name[0] == 'x']
+        if not some:
+            return []
+        name, more = self.r.choice(some), indent + '  '
+        inner, other = self.branches(b, [lambda: self.touching(b, more + '  '), lambda: self.block(b, more)])
+        inner = [f'{more}if ({name} == 2) {{'] + inner + [f'{more}}}']
+        return [f'{indent}if ({name} == 1) {{'] + inner + [f'{indent}}} else {{'] + other + [f'{indent}}}']
 
     def touching(self, b: Body, indent: str) -> List[str]:
         """A block that mostly begins with a call of an array."""
@@ -399,12 +407,15 @@ class Program:
         self.funs.append(Fun(name, params, arrays, answer, [] if arrays else sorted(set(b.touched)), b.outs))
 
     def handler(self, name: str, widths: List[int]) -> None:
-        """A handler over the declared arrays."""
+        """A handler over the declared arrays; the first one that can have it begins with an impossible branch."""
         b = Body({}, list(self.arrays))
         for i, w in enumerate(widths):
             b.locals.setdefault(w, []).append(f'x{i}')
         params = ', '.join(f'{type_text(w)} x{i}' for i, w in enumerate(widths))
-        self.lines += [f'handle {name}({params}) {{'] + self.block(b, '  ') + ['}']
+        b.depth = 1
+        never = self.impossible(b, '  ') if not self.has_impossible else []
+        self.has_impossible, b.depth = self.has_impossible or bool(never), 0
+        self.lines += [f'handle {name}({params}) {{'] + never + self.block(b, '  ') + ['}']
 
     def text(self) -> str:
         """Draws the program, and returns its text."""
