@@ -1,11 +1,13 @@
 """Streams, files and memory that fail: an output that takes nothing, a file that can not be read or changes, memory that ends.
 
-Fails on a call that ends by a signal, with another line or status, or that leaves more than a beginning of its output. Sees only the
-faults that this machine can make from outside; `refused` makes each of the others in turn.
+Fails on a call that ends by a signal, with another line or status, or that leaves more than a beginning of its output. Fails on a program
+that buffers a log, or that writes a block in parts: each block has to come by one write. Sees only the faults that this machine can make
+from outside; `refused` makes each of the others in turn.
 """
 from __future__ import annotations
 
 import os
+import re
 import subprocess
 import threading
 import time
@@ -15,6 +17,8 @@ from typing import List, Sequence
 from harness import FIRST, FIRST_LOG, TOP, Ended, Group, Word, call, is_listed, shell
 
 FAULT = b"write fault\n"
+# A line that begins with a bracket, and lines that begin with two blanks.
+BLOCK = re.compile(rb"\[[^\n]*\n(?:  [^\n]*\n)*")
 FORMS = """check P|expand P|once P pkt 5|layout P L|run whole P L S|run pipe P L S|run placed P L S Q|drive P L S|audit P L Q|snap P L S 0
 gen program 0 1|gen limits 0 1|gen scene 0 1|bench 0 1"""
 
@@ -22,6 +26,7 @@ gen program 0 1|gen limits 0 1|gen scene 0 1|bench 0 1"""
 def run(group: Group) -> None:
     faults_of_a_stream(group)
     each_form(group)
+    one_write_a_block(group)
     cut_outputs(group)
     bounds_of_memory(group)
     faults_of_a_file(group)
@@ -64,6 +69,38 @@ def each_form(group: Group) -> None:
             if isinstance(word, Path):
                 ended = group.call(*words[:k], folder, *words[k + 1 :])
                 group.expect(f"{form}, with a folder as its word {k}", ended, 2, err=f"read fault: {folder}\n".encode())
+
+
+def writes_of(words: Sequence[Word]) -> List[bytes]:
+    """The writes of a command on its output, each at most 4,096 bytes: a pipe in packet mode gives one write at a read."""
+    reader, writer = os.pipe2(os.O_DIRECT)
+    child = subprocess.Popen([os.fspath(word) for word in words], stdin=subprocess.DEVNULL, stdout=writer)
+    os.close(writer)
+    writes = list(iter(lambda: os.read(reader, 65536), b""))
+    os.close(reader)
+    child.wait()
+    return writes
+
+
+def one_write_a_block(group: Group) -> None:
+    """The logs of all commands that run events: each write is a whole block and nothing else, or has no line of a block's head."""
+    limits = group.file("blocks.limits", "{}")
+    events = ",".join('{"at":%d,"switch":0,"name":"pkt","args":[%d]}' % (at, at) for at in range(40))
+    network = group.file("blocks.network", '{"stop":60,"events":[%s]}' % events)
+    steps = ",".join(['["enter"],["go",0],["go",1]'] * 40)
+    driven = group.file("blocks.driven", '{"stop":1,"events":[%s],"steps":[%s]}' % (events, steps))
+    for words in (
+        ["once", FIRST, "pkt", "5"],
+        ["run", "whole", FIRST, limits, network],
+        ["run", "pipe", FIRST, limits, network],
+        ["drive", FIRST, limits, driven],
+    ):
+        writes = writes_of([group.options.program, *words])
+        blocks = [write for write in writes if BLOCK.fullmatch(write)]
+        heads = len(re.findall(rb"(?m)^\[", b"".join(writes)))
+        name = " ".join(word for word in words if isinstance(word, str))
+        group.check(f"{name}: all its output", b"".join(writes) == group.call(*words).out)
+        group.check(f"{name}: one write for each block", len(blocks) == heads > 0, writes[0][:200] if writes else "")
 
 
 def is_cut(ended: Ended, whole: bytes) -> bool:
