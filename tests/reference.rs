@@ -4,6 +4,7 @@
 //!   reference run whole|pipe PROGRAM LIMITS SCENARIO
 //!   reference drive PROGRAM LIMITS SCENARIO
 //!   reference bench SEED N
+//!   reference blocks WORD..       the same, where each line of `drive` and each block is written at once
 //!
 //! It has the same form. JSON becomes a tree of values and that the settings. A program becomes tokens and these a tree whose names are
 //! numbers. `run whole` walks the tree. The other commands make guarded operations of it, look through moves, drop what nobody reads, place
@@ -1504,18 +1505,31 @@ struct Key {
     index: usize,
 }
 
+/// Where a log is written, and whether each block is written at once.
+struct Output<W: Write> {
+    to: W,
+    by_block: bool,
+}
+
+impl<W: Write> Output<W> {
+    /// Ends a block.
+    fn ends(&mut self) -> io::Result<()> {
+        if self.by_block { self.to.flush() } else { Ok(()) }
+    }
+}
+
 struct Network<'a, W: Write> {
     program: &'a Program,
     limits: &'a Limits,
     scene: &'a Scene,
-    out: W,
+    out: Output<W>,
     waiting: Vec<BTreeMap<Key, Event>>,
     entered: u64,
     lost: u64,
 }
 
 impl<'a, W: Write> Network<'a, W> {
-    fn new(program: &'a Program, limits: &'a Limits, scene: &'a Scene, out: W) -> Self {
+    fn new(program: &'a Program, limits: &'a Limits, scene: &'a Scene, out: Output<W>) -> Self {
         let mut waiting: Vec<BTreeMap<Key, Event>> = (0..scene.switches).map(|_| BTreeMap::new()).collect();
         for (index, e) in scene.events.iter().enumerate() {
             waiting[e.switch].insert(Key { ready: e.at, was_sent: false, tick: 0, parent: 0, index }, e.event);
@@ -1547,10 +1561,10 @@ impl<'a, W: Write> Network<'a, W> {
 
     /// Writes the block of an event, and lets what it sent wait.
     fn tell<'s>(&mut self, tick: u64, me: usize, event: &Event, outs: impl Iterator<Item = &'s Out>) -> io::Result<()> {
-        put_head(&mut self.out, self.program, tick, me, event)?;
+        put_head(&mut self.out.to, self.program, tick, me, event)?;
         for (index, sent) in outs.enumerate() {
             let arrival = self.arrival(me, tick, sent);
-            put_out(&mut self.out, self.program, sent, arrival.is_none())?;
+            put_out(&mut self.out.to, self.program, sent, arrival.is_none())?;
             match arrival {
                 Some((switch, ready)) => {
                     self.waiting[switch].insert(Key { ready, was_sent: true, tick, parent: me, index }, sent.event);
@@ -1558,16 +1572,16 @@ impl<'a, W: Write> Network<'a, W> {
                 None => self.lost += 1,
             }
         }
-        Ok(())
+        self.out.ends()
     }
 
     fn end<'s>(&mut self, cells: impl Iterator<Item = &'s Cells>) -> io::Result<()> {
         for (switch, cells) in cells.enumerate() {
-            put_cells(&mut self.out, self.program, switch, cells)?;
+            put_cells(&mut self.out.to, self.program, switch, cells)?;
         }
         let pending: usize = self.waiting.iter().map(BTreeMap::len).sum();
-        writeln!(self.out, "entered {} lost {} pending {pending}", self.entered, self.lost)?;
-        self.out.flush()
+        writeln!(self.out.to, "entered {} lost {} pending {pending}", self.entered, self.lost)?;
+        self.out.to.flush()
     }
 
     fn run_whole(&mut self) -> io::Result<()> {
@@ -1615,30 +1629,32 @@ impl<'a, W: Write> Network<'a, W> {
 
 // ---- a pipe that is driven by hand
 
-fn put_packet(out: &mut impl Write, program: &Program, packet: &Packet) -> io::Result<()> {
-    put_head(out, program, packet.now, packet.me, &packet.event)?;
-    packet.sent.iter().try_for_each(|sent| put_out(out, program, &sent.1, false))
+fn put_packet(out: &mut Output<impl Write>, program: &Program, packet: &Packet) -> io::Result<()> {
+    put_head(&mut out.to, program, packet.now, packet.me, &packet.event)?;
+    packet.sent.iter().try_for_each(|sent| put_out(&mut out.to, program, &sent.1, false))?;
+    out.ends()
 }
 
-fn drive(program: &Program, limits: &Limits, scene: &Scene, mut out: impl Write) -> io::Result<()> {
+fn drive(program: &Program, limits: &Limits, scene: &Scene, mut out: Output<impl Write>) -> io::Result<()> {
     let layout = Layout::of(program, limits);
     let mut pipe = Pipe::new(program, &layout);
     let mut entered = 0;
     for step in &scene.steps {
         match *step {
             Step::Enter => match scene.events.get(entered) {
-                None => out.write_all(b"none\n")?,
-                Some(_) if pipe.is_taken(0) => out.write_all(b"busy\n")?,
+                None => out.to.write_all(b"none\n")?,
+                Some(_) if pipe.is_taken(0) => out.to.write_all(b"busy\n")?,
                 Some(e) => {
                     pipe.enter(e.event, e.at, e.switch);
-                    writeln!(out, "enter {entered}")?;
+                    writeln!(out.to, "enter {entered}")?;
                     entered += 1;
                 }
             },
-            Step::Go(k) if !pipe.is_taken(k) => writeln!(out, "empty {k}")?,
-            Step::Go(k) if pipe.is_taken(k + 1) => writeln!(out, "ahead {k}")?,
+            Step::Go(k) if !pipe.is_taken(k) => writeln!(out.to, "empty {k}")?,
+            Step::Go(k) if pipe.is_taken(k + 1) => writeln!(out.to, "ahead {k}")?,
             Step::Go(k) => {
-                writeln!(out, "go {k}")?;
+                writeln!(out.to, "go {k}")?;
+                out.ends()?;
                 if let Some(packet) = pipe.go(k) {
                     put_packet(&mut out, program, &packet)?;
                     pipe.free.push(packet);
@@ -1647,9 +1663,10 @@ fn drive(program: &Program, limits: &Limits, scene: &Scene, mut out: impl Write)
             Step::Look(array, cell) => {
                 let row = &pipe.cells[array];
                 let cell = (cell % row.len() as u64) as usize;
-                writeln!(out, "look {}[{cell}] = {}", program.arrays[array].name, row[cell])?;
+                writeln!(out.to, "look {}[{cell}] = {}", program.arrays[array].name, row[cell])?;
             }
         }
+        out.ends()?;
     }
     for first in (0..limits.stages).rev() {
         for k in first..limits.stages {
@@ -1658,9 +1675,9 @@ fn drive(program: &Program, limits: &Limits, scene: &Scene, mut out: impl Write)
             }
         }
     }
-    put_cells(&mut out, program, 0, &pipe.cells)?;
-    writeln!(out, "entered {entered} left {}", scene.events.len() - entered)?;
-    out.flush()
+    put_cells(&mut out.to, program, 0, &pipe.cells)?;
+    writeln!(out.to, "entered {entered} left {}", scene.events.len() - entered)?;
+    out.to.flush()
 }
 
 // ---- generated programs and scenarios
@@ -1754,13 +1771,14 @@ fn bench(seed: u64, count: u64, mut out: impl Write) -> io::Result<()> {
     let scene = Scene::read(&generated_scene(seed, count), &program);
     let layout = Layout::of(&program, &limits);
     let mut tally = Tally { bytes: 0, hash: 14_695_981_039_346_656_037, line: Vec::new(), has_ended: true };
-    Network::new(&program, &limits, &scene, &mut tally).run_pipe(&layout)?;
+    Network::new(&program, &limits, &scene, Output { to: &mut tally, by_block: false }).run_pipe(&layout)?;
     let line = String::from_utf8_lossy(&tally.line);
     writeln!(out, "bench seed {seed} n {count} {line} bytes {} fnv {:016x}", tally.bytes, tally.hash)?;
     out.flush()
 }
 
 fn run(words: &[&str]) -> io::Result<()> {
+    let (by_block, words) = if let ["blocks", rest @ ..] = words { (true, rest) } else { (false, words) };
     let out = BufWriter::with_capacity(65_536, io::stdout().lock());
     if let ["bench", seed, count] = words {
         let number = |word: &str| word.parse().unwrap_or_else(|_| fail("no number"));
@@ -1771,6 +1789,7 @@ fn run(words: &[&str]) -> io::Result<()> {
         [command @ "drive", program, limits, scene] => (*command, program, limits, scene),
         _ => fail("usage"),
     };
+    let out = Output { to: out, by_block };
     let program = Parser::program(&fs::read_to_string(program)?);
     let limits = Limits::read(&fs::read_to_string(limits)?);
     let scene = Scene::read(&fs::read_to_string(scene)?, &program);

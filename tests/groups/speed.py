@@ -2,7 +2,8 @@
 
 Runs the program that `gen` makes of 7 in a network of 64 switches, in pipes that are half full, and in one pipe that is driven by hand.
 Fails if the two write other bytes. Then prints a line of a table for each call: processor seconds, the least of five calls that take
-turns, or of `--runs` many, and their factor; and the nanoseconds of one stage of a packet. Sees no speed of other programs.
+turns, or of `--runs` many, and their factor; and the nanoseconds of one stage of a packet. A second table splits `run whole` into reading
+its files and the rest, also beside the plain program that writes each block at once, as ours does. Sees no speed of other programs.
 """
 from __future__ import annotations
 
@@ -24,6 +25,9 @@ CALLS = [
     "run pipe bare limits stages",
 ]
 FACTOR = 2
+WHOLE = CALLS[0]
+# The scenario of WHOLE that stops before the first tick: its events are read and are pending, and none runs.
+READ = "run whole program limits unrun"
 
 
 def event(draw: random.Random, at: int, switch: int) -> Dict[str, object]:
@@ -66,8 +70,8 @@ def prepare(group: Group) -> Path:
     subprocess.run(["rustc", "--edition", "2024", "-O", "-o", reference, TESTS / "reference.rs"], check=True)
     for kind in "program", "limits":
         group.file(kind, group.call("gen", kind, "7", "1").out)
-    for name, make in (("network", network), ("stages", stages), ("drive", drive)):
-        group.file(name, json.dumps(make()))
+    for name, scenario in (("network", network()), ("unrun", {**network(), "stop": 0}), ("stages", stages()), ("drive", drive())):
+        group.file(name, json.dumps(scenario))
     lines = (group.room / "program").read_text().splitlines(keepends=True)
     group.file("bare", "".join(line for line in lines if not (line.startswith("  ") and "Array." in line)))
     return reference
@@ -76,7 +80,7 @@ def prepare(group: Group) -> Path:
 def run(group: Group) -> None:
     spent, reference = compile_c(group, "spent.c"), prepare(group)
     entered = 1
-    for words in CALLS:
+    for words in [*CALLS, READ]:
         ours = measure(spent, [group.options.program, *words.split()], group.room).ended
         theirs = measure(spent, [reference, *words.split()], group.room).ended
         group.check(f"{words}: the bytes of the plain program", ours == theirs and ours.status == 0, ours)
@@ -87,6 +91,20 @@ def run(group: Group) -> None:
     rows = [row(f"`{words}`", "%.3f", *(min(turn[words][side] for turn in times) for side in (0, 1))) for words in CALLS]
     steps = [statistics.median(turn[CALLS[-2]][side] - turn[CALLS[-1]][side] for turn in times) / count * 1e9 for side in (0, 1)]
     table(group, ["Command", "Ours", "Plain Rust", "Factor"], [*rows, row("a stage of a packet, ns", "%.1f", *steps)])
+    reading(group, spent, reference)
+
+
+def reading(group: Group, spent: Path, reference: Path) -> None:
+    """Prints the seconds of `run whole`, of reading its files alone and of the rest, which is their difference."""
+    sides = (group.options.program, ""), (reference, ""), (reference, "blocks ")
+    turns = [[[seconds(group, spent, program, before + words) for program, before in sides] for words in (WHOLE, READ)]
+             for _ in range(group.options.runs or 5)]
+    whole, read = ([min(turn[call][side] for turn in turns) for side in range(3)] for call in range(2))
+    rest = [a - b for a, b in zip(whole, read)]
+    titles = ["Part of `run whole`", "Ours", "Plain Rust", "Factor", "Plain Rust, block by block", "Factor"]
+    rows = [[*row(name, "%.3f", ours, plain), *row("", "%.3f", ours, blocks)[2:]]
+            for name, (ours, plain, blocks) in (("the whole call", whole), ("reading", read), ("the rest", rest))]
+    table(group, titles, rows)
 
 
 def seconds(group: Group, spent: Path, program: Path, words: str) -> float:
