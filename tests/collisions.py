@@ -1,11 +1,12 @@
 #!/usr/bin/env python3
-"""Names that are chosen so that they collide in a table of names: `check` must take no longer for them than for other names.
+"""Names that are chosen to collide in a table of names: `check` takes no longer for them than for other names.
 
 A search in C finds names that fall into one group of the table with one tag, as many as the table is given: for the fixed hasher that the
 kit's maps have where nobody says otherwise, for the seeded hasher with no seed, with the seed of a text of the same size, and with the seed
 of the text which that last search led to. Each list of names is written as events, at half and at full size. It fails where a text takes more
 than twice the seconds of one with names that nobody chose, or more than 2.3 times those of its half, or where the names fall into few groups
-under the seed that the text really has. A table with a hasher of one fixed seed fails the first of these rows.
+under the seed that the text really has. A table with a hasher of one fixed seed fails the first of these rows. The group of the gate tries
+the names for the default hasher and those for the seed of another text; `--whole` and this script try all.
 
 Usage: tests/collisions.py PROGRAM"""
 import os
@@ -14,7 +15,9 @@ import subprocess
 import sys
 import tempfile
 from dataclasses import dataclass
-from typing import Callable, List, Optional
+from typing import Callable, Iterator, List, Optional
+
+from harness import Group
 
 COUNT = 4096
 # The bits that choose one of the 512 groups of a table of so many names.
@@ -161,8 +164,8 @@ class Row:
         return why
 
 
-def rows_of(program: str, count: int, room: str) -> List[Row]:
-    """The rows, the first of names that nobody chose."""
+def rows_of(program: str, count: int, room: str, whole: bool) -> Iterator[Row]:
+    """Yields the rows, the first of names that nobody chose; some of them only if `whole` is set."""
     source, search = os.path.join(room, "search.c"), os.path.join(room, "search")
     with open(source, "w") as out:
         out.write(SEARCH)
@@ -178,37 +181,51 @@ def rows_of(program: str, count: int, room: str) -> List[Row]:
         return Row(what, half, seconds_of(program, text, room), largest_group(names, seed_of(text)))
 
     plain = ["n%07d" % i for i in range(count)]
+    yield row("names that nobody chose", plain)
+    yield row("for the hasher that maps have by default", found("fixed", None))
     first = found("seeded", seed_of(text_of(plain)))
-    return [
-        row("names that nobody chose", plain),
-        row("for the hasher that maps have by default", found("fixed", None)),
-        row("for the seeded hasher without a seed", found("seeded", None)),
-        row("for the seed of the first text", first),
-        row("for the seed of the text before", found("seeded", seed_of(text_of(first)))),
-    ]
+    yield row("for the seed of the first text", first)
+    if whole:
+        yield row("for the seeded hasher without a seed", found("seeded", None))
+        yield row("for the seed of the text before", found("seeded", seed_of(text_of(first))))
 
 
-def collisions(program: str, say: Callable[[str], None], count: int = COUNT) -> bool:
-    """Prints a line of a table for each list of names; whether all stay within their bounds."""
-    with tempfile.TemporaryDirectory() as room:
-        rows = rows_of(program, count, room)
-    good = True
-    say("| Names | Half, s | Whole, s | In the fullest group |")
-    say("|---|---|---|---|")
-    for row in rows:
-        why = row.fails(rows[0].whole)
-        good = good and not why
-        say(f"| {row.what} | {row.half:.3f} | {row.whole:.3f} | {row.fullest} |")
-        for reason in why:
-            say(f"collisions: {row.what}: {reason}")
-    return good
+def collisions(program: str, room: str, whole: bool, check: Callable[[Row, List[str]], object]) -> None:
+    """Calls `check` with each list of names and why it is no good."""
+    plain: Optional[Row] = None
+    for row in rows_of(program, COUNT, room, whole):
+        plain = plain or row
+        check(row, row.fails(plain.whole))
+
+
+def line_of(row: Row, why: List[str]) -> str:
+    """The line that is printed of a row."""
+    return "%-42s %.3f s, half of it %.3f s, %d in the fullest group%s" % (row.what, row.whole, row.half, row.fullest, "".join(": " + w for w in why))
+
+
+def run(group: Group) -> None:
+    """Counts a check for each list of names."""
+
+    def check(row: Row, why: List[str]) -> None:
+        group.note(line_of(row, why))
+        group.check(row.what, not why, ", ".join(why))
+
+    collisions(str(group.options.program), str(group.room), group.options.whole, check)
 
 
 def main() -> int:
     if len(sys.argv) != 2:
         print(__doc__, file=sys.stderr)
         return 2
-    return 0 if collisions(sys.argv[1], print) else 1
+    faults: List[str] = []
+
+    def check(row: Row, why: List[str]) -> None:
+        print(line_of(row, why))
+        faults.extend(why)
+
+    with tempfile.TemporaryDirectory() as room:
+        collisions(sys.argv[1], room, True, check)
+    return 1 if faults else 0
 
 
 if __name__ == "__main__":

@@ -3,8 +3,8 @@
 Prints a line of a table for each: bytes, processor seconds at half and at full size, growth, peak memory and bounds; docs/SPEED.md shows
 that table. Fails on a signal, on a status other than the expected one, on seconds or memory beyond the bound, and with `--whole` on time
 that grows faster than the bound allows. The gate makes only inputs that take less than two seconds, at full size. `--only NAME` takes one.
-Sees no shapes that are not below. Names that collide in a hash table are left out: finding them takes minutes, and other fixed seeds or
-ordered maps need other names; `names` are the hardest for ordered maps.
+Sees no shapes that are not below. Names that collide in a hash table are in the group `collisions`; `names` and `keys` are the hardest
+for ordered maps.
 """
 from __future__ import annotations
 
@@ -123,6 +123,20 @@ def names(count: int) -> Files:
     return {"p": "".join(f"event {'n' * 200}{k}();" for k in range(count))}
 
 
+def keys(size: int) -> Files:
+    """An object whose keys have a long beginning in common, in a file of this many bytes; the second half names the keys again."""
+    count = (size - 20) // 240
+    members = "".join(f'"{"k" * 200}{k % (count // 2):08}":[{k}],' for k in range(count))
+    return {"p": "event e();", "l": "{}", "s": f'{{{members}"stop":1}}'}
+
+
+def tested_sends(count: int) -> Files:
+    """Sends, eight in an event of eight parameters, each behind a comparison with == on another parameter."""
+    tests = "".join(f"if({letter}==0){{generate out({k});}}" for k, letter in enumerate("abcdefgh"))
+    event = f"event g{{0}}({PARAMS});handle g{{0}}({PARAMS}){{{{{tests.replace('{', '{{').replace('}', '}}')}}}}}"
+    return {"p": "event out(int n);" + "".join(event.format(k) for k in range(count // 8)), "l": BIG}
+
+
 def sends(count: int) -> Files:
     """Sends, each behind the `else` of a comparison with == on one parameter and behind one on another."""
     each = "fun void s{0}(int a,int b){{if(a=={0}){{}}else{{if(b=={0}){{generate out({0});}}}}}}"
@@ -160,7 +174,10 @@ SHAPES: Dict[str, Shape] = {
     "64 instances of 5,000 calls": Shape(wide_calls, CHECK, 64, 130, 300, status=6),
     "64 instances of 1,700 calls in order": Shape(ordered_calls, CHECK, 64, 20, 300),
     "4 instances of 1,700 calls in order": Shape(ordered_calls, CHECK, 4, 3, 100, True),
+    "8 matches of 16 behind 60 tests": Shape(lambda n: guarded(60, n), LAYOUT, 16, 140, 100),
     "128 sends behind an else": Shape(sends, LAYOUT, 128, 5, 100),
+    "512 sends behind an else": Shape(sends, LAYOUT, 512, 20, 200),
+    "512 sends behind tests of 8 parameters": Shape(tested_sends, LAYOUT, 512, 10, 200),
     "10,000 early returns": Shape(early_returns, CHECK, 10000, 1, 100, True),
     "a chain of 1,000 functions": Shape(chain, LAYOUT, 1000, 1, 60, True),
     "4,900 names with one beginning": Shape(names, CHECK, 4900, 2, 100, True),
@@ -168,6 +185,7 @@ SHAPES: Dict[str, Shape] = {
     "a tower of 24 functions": Shape(tower, ["once", "p", "go", "1"], 24, 5, 30),
     "65,536 ticks of 8 sends": Shape(senders, ["run", "whole", "p", "l", "s"], 65536, 2, 350, True),
     "8 MiB of deep lists": Shape(lists, ["run", "whole", "p", "l", "s"], 8388544, 3.5, 700, True, 9),
+    "8 MiB of keys": Shape(keys, ["run", "whole", "p", "l", "s"], 8388544, 3.5, 700, True, 9),
 }
 GROWTH = 5.0
 
