@@ -3,9 +3,10 @@
 
     tests/explained.py [--program PROGRAM]
 
-For each refused row the refusal that tools/explain works out is the row's line, and where it has a place in a text, the explanation
-names file, line and column, and shows that line. A declaration, a token, a byte and a line that the refusal counts are those of the
-place. The examples on a target of two stages are refused, and the explanation names the node and why it finds no stage. Then tools/explain itself is called on a row of each kind: its first line is the program's own, and its code the program's.
+For each refused row the refusal that tools/explain works out is the row's line. If it has a place in a text, the explanation names file,
+line and column, and shows that line. A declaration, a token, a byte and a line that the refusal counts are those of the place. The examples
+on a target of two stages are refused, and the explanation names the node and why it finds no stage. Then tools/explain itself is called on
+a row of each kind: its first line is the program's own, and its code the program's.
 
 It fails if a rule refuses without a place, if a place is not within the declaration that is refused, and if the second implementation
 refuses something else. It does not judge the words of an explanation.

@@ -235,8 +235,9 @@ WORDS: Dict[str, Callable[..., Words]] = {
     'not JSON': lambda problem: Words(problem, 'The file is one JSON value in UTF-8.', 'mend the JSON here'),
     'other key': lambda keys, found='': Words(f'the key {found}', 'The file has no other keys than ' + ', '.join(keys) + '.',
                                               'remove or rename this key', 'one of the keys ' + ', '.join(keys), found),
-    'value': lambda wanted, found='': Words(f'expected {wanted}, found {found}', 'docs/SCENARIO.md says what each key must be, and docs/ERRORS.md of a placement.',
-                                            f'write {wanted}', wanted, found)}
+    'value': lambda wanted, found='': Words(
+        f'expected {wanted}, found {found}', 'docs/SCENARIO.md says what each key must be, and docs/ERRORS.md of a placement.',
+        f'write {wanted}', wanted, found)}
 
 
 def words_of(rule: str, values: Tuple[Any, ...], **more: Any) -> Words:

@@ -35,7 +35,7 @@ def check_pairs(made: Layout) -> None:
 
 
 def table_at(made: Layout, k: int, t: int) -> Table:
-    """Returns a table with its nodes, one after another; refuses it where a product on the way has too many rows."""
+    """Returns a table with its nodes, one after another; refuses it if a product on the way has too many rows."""
     table: Table = ()
     for i, n in enumerate(made.nodes):
         if made.pairs[i] == (k, t):

@@ -8,7 +8,7 @@ MOST_ARRAYS, MOST_CASES, MOST = 64, 32, 8  # MOST parameters, arguments and outs
 
 
 def most_outs(nodes: List[core.Node], funs: List[int]) -> int:
-    """Returns the most outs on any path, where functions have these; a group has as many as it has members."""
+    """Returns the most outs on any path, given those of each function; a group has as many as it has members."""
     total = 0
     for x in nodes:
         total += most_outs(core.children(x), funs)

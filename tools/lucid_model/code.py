@@ -1,4 +1,4 @@
-"""Code: operations with guards over fields. What a packet carries is fields; an operation acts where its guard holds."""
+"""Code: operations with guards over fields. What a packet carries is fields; an operation acts if its guard holds."""
 from dataclasses import dataclass, field
 from typing import List, NamedTuple, Optional, Tuple
 
@@ -50,7 +50,7 @@ class Op:
         return [x.field for x in self.guard] + [x.value for x in self.operands if x.is_field]
 
     def key(self) -> int:
-        """Returns its key: a call of an array comes behind what stands before the call."""
+        """Returns its key: a call of an array follows the operations before the call."""
         return 2 * self.number + 1 if self.kind == 'touch' else 2 * self.level
 
     def result(self, values: List[int], to_width: int) -> int:

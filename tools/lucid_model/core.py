@@ -49,7 +49,7 @@ class Gen:
         return [name for name in (('delay', 'to') if self.delay_first else ('to', 'delay')) if getattr(self, name) is not None]
 
     def split(self, parts: List[Any]) -> Tuple[List[Any], Any, Any]:
-        """Splits what its expressions became into the arguments, the delay and the target; None where there is none."""
+        """Splits what its expressions became into the arguments, the delay and the target; None for one that is missing."""
         behind = dict(zip(self.behind(), parts[len(self.args):]))
         return parts[:len(self.args)], behind.get('delay'), behind.get('to')
 

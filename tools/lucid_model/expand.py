@@ -29,7 +29,7 @@ class Expanded:
 
 
 def is_text(tokens: List[Token], at: int, *texts: str) -> bool:
-    """Whether these tokens stand here; '' is any name."""
+    """Whether these are the tokens from here on; '' is any name."""
     here = tokens[at:at + len(texts)]
     return len(here) == len(texts) and all(t.kind == 'name' if text == '' else t.text == text and t.kind != 'text'
                                            for t, text in zip(here, texts))

@@ -8,7 +8,7 @@ MOST_OPS, MOST_SIZE, LAST = 4096, 262144, 2 ** 64 - 1
 
 
 def needs_move(test: core.Expr) -> bool:
-    """Whether a condition takes a move of its own: where it is a number, a local or a call of a function."""
+    """Whether a condition needs a move of its own: a number, a local and a call of a function do."""
     return isinstance(test, (core.Fixed, core.Local, core.Fun))
 
 

@@ -91,14 +91,14 @@ class File:
         return self.refused(line, Fault('value', (*words[:1], *map(int, words[1:]), *path), wanted))
 
     def number(self, key: str, least: int, most: int, default: Optional[int]) -> int:
-        """Reads a number from the least to the most, or the default where the key is absent."""
+        """Reads a number from the least to the most, or the default if the key is absent."""
         n = self.root.get(key, default)
         if not is_number(n) or not least <= n <= most:
             raise self.bad(key, f'a number from {least} to {most}' if most < 2 ** 64 - 1 else 'a number below 2^64')
         return n
 
     def items(self, key: str) -> List[Any]:
-        """Reads a list, which is empty where the key is absent."""
+        """Reads a list, which is empty if the key is absent."""
         found = self.root.get(key, [])
         if not isinstance(found, list):
             raise self.bad(key, 'a list')

@@ -12,7 +12,7 @@ Pattern = FrozenSet[Tuple[int, int]]  # fields and the values that they must hav
 
 
 class Row(NamedTuple):
-    """A row acts by its operations where its pattern matches and no earlier row's does."""
+    """A row: its operations act if its pattern matches and no earlier row's does."""
 
     pattern: Pattern
     ops: Tuple[int, ...]

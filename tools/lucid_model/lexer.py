@@ -25,7 +25,7 @@ class Token(NamedTuple):
 
 
 def number_of(digits: str) -> int:
-    """Returns the number that digits write; 2^64 where they write that or more."""
+    """Returns the number that digits write, at most 2^64."""
     base = 16 if digits.startswith('0x') else 10
     short = digits[2 if base == 16 else 0:].lstrip('0') or '0'
     return min(int(short, base), 2 ** 64) if len(short) <= 20 else 2 ** 64

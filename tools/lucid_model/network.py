@@ -17,7 +17,7 @@ Waiting = Tuple[int, bool, int, int, int, int, List[int]]
 
 
 class Network:
-    """A network whose switches run handlers whole, or move packets through pipelines where there is placed code."""
+    """A network whose switches run handlers whole, or, with a layout, move packets through pipelines."""
 
     def __init__(self, core: Core, limits: Limits, scene: Scene, placed: Optional[Layout]) -> None:
         self.core, self.limits, self.scene = core, limits, scene
@@ -30,7 +30,7 @@ class Network:
             heapq.heappush(self.waiting[e.switch], (e.at, False, 0, 0, i, e.event, e.args))
 
     def arrival(self, tick: int, me: int, out: Out) -> Optional[Tuple[int, int]]:
-        """Returns where and when an event arrives that one which entered at a tick sends; None where it is lost."""
+        """Returns the switch and the tick at which a sent event arrives, given the tick at which its sender entered; None if it is lost."""
         departs = min(LAST, tick + self.limits.stages + self.limits.recirc + out.delay)
         if out.to is None or out.to == me:
             return me, departs

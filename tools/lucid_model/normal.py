@@ -31,7 +31,7 @@ def number(value: int, width: int) -> Held:
 
 
 class Translation:
-    """Translates one handler after another. `place` is where the walk stands among the arrays, `slot` counts the outs."""
+    """Translates one handler after another. `place` is the position among the arrays, `slot` counts the outs."""
 
     def __init__(self, c: core.Core) -> None:
         self.core = c
@@ -48,7 +48,7 @@ class Translation:
         return Held(Operand(True, len(self.code.widths) - 1), width)
 
     def emit(self, kind: str, parts: List[Held], to: Optional[Held], at: int, **more: Any) -> Optional[Held]:
-        """Adds an operation, which writes a field where one is given, and returns that."""
+        """Adds an operation, which writes a field if one is given, and returns that."""
         field = None if to is None else to.operand.value
         self.code.ops.append(Op(self.guard, self.place, kind, tuple(p.operand for p in parts), field, at, self.via, **more))
         return to
@@ -88,7 +88,7 @@ class Translation:
         return self.call(x, parts, f)
 
     def array(self, name: core.ArrayName, f: Frame) -> int:
-        """Returns the declared array that a name stands for in a frame."""
+        """Returns the declared array that a name means in a frame."""
         return name.number if name.declared else f.arrays[name.number]
 
     def call(self, x: core.Fun, args: List[Held], f: Frame) -> Optional[Held]:

@@ -8,7 +8,7 @@ from .core import ArrayName
 from .refusals import Fault, Refused
 
 Atom = Optional[ArrayName]  # None is the start of the body, a name is behind a call of that array
-Places = Dict[Atom, int]  # where the walk stands, and the call behind which that is
+Places = Dict[Atom, int]  # the positions of a walk, each with the place of the call before it
 
 
 @dataclass
@@ -28,7 +28,7 @@ class Walk:
         self.walk(body.body)
 
     def call(self, array: ArrayName, at: int) -> None:
-        """To call an array the walk must not stand behind it, and then it stands behind it."""
+        """Adds a call: the array must not come before the position, which is then behind the array."""
         for atom, before in self.found.ends.items():
             self.found.needs.setdefault((atom, array), (before, at))
         self.found.ends = {array: at}
@@ -79,7 +79,7 @@ class Order:
         return not x.declared, x.number
 
     def cycle(self) -> Optional[List[ArrayName]]:
-        """Returns a shortest cycle, begun with its earliest name; None exactly where there is a numbering."""
+        """Returns a shortest cycle, begun with its earliest name; None exactly if there is a numbering."""
         touched = sorted({a for pair in self.scheme.needs for a in pair if a is not None}, key=self.key)
         cycles = [cycle for cycle in (self.cycle_from(start, touched) for start in touched) if cycle is not None]
         return min(cycles, key=len, default=None)

@@ -17,7 +17,7 @@ def only_writers(ops: List[Op]) -> Dict[int, int]:
 
 
 def look_through(code: Code, put: Callable[[int, Operand], Operand], settle: Callable[[Op], Op]) -> List[Op]:
-    """Changes each operation in the order of the list, as it then stands; `put` chooses what stands for a moved field.
+    """Changes each operation in the order of the list, as it is then; `put` chooses the operand for a moved field.
 
     A field is moved if a `move` alone writes it, and the reader's guard has all literals of that move's guard.
     """

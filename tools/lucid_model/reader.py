@@ -11,7 +11,7 @@ COMPARISONS, SHIFTS = 2, 6
 
 
 class Stuck(Exception):
-    """The number of the token with which no declaration goes on, and what may stand there."""
+    """The number of the token with which no declaration goes on, and the tokens that may."""
 
     def __init__(self, at: int, *wanted: str) -> None:
         super().__init__(*wanted)
@@ -19,7 +19,7 @@ class Stuck(Exception):
 
 
 class Reader:
-    """Takes tokens by the next one alone, or by the next two; behind the last stands one without text."""
+    """Takes tokens by the next one alone, or by the next two; behind the last is one without text."""
 
     def __init__(self, tokens: List[Token], text: str) -> None:
         self.tokens, self.text, self.here = tokens + [Token('end', '', len(text), len(text))], text, 0

@@ -65,7 +65,7 @@ class Expressions:
     # ---- the widths of free places
 
     def leaf_width(self, e: tree.Expr) -> Optional[int]:
-        """Returns the width of the first leaf, from the left, that is no number; None where all are numbers."""
+        """Returns the width of the first leaf, from the left, that is no number; None if all are numbers."""
         if isinstance(e, tree.Number):
             return None
         if isinstance(e, tree.Paren):
@@ -81,7 +81,7 @@ class Expressions:
         return found
 
     def own_type(self, e: tree.Expr) -> Optional[Type]:
-        """Returns the type of an expression that has one of its own; None where it gives no value."""
+        """Returns the type of an expression that has one of its own; None if it gives no value."""
         if isinstance(e, tree.Name):
             return self.entry(e.name, e.at, 'local', 'constant').type
         if isinstance(e, (tree.Cast, tree.Hash)):
@@ -96,7 +96,7 @@ class Expressions:
         return BOOL
 
     def free_width(self, *es: tree.Expr) -> int:
-        """Returns the width of a free place that these expressions share: 32 where all leaves are numbers."""
+        """Returns the width of a free place that these expressions share: 32 if all leaves are numbers."""
         for e in es:
             width = self.leaf_width(e)
             if width is not None:
@@ -182,7 +182,7 @@ class Expressions:
         return arrays, values
 
     def access(self, e: tree.Access) -> core.Touch:
-        """Types a call of an array; where the source names no memop, the stored value or the argument is returned."""
+        """Types a call of an array; without a named memop, the stored value or the argument is returned."""
         array = self.entry(e.array, e.at, 'array')
         width = array.type
         index = self.free(e.index)
