@@ -116,37 +116,55 @@ def draw_tight_limits(r: Random, text: bytes) -> Dict[str, Any]:
     return {**roomy, **{key: max(1, taken[key] - r.choice([0, 1, 1])) for key in r.sample(list(taken), r.choice([1, 1, 2]))}}
 
 
-def draw_scene(r: Random, p: Program) -> Dict[str, Any]:
-    """A scenario for a program: links, windows, events that mostly fit, and moves."""
-    switches = r.choice([1, 2, 2, 3, 3, 4])
-    scene: Dict[str, Any] = {'stop': r.choice([0, 1, 9, 20, 40, 60, 90])}
-    if switches > 1 or r.random() < 0.2:
-        scene['switches'] = switches
-    pairs = [(a, b) for a in range(switches) for b in range(a)]
-    links = [[*r.sample(pair, 2), r.choice([1, 1, 2, 5, 9])] for pair in pairs if r.random() < 0.75]
-    if links:
-        scene['links'] = links
-    if links and r.random() < 0.5:
-        windows = [[*r.sample(r.choice(links)[:2], 2), start, start + r.choice([1, 10, 60])]
-                   for start in r.sample(range(30), r.choice([1, 2, 3]))]
-        scene.update({'version': 2, 'down': windows})
-    events = []
+def draw_events(r: Random, p: Program, switches: int, last: int) -> List[Dict[str, Any]]:
+    """Events of a scenario that mostly fit; often all at few ticks, so that what they send is ready at one tick, too."""
+    found: List[Dict[str, Any]] = []
+    ticks = 4 if r.random() < 0.4 else max(1, last // 2)
     for _ in range(r.choice([0, 2, 4, 6, 9, 14]) if p.events else 0):
         name, widths = r.choice(p.events)
         args = [r.choice([0, 1, 2, 2 ** w - 1, r.randrange(2 ** w)]) % 2 ** w for w in widths]
-        at = r.randrange(max(1, scene['stop'] // 2)) if r.random() < 0.9 else 100
-        events.append({'at': at, 'switch': r.randrange(switches), 'name': name, 'args': args})
-    if events:
-        scene['events'] = events
-    steps: List[List[Any]] = []
+        found.append({'at': r.randrange(ticks) if r.random() < 0.9 else 100, 'switch': r.randrange(switches), 'name': name, 'args': args})
+    return found
+
+
+def draw_windows(r: Random, links: List[List[int]], events: List[Dict[str, Any]], limits: Dict[str, Any]) -> List[List[int]]:
+    """Windows of links, many of them with an edge at a tick at which something may depart."""
+    stages, recirc = (limits.get(key, usual) for key, usual in (('stages', 12), ('recirc', 0)))
+    way = stages + recirc if type(stages) is int and type(recirc) is int and stages > 0 <= recirc else 12
+    found: List[List[int]] = []
+    for _ in range(r.choice([1, 2, 3])):
+        start, until = r.randrange(30), 0
+        if events and r.random() < 0.6:
+            until = r.choice(events)['at'] + way + r.choice([0, 0, 1, 3, 9])
+            start = max(0, until - r.choice([1, 10])) if r.random() < 0.5 else until
+        found.append([*r.sample(r.choice(links)[:2], 2), start, until if until > start else start + r.choice([1, 10, 60])])
+    return found
+
+
+def draw_steps(r: Random, p: Program) -> List[List[Any]]:
+    """Moves of one pipeline."""
+    found: List[List[Any]] = []
     for _ in range(r.choice([0, 3, 8, 20, 40])):
         kind = r.randrange(10)
         if kind == 9 and p.arrays:
-            steps.append(['look', r.choice(p.arrays).name, r.randrange(9)])
+            found.append(['look', r.choice(p.arrays).name, r.randrange(9)])
         else:
-            steps.append(['enter'] if kind < 4 else ['go', r.choice([0, 0, 1, 1, 2, 3, 4, 7, 11])])
-    if steps:
-        scene['steps'] = steps
+            found.append(['enter'] if kind < 4 else ['go', r.choice([0, 0, 1, 1, 2, 3, 4, 7, 11])])
+    return found
+
+
+def draw_scene(r: Random, p: Program, limits: Dict[str, Any]) -> Dict[str, Any]:
+    """A scenario for a program: links, windows, events and moves; seldom with a slip."""
+    switches = r.choice([1, 2, 2, 3, 3, 4])
+    scene: Dict[str, Any] = {'stop': r.choice([0, 9, 20, 40, 60, 90, 90])}
+    if switches > 1 or r.random() < 0.2:
+        scene['switches'] = switches
+    latencies = r.choice([[1, 1, 2, 5, 9], [1, 1, 2]])
+    links = [[*r.sample([a, b], 2), r.choice(latencies)] for a in range(switches) for b in range(a) if r.random() < 0.75]
+    events = draw_events(r, p, switches, scene['stop'])
+    if links and r.random() < 0.5:
+        scene.update({'version': 2, 'down': draw_windows(r, links, events, limits)})
+    scene.update({key: found for key, found in (('links', links), ('events', events), ('steps', draw_steps(r, p))) if found})
     if r.random() < 0.08:
         slip = r.choice([('stop', None), ('stop', 131073), ('switches', 65), ('links', [[0, 0, 1]]), ('version', 3), ('down', []),
                          ('other', 1), ('events', [{'at': 0}]), ('steps', [['go', 32]]), ('events', None), ('links', [[0, 1, 0]]),
@@ -210,7 +228,7 @@ def draw_case(seed: int, number: int) -> Case:
     p = Program(r)
     text = p.text().encode('latin-1')
     limits = draw_tight_limits(r, text) if command not in ('check', 'once', 'expand') and r.random() < 0.25 else draw_limits(r)
-    files = {'p': text, 'l': json.dumps(limits).encode(), 't': json.dumps(draw_scene(r, p)).encode(), 'q': b''}
+    files = {'p': text, 'l': json.dumps(limits).encode(), 't': json.dumps(draw_scene(r, p, limits)).encode(), 'q': b''}
     if command in ('audit', 'run placed'):
         files['q'] = json.dumps(draw_placement(r, text, limits)).encode()
     names = {'check': 'p', 'once': 'p', 'expand': 'p', 'layout': 'pl', 'audit': 'plq', 'run placed': 'pltq'}.get(command, 'plt')

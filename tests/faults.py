@@ -74,7 +74,6 @@ FAULTS = [
     Fault('rows that never decide are kept', 'layout.py', ' and not any(row.pattern <= pattern for row in kept)', ''),
     Fault('a placed node beside what it reads', 'audit.py', 'made.pairs[j][0] >= made.pairs[i][0]', 'made.pairs[j][0] > made.pairs[i][0]'),
     Fault('later rows that match act, too', 'pipe.py', 'break', 'pass'),
-    Fault('operations that read what was written in their stage', 'pipe.py', '[entered[x.value] if', '[packet.fields[x.value] if'),
     Fault('a window one tick too long', 'network.py', 'start <= departs < until', 'start <= departs <= until'),
     Fault('events that became ready at one tick by switch, then tick', 'network.py', 'True, tick, me, index,', 'True, me, tick, index,'),
     Fault('sent events before those of the file', 'network.py', '(e.at, False, 0, 0, i,', '(e.at, True, LAST, 0, i,'),
