@@ -107,7 +107,7 @@ APPLICATIONS = (
             Change("  generate deliver(11) delay 0 to 1", "  generate deliver(20) delay 0 to 1"),
             Change("  generate out(20,2) delay 0 here", "  generate sent(6) delay 0 to 2"),
         ),
-        Change("idle = 60", "idle = 50"),
+        Change("idle = 60", "idle = 40"),
     ),
     Application(
         "countmin",

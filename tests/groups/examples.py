@@ -126,6 +126,7 @@ def drawn_network(group: Group, it: Application) -> None:
     if group.options.large:
         group.note(f"{it.name}: {entered[1].decode() if entered else 'none'} events entered; {ended.out.decode().strip()}")
     text = program.read_text()
+    group.check(f"examples/README.md says {it.wrong.new}", f"`{it.wrong.new}` for `{it.wrong.old}`" in (EXAMPLES / "README.md").read_text())
     wrong = group.file(f"{it.name}.wrong.luc", text.replace(it.wrong.old, it.wrong.new))
     ended = judge(group, it, group.call("run", "whole", wrong, limits, scenario).out, "wrong")
     # The reason is an event or a cell, so the log itself was read.

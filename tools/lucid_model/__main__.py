@@ -2,9 +2,13 @@
 import os
 import sys
 
-from lucid_tools.stack import deeply, read_file
+from .answers import answer
 
-from .answers import Answer, judge
+
+def read_file(name: bytes) -> bytes:
+    """Returns the bytes of a file."""
+    with open(name, 'rb') as file:
+        return file.read()
 
 
 def main() -> int:
