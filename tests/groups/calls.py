@@ -38,7 +38,7 @@ def parts(text: str) -> Tuple[Dict[str, str], List[Tuple[str, str]]]:
             name, is_output = words[1] if len(words) == 2 else "", False
             if name:
                 files[name] = ""
-        elif line.startswith(("$ ./lucid ", "$ tools/")):
+        elif line.startswith(("$ ./lucid ", "$ tools/", "$ sed ")):
             calls.append((line[2:], ""))
             name, is_output = "", True
         elif name:
