@@ -5,7 +5,7 @@
 
 Each fault of FAULTS changes one text in a file of tools/lucid_model, on a copy. The cases that tests/drawn.py draws from the seed are
 answered by the copy, one after another, until its answer is another than that of the unchanged implementation. The output is a table
-with the number of that case. The status is 1 if a fault is not found, or if its text is not in its file exactly once.
+with the number of that case, counted from 1. The status is 1 if a fault is not found, or if its text is not in its file exactly once.
 
 It measures the generator, and needs no built program: each case with another answer is one at which a program with that fault fails.
 """
@@ -31,9 +31,10 @@ from drawn import Case, command_of, draw_case  # noqa: E402
 from lucid_tools.stack import deeply  # noqa: E402
 
 Given = Tuple[int, bytes, bytes]  # an exit code and both streams
+STEP = 200
 
 
-@dataclass
+@dataclass(frozen=True)
 class Fault:
     """A fault: what it does, its file, and the text that another replaces."""
 
@@ -99,8 +100,8 @@ def first_difference() -> None:
             return
 
 
-def search(fault: Fault, cases: List[Case], data: bytes) -> Optional[str]:
-    """Returns the table's row of a fault, or nothing if no case finds it."""
+def search(fault: Fault, data: bytes) -> Optional[int]:
+    """Returns the number of the first case with another answer, if there is one. A fault whose text is not there once is none."""
     with tempfile.TemporaryDirectory(prefix='fault') as folder:
         for package in ('lucid_model', 'lucid_tools'):
             shutil.copytree(TOP / 'tools' / package, Path(folder, package))
@@ -111,12 +112,11 @@ def search(fault: Fault, cases: List[Case], data: bytes) -> Optional[str]:
         path.write_text(text.replace(fault.old, fault.new))
         done = subprocess.run([sys.executable, __file__, '--answer'], input=data, capture_output=True,
                               env={**os.environ, 'LUCID_MODEL': folder})
-    number = done.stdout.decode().strip()
-    return f'| {fault.name} | `{fault.file}` | {int(number) + 1} | `{command_of(cases[int(number)].words)}` |' if number else None
+    return int(done.stdout) if done.stdout else None
 
 
 def main() -> int:
-    """Searches all faults of the command line."""
+    """Searches all faults of the command line, some cases at a time."""
     parser = argparse.ArgumentParser(description=__doc__, formatter_class=argparse.RawDescriptionHelpFormatter)
     parser.add_argument('--runs', type=int, default=3000, help='the most cases for a fault')
     parser.add_argument('--seed', type=int, default=0)
@@ -127,15 +127,20 @@ def main() -> int:
     if a.answer:
         deeply(first_difference)
         return 0
-    cases: List[Case] = deeply(lambda: [draw_case(a.seed, number) for number in range(a.runs)])
-    data = pickle.dumps(deeply(lambda: [(case, answered(case)) for case in cases]))
-    faults = [fault for fault in FAULTS if a.only in fault.name]
-    with ThreadPoolExecutor(a.jobs) as pool:
-        rows = list(pool.map(lambda fault: search(fault, cases, data), faults))
+    waiting = [fault for fault in FAULTS if a.only in fault.name]
     print('| Fault | File | Drawn cases | Call |\n|---|---|---|---|')
-    for fault, row in zip(faults, rows):
-        print(row or f'| {fault.name} | `{fault.file}` | not found in {a.runs} | |')
-    return int(None in rows)
+    for first in range(0, a.runs, STEP):
+        cases: List[Case] = deeply(lambda: [draw_case(a.seed, number) for number in range(first, min(a.runs, first + STEP))])
+        data = pickle.dumps(deeply(lambda: [(case, answered(case)) for case in cases]))
+        with ThreadPoolExecutor(a.jobs) as pool:
+            found = dict(zip(waiting, pool.map(lambda fault: search(fault, data), waiting)))
+        for fault, number in found.items():
+            if number is not None:
+                print(f'| {fault.name} | `{fault.file}` | {first + number + 1} | `{command_of(cases[number].words)}` |', flush=True)
+        waiting = [fault for fault, number in found.items() if number is None]
+    for fault in waiting:
+        print(f'| {fault.name} | `{fault.file}` | not found in {a.runs} | |')
+    return int(len(waiting) > 0)
 
 
 if __name__ == '__main__':
