@@ -20,7 +20,7 @@ EXCEPTIONS = TESTS / "house.exceptions"
 ENGLISH: Dict[str, Tuple[float, float]] = {
     "docs": (8, 3),
     "readmes": (8, 3),
-    "src": (34, 2),
+    "src": (10, 2),
     "specs": (36, 1),
     "proofs": (54, 1),
 }
