@@ -132,11 +132,11 @@ def draw_windows(r: Random, links: List[List[int]], events: List[Dict[str, Any]]
     stages, recirc = (limits.get(key, usual) for key, usual in (('stages', 12), ('recirc', 0)))
     way = stages + recirc if type(stages) is int and type(recirc) is int and stages > 0 <= recirc else 12
     found: List[List[int]] = []
-    for _ in range(r.choice([1, 2, 3])):
+    for _ in range(r.choice([1, 2, 4, 8])):
         start, until = r.randrange(30), 0
-        if events and r.random() < 0.6:
+        if events and r.random() < 0.7:
             until = r.choice(events)['at'] + way + r.choice([0, 0, 1, 3, 9])
-            start = max(0, until - r.choice([1, 10])) if r.random() < 0.5 else until
+            start = max(0, until - r.choice([1, 10])) if r.random() < 0.4 else until
         found.append([*r.sample(r.choice(links)[:2], 2), start, until if until > start else start + r.choice([1, 10, 60])])
     return found
 
@@ -162,7 +162,7 @@ def draw_scene(r: Random, p: Program, limits: Dict[str, Any]) -> Dict[str, Any]:
     latencies = r.choice([[1, 1, 2, 5, 9], [1, 1, 2]])
     links = [[*r.sample([a, b], 2), r.choice(latencies)] for a in range(switches) for b in range(a) if r.random() < 0.75]
     events = draw_events(r, p, switches, scene['stop'])
-    if links and r.random() < 0.5:
+    if links and r.random() < 0.7:
         scene.update({'version': 2, 'down': draw_windows(r, links, events, limits)})
     scene.update({key: found for key, found in (('links', links), ('events', events), ('steps', draw_steps(r, p))) if found})
     if r.random() < 0.08:
