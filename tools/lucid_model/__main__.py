@@ -2,13 +2,9 @@
 import os
 import sys
 
-from .answers import answer
+from lucid_tools.stack import deeply, read_file
 
-
-def read_file(name: bytes) -> bytes:
-    """Returns the bytes of a file."""
-    with open(name, 'rb') as file:
-        return file.read()
+from .answers import Answer, judge
 
 
 def main() -> int:
