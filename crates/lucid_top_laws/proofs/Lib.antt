@@ -1,3 +1,7 @@
+mod AgreeAnswersLemmas
+mod AgreeFitsLemmas
+mod AgreeLemmas
+mod AgreeTextsLemmas
 mod Declares
 mod Empty
 mod Entering

@@ -1,4 +1,5 @@
 pub mod Calls
+pub mod Laws
 pub mod Moves
 pub mod Packet
 pub mod Room

@@ -3,19 +3,24 @@ ghost use Rattle.std.specs.Prelude.{◌≡◌, ◌<◌, ◌^◌, All};
 ghost use Rattle.lucid_effects_spec.specs.Order.{IsAccepted};
 ghost use Rattle.lucid_normal_spec.specs.Stands.{StandsFor};
 ghost use Rattle.lucid_core.specs.Parts.{CoreParts};
+ghost use Rattle.lucid_top_laws.specs.Laws.{AnswersAreOne};
 ghost use Rattle.lucid_top_laws.specs.Moves.{MovesRunWhole};
 ghost use Rattle.lucid_top_laws.specs.Packet.{AuditsRunWhole, FitsRunWhole, RunsWhole};
 ghost use Rattle.lucid_top_laws.specs.Room.{OursKeepNodes, RefusedForRoom};
 
+use lucid_audit::audits_are_one;
 use lucid_core::{Core, HandlerDef};
 use lucid_inline_spec::{flat_is_valid, keeps_order};
-use lucid_layout::stuck_for_room;
+use lucid_layout::{layouts_are_one, stuck_for_room};
 use lucid_merge::{guards_contradict, products_act, products_name};
+use lucid_parse_spec::declarations_are_read_as_spelled;
 use lucid_pass::lists_keep_the_laws;
 use lucid_pass_laws::code_stands;
 use lucid_pass_spec::passes_keep_nodes;
 use lucid_pipe::moves_are_passes;
 use lucid_tables::Placed;
+use lucid_types_laws::declarations_are_computed;
+use lucid_types_spec::the_first_refusal_is_found;
 
 /// A law: if first fit places an accepted program after any passes, one packet through all stages leaves the cells and sends the outs of
 /// the handler that runs whole.
@@ -74,6 +79,17 @@ pub fn moves_run_whole(placed: &Placed)
 {
     placements_run_whole(placed);
     moves_are_passes(placed);
+}
+
+/// A law: words, the contents of files and passes have at most one answer, which only the cycle may vary that status 6 names.
+pub fn answers_are_one()
+    ensures { AnswersAreOne }
+{
+    declarations_are_read_as_spelled();
+    the_first_refusal_is_found();
+    declarations_are_computed();
+    layouts_are_one();
+    audits_are_one();
 }
 
 fn events_have_32_bits(handlers: &[HandlerDef])

@@ -8,6 +8,7 @@ mod laws;
 mod worked;
 
 pub use laws::{
-    audits_run_whole, fits_run_whole, moves_run_whole, placements_run_whole, refused_for_room,
+    answers_are_one, audits_run_whole, fits_run_whole, moves_run_whole, placements_run_whole,
+    refused_for_room,
 };
 pub use worked::{once_is_answered, run_whole_is_answered, run_with_an_event_is_answered};

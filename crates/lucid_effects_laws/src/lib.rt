@@ -1,0 +1,7 @@
+// The order of arrays is decided: a body is in order, or has a cycle. The law is on a function that does nothing. With `paths_decide` of
+// lucid_effects_spec it is never both. It depends on the definitions of lucid_effects_spec, and no crate depends on it.
+#![tactic(auto)]
+
+mod laws;
+
+pub use laws::bodies_are_decided;

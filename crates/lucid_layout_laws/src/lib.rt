@@ -1,0 +1,7 @@
+// First fit always has a result: a layout of the code within its limits, or a cause of refusal. The law is on a function that does nothing.
+// With `layouts_are_one` of lucid_layout the result is one. It depends on the definitions of lucid_layout alone, and no crate depends on it.
+#![tactic(auto)]
+
+mod laws;
+
+pub use laws::layouts_are_there;
