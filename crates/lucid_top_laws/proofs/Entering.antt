@@ -28,7 +28,7 @@ zero_is = ap number_of (sym zero) ∙ number_of-decimal 0 (omega arith)
 
 -- ---- the scenario, by its tokens and their tree
 
-abbrev text : Bytes
+abbrev pub text : Bytes
 text = codes "{\"stop\":1,\"events\":[{\"at\":0,\"switch\":0,\"name\":\"e\",\"args\":[]}]}"
 
 abbrev written : List Token

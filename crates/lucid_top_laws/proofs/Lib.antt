@@ -7,6 +7,7 @@ mod Empty
 mod Entering
 pub mod Moving
 pub mod Packets
+mod PipeLemmas
 mod Programs
 pub mod Rooms
 mod Settings

@@ -1,5 +1,5 @@
 -- Calls over files that hold these texts, without passes.
-use Rattle.std.specs.Prelude.{[], ◌∷◌, Some, codes, bytes_eq, if◌then◌else◌}
+use Rattle.std.specs.Prelude.{List, [], ◌∷◌, Some, codes, bytes_eq, if◌then◌else◌}
 use Rattle.lucid_top.specs.Answer.{Question}
 use Rattle.lucid_top_words.specs.Words.{Bytes}
 
@@ -12,5 +12,14 @@ abbrev pub run_whole : Bytes → Bytes → Bytes → Question
 run_whole program limits scenario = record {
   words = codes "run" ∷ codes "whole" ∷ codes "p" ∷ codes "l" ∷ codes "t" ∷ [];
   held = λ file. Some (if bytes_eq file (codes "p") then program else if bytes_eq file (codes "l") then limits else scenario);
+  passes = [];
+}
+
+-- These words, over files in which `p` holds the program `event e();`, `l` the limits `{}`, and any other name a scenario with one event.
+abbrev pub over_an_event : List Bytes → Question
+over_an_event words = record {
+  words = words;
+  held = λ file. Some (if bytes_eq file (codes "p") then codes "event e();" else if bytes_eq file (codes "l") then codes "{}"
+      else codes "{\"stop\":1,\"events\":[{\"at\":0,\"switch\":0,\"name\":\"e\",\"args\":[]}]}");
   passes = [];
 }

@@ -11,4 +11,6 @@ pub use laws::{
     answers_are_one, audits_run_whole, fits_run_whole, moves_run_whole, placements_run_whole,
     refused_for_room,
 };
-pub use worked::{once_is_answered, run_whole_is_answered, run_with_an_event_is_answered};
+pub use worked::{
+    once_is_answered, pipelines_are_answered, run_whole_is_answered, run_with_an_event_is_answered,
+};

@@ -1,7 +1,7 @@
 // Calls that were worked by hand. Nothing runs.
-ghost use Rattle.std.specs.Prelude.{[], Ok, codes};
+ghost use Rattle.std.specs.Prelude.{[], ◌∷◌, Ok, codes};
 ghost use Rattle.lucid_top.specs.Answer.{Answers};
-ghost use Rattle.lucid_top_laws.specs.Calls.{once, run_whole};
+ghost use Rattle.lucid_top_laws.specs.Calls.{once, over_an_event, run_whole};
 
 use lucid_base::Span;
 use lucid_lex::{Kind, Sign, Token, Word};
@@ -51,6 +51,20 @@ pub fn run_with_an_event_is_answered()
     ensures { Answers (run_whole (codes "event e();") (codes "{}")
         (codes "{\"stop\":1,\"events\":[{\"at\":0,\"switch\":0,\"name\":\"e\",\"args\":[]}]}"))
         (Ok (codes "[0] s0 e()\nentered 1 lost 0 pending 0\n")) }
+{
+    plain_text_stays(b"event e();", &TOKENS);
+}
+
+/// The commands over pipelines are answered for the program `event e();`, which has no node to place, and a scenario in which its event comes
+/// once.
+pub fn pipelines_are_answered()
+    ensures pipe { Answers (over_an_event (codes "run" ∷ codes "pipe" ∷ codes "p" ∷ codes "l" ∷ codes "t" ∷ []))
+        (Ok (codes "[0] s0 e()\nentered 1 lost 0 pending 0\n")) }
+    ensures layout { Answers (over_an_event (codes "layout" ∷ codes "p" ∷ codes "l" ∷ [])) (Ok (codes "ops 0 bits 96 nodes 0\n")) }
+    ensures drive { Answers (over_an_event (codes "drive" ∷ codes "p" ∷ codes "l" ∷ codes "t" ∷ [])) (Ok (codes "entered 0 left 1\n")) }
+    ensures snap { Answers (over_an_event (codes "snap" ∷ codes "p" ∷ codes "l" ∷ codes "t" ∷ codes "0" ∷ []))
+        (Ok (codes "entered 0 left 1\nsnap after 0\n")) }
+    ensures expand { Answers (over_an_event (codes "expand" ∷ codes "p" ∷ [])) (Ok (codes "event e();")) }
 {
     plain_text_stays(b"event e();", &TOKENS);
 }
