@@ -8,6 +8,7 @@ mod Entering
 pub mod Moving
 pub mod Packets
 mod PipeLemmas
+mod PlaceLemmas
 mod Programs
 pub mod Rooms
 mod Settings

@@ -19,7 +19,7 @@ placed = record { code = (composed core []).code; stages = stages_of (composed c
 abbrev pub fitted : Fit
 fitted = fit_of [] placed
 
-has_normal : HasNormal core
+pub has_normal : HasNormal core
 has_normal = record { length = omega arith; size = omega arith }
 
 is_layout : IsLayout (composed core []).code limits placed

@@ -15,11 +15,13 @@ run_whole program limits scenario = record {
   passes = [];
 }
 
--- These words, over files in which `p` holds the program `event e();`, `l` the limits `{}`, and any other name a scenario with one event.
+-- These words, over files in which `p` holds the program `event e();`, `l` the limits `{}`, `q` a placement of no node, and any other
+-- name a scenario with one event.
 abbrev pub over_an_event : List Bytes → Question
 over_an_event words = record {
   words = words;
   held = λ file. Some (if bytes_eq file (codes "p") then codes "event e();" else if bytes_eq file (codes "l") then codes "{}"
+      else if bytes_eq file (codes "q") then codes "{\"nodes\":[]}"
       else codes "{\"stop\":1,\"events\":[{\"at\":0,\"switch\":0,\"name\":\"e\",\"args\":[]}]}");
   passes = [];
 }

@@ -12,5 +12,6 @@ pub use laws::{
     refused_for_room,
 };
 pub use worked::{
-    once_is_answered, pipelines_are_answered, run_whole_is_answered, run_with_an_event_is_answered,
+    once_is_answered, pipelines_are_answered, placements_are_answered, run_whole_is_answered,
+    run_with_an_event_is_answered,
 };

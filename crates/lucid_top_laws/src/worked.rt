@@ -68,3 +68,12 @@ pub fn pipelines_are_answered()
 {
     plain_text_stays(b"event e();", &TOKENS);
 }
+
+/// So are the commands over a placement file, which gives no place, since the program has no node.
+pub fn placements_are_answered()
+    ensures audit { Answers (over_an_event (codes "audit" ∷ codes "p" ∷ codes "l" ∷ codes "q" ∷ [])) (Ok (codes "ops 0 bits 96 nodes 0\n")) }
+    ensures placed { Answers (over_an_event (codes "run" ∷ codes "placed" ∷ codes "p" ∷ codes "l" ∷ codes "t" ∷ codes "q" ∷ []))
+        (Ok (codes "[0] s0 e()\nentered 1 lost 0 pending 0\n")) }
+{
+    plain_text_stays(b"event e();", &TOKENS);
+}
