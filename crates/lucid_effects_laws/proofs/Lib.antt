@@ -1,3 +1,1 @@
-pub mod DecidingLemmas
-pub mod EarliestLemmas
-pub mod WalkLemmas
+pub mod LawsLemmas

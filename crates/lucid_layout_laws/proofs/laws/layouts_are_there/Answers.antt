@@ -1,4 +1,4 @@
-use Rattle.lucid_layout_laws.proofs.FitLemmas.{layouts_are_there}
+use Rattle.lucid_layout_laws.proofs.LawsLemmas.{layouts_are_there}
 use Rattle.lucid_layout_laws.proofs.laws.layouts_are_there.Goals as goal
 
 pub returns : goal.returns

@@ -1,5 +1,5 @@
 use Rattle.lucid_types_laws.specs.Declaration.{declaration}
-use Rattle.lucid_top_laws.proofs.AgreeAnswersLemmas.{answers_agree}
+use Rattle.lucid_top_laws.proofs.LawsLemmas.{answers_agree}
 use Rattle.lucid_top_laws.proofs.laws.answers_are_one.Goals as goal
 
 pub returns : goal.returns

@@ -7,7 +7,7 @@ use Rattle.lucid_top.specs.Drive.{driven}
 use Rattle.lucid_top.specs.Layout.{fit_text}
 use Rattle.lucid_top.specs.Pipes.{network_of}
 use Rattle.lucid_top_laws.proofs.Declares.{worked}
-use Rattle.lucid_top_laws.proofs.PipeLemmas.{fitted, is_piped, is_ready, network, pipes}
+use Rattle.lucid_top_laws.proofs.WorkedExamples.{fitted, is_piped, is_ready, network, pipes}
 use Rattle.lucid_top_laws.specs.declared.worked.TheConstants.{TOKENS}
 use Rattle.lucid_top_laws.proofs.worked.pipelines_are_answered.Goals as goal
 

@@ -4,7 +4,7 @@ use Rattle.lucid_net_spec.specs.Log.{log}
 use Rattle.lucid_top.specs.Layout.{fit_text}
 use Rattle.lucid_top.specs.Pipes.{network_of}
 use Rattle.lucid_top_laws.proofs.Declares.{worked}
-use Rattle.lucid_top_laws.proofs.PlaceLemmas.{is_audit, is_ready, network, pipes}
+use Rattle.lucid_top_laws.proofs.WorkedLemmas.{is_audit, is_ready, network, pipes}
 use Rattle.lucid_top_laws.proofs.worked.placements_are_answered.Goals as goal
 
 ran : log (network_of network) ≡ codes "[0] s0 e()\nentered 1 lost 0 pending 0\n"

@@ -23,7 +23,7 @@ use Rattle.lucid_top_words.specs.Words.{Bytes}
 use Rattle.lucid_top_laws.proofs.Declares as declares
 use Rattle.lucid_top_laws.proofs.Declares.{core}
 use Rattle.lucid_top_laws.proofs.Entering as entering
-use Rattle.lucid_top_laws.proofs.PipeLemmas.{has_normal}
+use Rattle.lucid_top_laws.proofs.WorkedExamples.{has_normal}
 use Rattle.lucid_top_laws.proofs.Programs.{is_program}
 use Rattle.lucid_top_laws.proofs.Settings.{are_limits, limits}
 use Rattle.lucid_top_laws.specs.declared.worked.TheConstants.{TOKENS}
