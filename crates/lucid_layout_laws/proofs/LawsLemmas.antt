@@ -17,7 +17,6 @@ use Rattle.lucid_merge.specs.Product.{product}
 use Rattle.lucid_tables.specs.Placed.{PlacedParts}
 use Rattle.std.proofs.Common.{◌≡◌, ℕ, zero, suc, ◌<◌, ◌≤◌, ◌⊎◌, inl, inr, Bool, true, false, List, [], ◌∷◌, refl, subst, arith, ◌≢◌, ◌++◌, length, sym}
 use Rattle.std.proofs.lemmas.Bool.{cases_lt, cases_order}
-use Rattle.std.specs.List.{AllByRecursion}
 use Rattle.std.specs.Prelude.{slice_index_or}
 
 -- ---- Decisions: a condition holds or does not, and the first number with a condition, or none has it
@@ -58,10 +57,6 @@ pub asked_decided : (b : Bool) {P : Type 0} → Decided P → Decided (b ≡ tru
 asked_decided false p = inl (λ same. absurd (cc))
 asked_decided true (inl p) = inl (λ same. p)
 asked_decided true (inr p) = inr (λ asks. p (asks refl))
-
-pub all_decided : {A : Type 0} (P : A → Type 0) → ((x : A) → Decided (P x)) → (xs : List A) → Decided (AllByRecursion P xs)
-all_decided P decide [] = inl tt
-all_decided P decide (x ∷ xs) = both_decided (decide x) (all_decided P decide xs)
 
 -- ---- the first number
 
