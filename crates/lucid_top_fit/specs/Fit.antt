@@ -1,9 +1,11 @@
 -- From a program to its placed code, part by part: calls put in and normal form, passes, first fit. Every command that lays out goes so.
-use Rattle.std.specs.Prelude.{◌≡◌, ℕ, ◌<◌, ◌≤◌, List, [], Result, Ok, Err, map}
+use Rattle.std.specs.Prelude.{◌≡◌, ℕ, ◌<◌, ◌≤◌, List, [], Result, Ok, Err, length, map}
 use Rattle.lucid_code.specs.Parts as code
 use Rattle.lucid_conf.specs.declared.limits.Limits.{Limits}
 use Rattle.lucid_core.specs.Parts.{CoreParts}
-use Rattle.lucid_inline.specs.Refusals.{Fits, largest, length_of, size_of}
+use Rattle.lucid_effects_spec.specs.Size.{flat_size}
+use Rattle.lucid_inline.specs.Refusals.{largest}
+use Rattle.lucid_inline_count.specs.Counts.{capped}
 use Rattle.lucid_inline_spec.specs.Flat.{flat_of}
 use Rattle.lucid_layout.specs.declared.error.FitError.TheVariants as cause
 use Rattle.lucid_layout.specs.Counts.{most_ops}
@@ -26,9 +28,10 @@ use Rattle.lucid_top_fit.specs.Passes.{PassView}
 abbrev pub normal_of : CoreParts → code.CodeParts
 normal_of core = translate (flat_of core)
 
--- the program's length and size keep their bounds, so that its normal form is built
-abbrev pub HasNormal : CoreParts → Type 0
-HasNormal core = Fits core most_ops
+-- the number of its operations and the size of the flat form keep their bounds, so that it is built
+pub record HasNormal (core : CoreParts) : Type 0 where
+  pub ops : length (normal_of core).ops ≤ most_ops
+  pub size : flat_size (flat_of core) ≤ largest
 
 -- the code that passes are run on, where there is any
 abbrev pub RunsOn : CoreParts → code.CodeParts → Type 0
@@ -49,11 +52,12 @@ composed core passes = let gives = map PassView.gives passes in
 abbrev pub made_view : Composition → Composed
 made_view c = record { code = c.code; gone = c.gone.items }
 
--- the composed code; or the count of the program that passes its bound, the length first
+-- the composed code; or the first of the two counts that exceeds its bound, printed as at most the last number of 64 bits
 abbrev pub IsComposed : CoreParts → List PassView → Result Composed Refusal → Type 0
 IsComposed core passes (Ok made) = HasNormal core × (made ≡ composed core passes)
-IsComposed core passes (Err (refusal.NoFit (fit.Ops n))) = (most_ops < length_of core) × (n ≡ length_of core)
-IsComposed core passes (Err (refusal.NoFit (fit.Size n))) = (length_of core ≤ most_ops) × (largest < size_of core) × (n ≡ size_of core)
+IsComposed core passes (Err (refusal.NoFit (fit.Ops n))) = (most_ops < length (normal_of core).ops) × (n ≡ capped (length (normal_of core).ops))
+IsComposed core passes (Err (refusal.NoFit (fit.Size n))) =
+    (length (normal_of core).ops ≤ most_ops) × (largest < flat_size (flat_of core)) × (n ≡ capped (flat_size (flat_of core)))
 IsComposed core passes (Err r) = ⊥
 
 -- ---- the placed code

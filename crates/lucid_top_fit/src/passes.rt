@@ -14,6 +14,7 @@ use lucid_core::{Core, Flat};
 use lucid_inline::inline;
 use lucid_normal::normal;
 use lucid_pass::{Pass, lists_keep_the_laws, run_passes_told};
+use lucid_pass_laws::counts_are_exact;
 use lucid_top_words::Refusal;
 use std::alloc::Global;
 
@@ -62,6 +63,7 @@ fn flat(alloc: Global, core: &Core) -> Result<Flat, Refusal>
     ensures fits { IfOk result (λ flat. HasNormal core.now) }
     ensures refused { (passes : List PassView) → IfErr result (Declines (IsComposed core.now passes)) }
 {
+    counts_are_exact(core);
     match inline(alloc, core, MOST_OPS) {
         Ok(flat) => Ok(flat),
         Err(error) => Err(of_inline(error)),

@@ -20,7 +20,7 @@ abbrev pub fitted : Fit
 fitted = fit_of [] placed
 
 pub has_normal : HasNormal core
-has_normal = record { length = omega arith; size = omega arith }
+has_normal = record { ops = omega arith; size = omega arith }
 
 is_layout : IsLayout (composed core []).code limits placed
 is_layout = record {
