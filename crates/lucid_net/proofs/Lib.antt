@@ -14,6 +14,7 @@ mod Showing
 mod Shown
 mod Sighting
 mod Standing
+mod Stopped
 mod Telling
 mod Turning
 mod Waiting

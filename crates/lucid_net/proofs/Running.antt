@@ -87,7 +87,7 @@ ticking_all begun now done le so = Leaves-nothing so.text (pieces-none (late_tex
 pub same_made : (old new : Seen) (done : ℕ) → AreSame old new → new.at ≡ done → SomeMade (network new) new.at → SomeMade (network old) done
 same_made old new done same at some = subst (λ (k : ℕ). SomeMade (network old) k) at (subst (λ (net : Network). SomeMade net new.at) (same_network old new same) some)
 
-pieces-split : (piece : ℕ → List ℕ) (from a b : ℕ) → pieces piece from (a + b) ≡ pieces piece from a ++ pieces piece (from + a) b
+pub pieces-split : (piece : ℕ → List ℕ) (from a b : ℕ) → pieces piece from (a + b) ≡ pieces piece from a ++ pieces piece (from + a) b
 pieces-split piece from zero b = ap (pieces piece from) one ∙ ap (λ (k : ℕ). pieces piece k b) two
   where
     one : zero + b ≡ b

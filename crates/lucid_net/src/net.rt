@@ -14,7 +14,7 @@ ghost use Rattle.lucid_net.specs.Rows.{PipeStands};
 ghost use Rattle.lucid_net.specs.Seen.{AreSame, IsStart, lag, last_text, network};
 ghost use Rattle.lucid_net.specs.Sights.{ShowsAll, ShowsRun, in_last, sight_at, sights};
 ghost use Rattle.lucid_net.specs.Stands.{placed_of};
-ghost use Rattle.lucid_net.specs.Wanting.{MayStop, SomeMade};
+ghost use Rattle.lucid_net.specs.Wanting.{SomeMade, Stopped};
 ghost use Rattle.lucid_net.specs.Writes.{Writes};
 ghost use Rattle.lucid_net.specs.declared.error.NetError.TheVariants.{Memory as memory_error};
 
@@ -253,14 +253,15 @@ impl<'a> Net<'a> {
 
     /// All ticks and the end: the whole log (`log`), the same whether handlers run whole or packets move through pipes; or a part of it, a proper
     /// one where a write failed. After each tick the watch is shown the pipe of each switch in order (`ShowsRun`), and nothing where handlers
-    /// run whole. A network with pipes finds no memory only where one of its ticks may (`MayStop`).
+    /// run whole. A network with pipes finds no memory only at a tick at which an event has to wait. Then the log of the ticks before it is
+    /// written in full, and a part of what the tick writes (`Stopped`).
     pub fn run<S: Sink, V: Watch>(self, sink: &mut S, watch: &mut V) -> Result<(), NetError>
         requires begins { self.at ≡ 0 }
         requires sound { self.failed ≡ false }
         ensures log { Writes S.written S.faults sink.old sink.new (log (network self.entry)) result }
         ensures sights { ShowsRun (network self.entry) self.entry.placed (V.seen watch.old) (V.seen watch.new) result }
         ensures still { self.entry.placed ≡ None → watch.new ≡ watch.old }
-        ensures memory { self.entry.placed ≢ None → result ≡ Err memory_error → MayStop (network self.entry) }
+        ensures memory { self.entry.placed ≢ None → result ≡ Err memory_error → Stopped S.written S.faults sink.old sink.new (network self.entry) }
     {
         let mut net = self;
         match all_ticks(&mut net, sink, watch) {
@@ -303,7 +304,7 @@ fn all_ticks<S: Sink, V: Watch>(
     ensures writes { Writes S.written S.faults sink.old sink.new (pieces (late_text (network net.old) (lag net.old)) 0 net.old.scene.stop) result }
     ensures sights { ShowsRun (network net.old) net.old.placed (V.seen watch.old) (V.seen watch.new) result }
     ensures still { net.old.placed ≡ None → watch.new ≡ watch.old }
-    ensures memory { net.old.placed ≢ None → result ≡ Err memory_error → MayStop (network net.old) }
+    ensures memory { net.old.placed ≢ None → result ≡ Err memory_error → Stopped S.written S.faults sink.old sink.new (network net.old) }
 {
     let stop = net.stop();
     for _tick in 0..stop {

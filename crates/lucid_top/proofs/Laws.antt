@@ -1,5 +1,5 @@
 -- What follows from how a call ended, for each clause of the top call.
-use Rattle.std.proofs.Common.{◌≡◌, ◌≢◌, ℕ, ◌+◌, ◌⊎◌, inl, inr, List, [], ◌∷◌, Option, Some, None, IsSome, Result, Ok, Err, refl, sym, ◌∙◌, ap, subst, arith, append-nil, map}
+use Rattle.std.proofs.Common.{◌≡◌, ◌≢◌, ℕ, ◌+◌, ◌⊎◌, inl, inr, List, [], ◌∷◌, Option, Some, None, IsSome, Result, Ok, Err, refl, sym, ◌∙◌, ap, subst, arith, append-nil, map, take}
 use Rattle.std.specs.Io.KnownBytes.{Appends, Keeps}
 use Rattle.std.proofs.KnownBytes.{Appends-nil, Appends-kept}
 use Rattle.lucid_io.specs.Contents.{SameHeld}
@@ -13,17 +13,18 @@ use Rattle.lucid_top_words.specs.declared.refusal.Refusal.{Refusal}
 use Rattle.lucid_top_words.specs.declared.refusal.Refusal.TheVariants as refusal
 use Rattle.lucid_top_words.specs.declared.status.Status.{Status}
 use Rattle.lucid_top_words.specs.declared.status.Status.TheVariants as status
-use Rattle.lucid_top.specs.Answer.{Question, given, Answers, AnswersTo, CanStop, CommandShows, IsTold, OverTexts, StopsOf, StopsOver, command_files, told_texts}
+use Rattle.lucid_top.specs.Answer.{Question, given, Answers, AnswersTo, CanStop, CommandShows, IsTold, MayStop, OverTexts, StopsAfter, StopsOf, StopsOver, command_files, told_texts}
 use Rattle.lucid_top.specs.Call.{Call, Ended, EndSaid, PerformsOver, RunsOver, ShowsOver, files_named, question}
 use Rattle.lucid_net.specs.Sights.{ShowsAll}
+use Rattle.lucid_net.specs.Wanting.{StopsAt}
 use Rattle.lucid_code.specs.Parts as code
 use Rattle.lucid_pipe.specs.declared.sight.Sight.{Sight}
-use Rattle.lucid_top.specs.Headline.{Accepted, AuditAccepts, FirstFitPlaces, Hold, Holds, Three, audited_of, bench_texts, drive, network_log, ready_of, run_pipe, run_placed, run_whole, snap, snapshot_log, steps_log, steps_sights}
+use Rattle.lucid_top.specs.Headline.{Accepted, AuditAccepts, FirstFitPlaces, Hold, Holds, Three, audited_of, bench_texts, drive, network_log, ready_of, run_pipe, run_placed, run_whole, snap, snapshot_log, steps_log, steps_sights, whole_network}
 use Rattle.lucid_top.specs.Passes.{SamePasses}
-use Rattle.lucid_top.specs.Pipes.{sights_of}
+use Rattle.lucid_top.specs.Pipes.{Ready, network_of, sights_of}
 use Rattle.lucid_top.specs.Watching.{Seen, Shown, ToldBefore}
 use Rattle.lucid_top_fit.specs.Passes.{PassView, PassesRun}
-use Rattle.lucid_top.proofs.Headlines.{asks-drive, asks-pipe, asks-placed, asks-snap, asks-whole, is-ready, shows-drive, shows-pipe, shows-placed, texts-drive, texts-pipe, texts-placed}
+use Rattle.lucid_top.proofs.Headlines.{asks-drive, asks-pipe, asks-placed, asks-snap, asks-whole, is-placed, is-ready, shows-drive, shows-pipe, shows-placed, texts-drive, texts-pipe, texts-placed}
 use Rattle.lucid_top_words.specs.Command.{command_of}
 use Rattle.lucid_top_words.specs.Files.{FilesRead, IsOneOf, Texts, contents, of_take}
 use Rattle.lucid_top_words.specs.Outcome.{Alike, End, IsTheAnswer, Outcome, SameRefusal, end_status, outcome_status}
@@ -56,24 +57,25 @@ pub record IsAnswer (told : Type 0) (answers : Outcome → Type 0) (o : Outcome)
   pub is : told → answers o
   pub only : (p : Outcome) → answers p → Alike p o
 
-abbrev pub By : Type 0 → Type 0 → (Outcome → Type 0) → SinkView → SinkView → End → Type 0
+abbrev pub By : Type 0 → (List ℕ → Type 0) → (Outcome → Type 0) → SinkView → SinkView → End → Type 0
 By told stops answers out out' (Ok u) = (text : List ℕ) × IsAnswer told answers (Ok text) × All out out' text
 By told stops answers out out' (Err refusal.WriteFault) = (text : List ℕ) × IsAnswer told answers (Ok text) × Part out out' text
-By told stops answers out out' (Err refusal.Memory) = Nothing out out' ⊎ (stops × (text : List ℕ) × IsAnswer told answers (Ok text) × Prefix out out' text)
+By told stops answers out out' (Err refusal.Memory) =
+    Nothing out out' ⊎ ((text : List ℕ) × IsAnswer told answers (Ok text) × (begun : Prefix out out' text) × stops (take begun.count text))
 By told stops answers out out' (Err (refusal.ReadFault word)) = Nothing out out'
 By told stops answers out out' (Err r) = IsAnswer told answers (Err r) × Nothing out out'
 
-pub record Answered (told stops : Type 0) (answers : Outcome → Type 0) (out out' : SinkView) (end : End) : Type 0 where
+pub record Answered (told : Type 0) (stops : List ℕ → Type 0) (answers : Outcome → Type 0) (out out' : SinkView) (end : End) : Type 0 where
   pub by : By told stops answers out out' end
 
 -- an answer over the texts that were read is one over the files
 answer-as : {told : Type 0} {A B : Outcome → Type 0} (o : Outcome) → (told → (p : Outcome) → A p → B p) → ((p : Outcome) → B p → A p) → IsTheAnswer A o → IsAnswer told B o
 answer-as o into back answer = record { is = λ told. into told o answer.is; only = λ p b. answer.only p (back p b) }
 
-module _ {told s s' : Type 0} {A B : Outcome → Type 0} (out out' : SinkView) (stops : s → s') (into : told → (p : Outcome) → A p → B p) (back : (p : Outcome) → B p → A p) where
+module _ {told : Type 0} {s s' : List ℕ → Type 0} {A B : Outcome → Type 0} (out out' : SinkView) (stops : (begun : List ℕ) → s begun → s' begun) (into : told → (p : Outcome) → A p → B p) (back : (p : Outcome) → B p → A p) where
   refuses-as : (r : Refusal) → Refuses s A SinkView.written SinkView.faults out out' r → By told s' B out out' (Err r)
   refuses-as refusal.WriteFault d = (d.0, answer-as (Ok d.0) into back d.1, d.2)
-  refuses-as refusal.Memory d = elim d [ inl u ↦ inl u | inr p ↦ inr (stops p.0, p.1, answer-as (Ok p.1) into back p.2, p.3) ]
+  refuses-as refusal.Memory d = elim d [ inl u ↦ inl u | inr p ↦ inr (p.0, answer-as (Ok p.0) into back p.1, p.2, stops _ p.3) ]
   refuses-as (refusal.ReadFault word) d = absurd d
   refuses-as (refusal.TooLong word) d = absurd d
   refuses-as r d = (answer-as (Err r) into back d.0, d.1)
@@ -101,7 +103,7 @@ long-answer word (Some t) A agrees =
     (record { is = λ told. refl; only = λ p a. subst (λ (o : Outcome). Alike o (Err (refusal.TooLong word))) (sym a) (Alike-refl (Err (refusal.TooLong word))) })
 
 -- a file was not taken
-taken-by : (told : Option Texts) (S : Type 0) (A : List (List ℕ) → Outcome → Type 0) (out out' : SinkView) (word : ℕ) (why : Take) →
+taken-by : (told : Option Texts) (S : List ℕ → Type 0) (A : List (List ℕ) → Outcome → Type 0) (out out' : SinkView) (word : ℕ) (why : Take) →
     Agrees (Err (of_take word why)) told → Nothing out out' → By (IsSome told) S (OverTexts told A) out out' (Err (of_take word why))
 taken-by told S A out out' word take.ReadFault agrees untouched = untouched
 taken-by told S A out out' word take.Memory agrees untouched = inl untouched
@@ -109,20 +111,20 @@ taken-by told S A out out' word take.TooLong agrees untouched = (long-answer wor
 
 over-by : (co : Option Command) (q : Question) (files files' : FilesView) (out out' : SinkView) (texts : Texts) (end : End) (told : Option Texts) →
     Agrees texts told → (FilesRead q.words files files' (command_files co) texts) → PerformsOver co q out out' texts end →
-    By (IsSome told) (StopsOver told (λ ts. StopsOf co (given q ts))) (OverTexts told (λ ts. AnswersTo co (given q ts))) out out' end
+    By (IsSome told) (λ begun. StopsOver told (λ ts. StopsOf co (given q ts) begun)) (OverTexts told (λ ts. AnswersTo co (given q ts))) out out' end
 over-by None q files files' out out' texts end told agrees reads performs =
     let here : texts ≡ Ok [] = reads.1 in
     let ok : Agrees (Ok []) told = subst (λ (t : Texts). Agrees t told) here agrees in
     let usage : Outcome = Err refusal.Usage in
     let answer : IsTheAnswer (λ (o : Outcome). o ≡ usage) usage = record { is = refl; only = λ p a. subst (λ (o : Outcome). Alike o usage) (sym a) (Alike-refl usage) } in
-    subst (By (IsSome told) (StopsOver told (λ ts. ⊥)) (OverTexts told (λ ts (o : Outcome). o ≡ usage)) out out') (sym performs.0)
+    subst (By (IsSome told) (λ begun. StopsOver told (λ ts. ⊥)) (OverTexts told (λ ts (o : Outcome). o ≡ usage)) out out') (sym performs.0)
     (answer-as usage (λ is p a. into_texts [] told (λ ts (o : Outcome). o ≡ usage) ok is p a) (from_texts [] told (λ ts (o : Outcome). o ≡ usage) ok) answer, performs.1)
 over-by (Some c) q files files' out out' (Ok texts) end told agrees reads performs =
     let A = λ (ts : List (List ℕ)). AnswersTo (Some c) (given q ts) in
-    performs-as out out' (stop_texts texts told (λ ts. StopsOf (Some c) (given q ts)) agrees) (λ is p a. into_texts texts told A agrees is p a) (from_texts texts told A agrees) end performs
+    performs-as out out' (λ begun. stop_texts texts told (λ ts. StopsOf (Some c) (given q ts) begun) agrees) (λ is p a. into_texts texts told A agrees is p a) (from_texts texts told A agrees) end performs
 over-by (Some c) q files files' out out' (Err r) end told agrees reads performs =
     let A = λ (ts : List (List ℕ)). AnswersTo (Some c) (given q ts) in
-    let S = StopsOver told (λ ts. StopsOf (Some c) (given q ts)) in
+    let S = λ (begun : List ℕ). StopsOver told (λ ts. StopsOf (Some c) (given q ts) begun) in
     let why = read-why q.words files files' (command_files (Some c)) (Err r) r reads refl in
     let is : end ≡ Err (of_take why.0 why.1) = performs.0 ∙ ap (λ (s : Refusal). Err s) why.2 in
     subst (By (IsSome told) S (OverTexts told A) out out') (sym is)
@@ -174,7 +176,7 @@ file-end (Some c) q out out' (Ok texts) end word why memory performs is =
 
 -- ---- an end that is answered
 
-module _ {told stops : Type 0} {answers : Outcome → Type 0} {out out' : SinkView} where
+module _ {told : Type 0} {stops : List ℕ → Type 0} {answers : Outcome → Type 0} {out out' : SinkView} where
   determined-status : (end : End) → Answered told stops answers out out' end → IsDetermined (end_status end) → (p : Outcome) → answers p → end_status end ≡ outcome_status p
   determined-status (Ok u) a determined p asked = alike-status p (Ok a.by.0) (a.by.1.only p asked)
   determined-status (Err refusal.WriteFault) a determined p asked = absurd determined
@@ -213,22 +215,28 @@ module _ {told stops : Type 0} {answers : Outcome → Type 0} {out out' : SinkVi
   is-answered (Err r) a determined tells = (Err r, a.by.0.is tells)
 
   memory-prefix : (end : End) → Answered told stops answers out out' end → end_status end ≡ status.Memory → (text : List ℕ) → answers (Ok text) → Prefix out out' text
-  memory-prefix (Err refusal.Memory) a is text asked = elim a.by [ inl u ↦ PutsSome-none out out' text u | inr p ↦ subst (Prefix out out') (sym (p.2.only (Ok text) asked)) p.3 ]
+  memory-prefix (Err refusal.Memory) a is text asked = elim a.by [ inl u ↦ PutsSome-none out out' text u | inr p ↦ subst (Prefix out out') (sym (p.1.only (Ok text) asked)) p.2 ]
   memory-prefix (Ok u) a is text asked = absurd (cc)
   memory-prefix (Err r) a is text asked = absurd (cc)
 
-  refused-silent : (end : End) → Answered told stops answers out out' end → end_status end ≢ status.Ok → end_status end ≢ status.WriteFault → (end_status end ≡ status.Memory → ¬ stops) →
+  refused-silent : (end : End) → Answered told stops answers out out' end → end_status end ≢ status.Ok → end_status end ≢ status.WriteFault → (end_status end ≡ status.Memory → ¬ ((begun : List ℕ) × stops begun)) →
       Keeps out.written out'.written
   refused-silent (Ok u) a ok fault never = absurd (ok refl)
   refused-silent (Err refusal.WriteFault) a ok fault never = absurd (fault refl)
-  refused-silent (Err refusal.Memory) a ok fault never = elim a.by [ inl u ↦ u.keeps | inr p ↦ absurd (never refl p.0) ]
+  refused-silent (Err refusal.Memory) a ok fault never = elim a.by [ inl u ↦ u.keeps | inr p ↦ absurd (never refl (_, p.3)) ]
   refused-silent (Err (refusal.ReadFault word)) a ok fault never = a.by.keeps
   refused-silent (Err r) a ok fault never = a.by.1.keeps
+
+  -- memory ran out before anything was written, or the text may end where it does
+  memory-stops : (end : End) → Answered told stops answers out out' end → end_status end ≡ status.Memory → Keeps out.written out'.written ⊎ ((begun : List ℕ) × stops begun × All out out' begun)
+  memory-stops (Err refusal.Memory) a is = elim a.by [ inl u ↦ inl u.keeps | inr p ↦ inr (_, p.3, record { bytes = p.2.bytes; quiet = p.2.quiet }) ]
+  memory-stops (Ok u) a is = absurd (cc)
+  memory-stops (Err r) a is = absurd (cc)
 
   any-grows : (end : End) → Answered told stops answers out out' end → (text : List ℕ) × Appends out.written out'.written text
   any-grows (Ok u) a = (a.by.0, a.by.2.bytes)
   any-grows (Err refusal.WriteFault) a = (_, a.by.2.bytes.2)
-  any-grows (Err refusal.Memory) a = elim a.by [ inl u ↦ kept-grows out.written out'.written u.keeps | inr p ↦ (_, p.3.bytes) ]
+  any-grows (Err refusal.Memory) a = elim a.by [ inl u ↦ kept-grows out.written out'.written u.keeps | inr p ↦ (_, p.2.bytes) ]
   any-grows (Err (refusal.ReadFault word)) a = kept-grows out.written out'.written a.by.keeps
   any-grows (Err r) a = kept-grows out.written out'.written a.by.1.keeps
 
@@ -339,7 +347,7 @@ abbrev pub Unmet : Call → Type 0
 Unmet c = (file : NamedFile) → IsOneOf (files_named c.words) file → ¬ Rose (c.files.faults (word_at c.words file.word)) (c.files'.faults (word_at c.words file.word))
 
 -- how it ended, by what words and told files determine
-answered : {c : Call} {err err' : SinkView} {result : Status} (e : Ended c err err' result) → Answered (IsTold (question c)) (CanStop (question c)) (Answers (question c)) c.out c.out' e.end
+answered : {c : Call} {err err' : SinkView} {result : Status} (e : Ended c err err' result) → Answered (IsTold (question c)) (StopsAfter (question c)) (Answers (question c)) c.out c.out' e.end
 answered {c} {err} {err'} {result} e = record {
   by = over-by (command_of c.words) (question c) c.files c.files' c.out c.out' e.done.texts e.end (told_texts (question c))
       (read-agrees c.words c.files c.files' (command_files (command_of c.words)) e.done.texts e.done.reads) e.done.reads e.done.does;
@@ -461,6 +469,41 @@ module _ {c : Call} {err err' : SinkView} {result : Status} (e : Ended c err err
       Unmet c → ¬ Rose c.out.faults c.out'.faults → c.words ≡ snap names word →
       ((result ≡ status.Ok) × All c.out c.out' (snapshot_log f steps)) ⊎ ((result ≡ status.Memory) × Prefix c.out c.out' (snapshot_log f steps))
   snapped-clause names texts hold a f word steps number quiet unmet is = wrote (snapshot_log f steps) is (asks-snap hold a f word steps number) quiet unmet
+
+  -- ---- want of memory
+
+  -- nothing was written, or the command may end where it does
+  stops-command : (cmd : Command) (ts : List (List ℕ)) → command_of c.words ≡ Some cmd → contents c.files.held c.words (command_files (Some cmd)) ≡ Some (Ok ts) → result ≡ status.Memory →
+      Keeps c.out.written c.out'.written ⊎ ((begun : List ℕ) × MayStop cmd (given (question c) ts) begun × All c.out c.out' begun)
+  stops-command cmd ts is told memory =
+      let hold : told_texts (question c) ≡ Some (Ok ts) = ap (λ (co : Option Command). contents c.files.held c.words (command_files co)) is ∙ told in
+      elim (memory-stops e.end (answered e) (sym e.status ∙ memory)) [
+        | inl keeps ↦ inl keeps
+        | inr some ↦ inr (
+          some.0,
+          subst (λ (co : Option Command). StopsOf co (given (question c) ts) some.0) is
+              (subst (λ (t : Option Texts). StopsOver t (λ texts. StopsOf (command_of c.words) (given (question c) texts) some.0)) hold some.1),
+          some.2,
+        )
+      ]
+
+  pub memory_pipe-clause : (names texts : Three) → Hold c.files.held names texts → (a : Accepted texts) → FirstFitPlaces c.passes a → c.words ≡ run_pipe names → result ≡ status.Memory →
+      Keeps c.out.written c.out'.written ⊎ ((begun : List ℕ) × StopsAt (whole_network a) begun × All c.out c.out' begun)
+  memory_pipe-clause names texts hold a f is memory =
+      elim (stops-command command.RunPipe (texts.program ∷ texts.limits ∷ texts.scenario ∷ []) (ap command_of is)
+      (subst (λ (w : List (List ℕ)). contents c.files.held w (command_files (Some command.RunPipe)) ≡ Some (Ok (texts.program ∷ texts.limits ∷ texts.scenario ∷ []))) (sym is) (texts-pipe hold a)) memory) [
+        | inl keeps ↦ inl keeps
+        | inr some ↦ inr (some.0, subst (λ (r : Ready). StopsAt (network_of r) some.0) (sym (some.1.is.only (Ok (ready_of f)) (is-ready a f))) some.1.stops, some.2)
+      ]
+
+  pub memory_placed-clause : (names texts : Three) → Hold c.files.held names texts → (placement text : List ℕ) → Holds c.files.held placement text 8388608 → (a : Accepted texts) → AuditAccepts c.passes a text →
+      c.words ≡ run_placed names placement → result ≡ status.Memory → Keeps c.out.written c.out'.written ⊎ ((begun : List ℕ) × StopsAt (whole_network a) begun × All c.out c.out' begun)
+  memory_placed-clause names texts hold placement text holds a audit is memory =
+      elim (stops-command command.RunPlaced (texts.program ∷ texts.limits ∷ texts.scenario ∷ text ∷ []) (ap command_of is)
+      (subst (λ (w : List (List ℕ)). contents c.files.held w (command_files (Some command.RunPlaced)) ≡ Some (Ok (texts.program ∷ texts.limits ∷ texts.scenario ∷ text ∷ []))) (sym is) (texts-placed hold a holds)) memory) [
+        | inl keeps ↦ inl keeps
+        | inr some ↦ inr (some.0, subst (λ (r : Ready). StopsAt (network_of r) some.0) (sym (some.1.is.only (Ok (audited_of audit)) (is-placed a audit))) some.1.stops, some.2)
+      ]
 
   -- the sights that are the answer of the command were shown
   shows-answer : (cmd : Command) (ts : List (List ℕ)) (sights : List Sight) → command_of c.words ≡ Some cmd → contents c.files.held c.words (command_files (Some cmd)) ≡ Some (Ok ts) →

@@ -8,7 +8,7 @@ use Rattle.lucid_net.specs.Seen.{IsStart, network}
 use Rattle.lucid_net.specs.Seen as net
 use Rattle.lucid_net.specs.Sights.{ShowsAll, ShowsRun, sights, sights_to}
 use Rattle.lucid_net.specs.declared.error.NetError.{NetError}
-use Rattle.lucid_net.specs.Wanting.{MayStop}
+use Rattle.lucid_net.specs.Wanting.{Stopped}
 use Rattle.lucid_net_spec.specs.Log.{whole}
 use Rattle.lucid_net_spec.specs.Ways.{Network}
 use Rattle.lucid_pipe.specs.declared.sight.Sight.{Sight}
@@ -63,6 +63,7 @@ some-shown r n old new e is shows =
       shows = some.2;
     }
 
--- where it may find no memory, so may the network of handlers that run whole
-pub stops-is : (r : Ready) (n : net.Seen) → Starts r n → MayStop (network n) → MayStop (network_of r)
-stops-is r n is stops = subst MayStop (network-is n is) stops
+-- where it stopped, so may the network of handlers that run whole
+pub stops-is : {W : Type 0} (written : W → Option (List ℕ)) (faults : W → ℕ) (out out' : W) (r : Ready) (n : net.Seen) → Starts r n → Stopped written faults out out' (network n) →
+    Stopped written faults out out' (network_of r)
+stops-is written faults out out' r n is stops = subst (Stopped written faults out out') (network-is n is) stops

@@ -3,7 +3,7 @@ use Rattle.std.proofs.Common.{◌≡◌, ℕ, ◌⊎◌, inl, inr, List, [], Opt
 use Rattle.lucid_top_words.specs.declared.refusal.Refusal.{Refusal}
 use Rattle.lucid_top_words.specs.declared.refusal.Refusal.TheVariants as refusal
 use Rattle.lucid_top_words.specs.declared.command.Command.{Command}
-use Rattle.lucid_top.specs.Answer.{CommandRuns, CommandShows, Given}
+use Rattle.lucid_top.specs.Answer.{CommandAnswers, CommandRuns, CommandShows, Given, MayStop}
 use Rattle.lucid_top_words.specs.Outcome.{End, IsTheAnswer, Declines, Outcome, FollowedBy}
 use Rattle.lucid_top_fit.specs.Passes.{PassView, PassesRun, RanOut}
 use Rattle.lucid_pipe.specs.declared.sight.Sight.{Sight}
@@ -16,7 +16,10 @@ use Rattle.lucid_top_words.specs.declared.status.Status.{Status}
 use Rattle.lucid_top_words.specs.declared.status.Status.TheVariants as status
 use Rattle.lucid_top_words.specs.Views.{sink_view}
 use Rattle.lucid_top_words.specs.Words.{word_at}
-use Rattle.lucid_top.specs.Headline.{Wrote}
+use Rattle.std.specs.Io.KnownBytes.{Keeps}
+use Rattle.lucid_net.specs.Wanting.{StopsAt}
+use Rattle.lucid_net_spec.specs.Ways.{Network}
+use Rattle.lucid_top.specs.Headline.{OutOfMemory, Wrote}
 use Rattle.lucid_top_words.proofs.Seen.{All, Prefix, all-of, some-of}
 use Rattle.lucid_top_words.proofs.Parts.{Declines-first, went_on}
 
@@ -70,7 +73,7 @@ ran-in Y texts texts' ps ps' end same ran = subst (λ (l : List (List ℕ)). Pas
 
 -- ---- a part, and what comes after it
 
-module _ {W : Type 0} {X : Type 0} (w : W → Option (List ℕ)) (f : W → ℕ) (out out' : W) (stops : Type 0) (part : Result X Refusal → Type 0) (rest : X → Outcome → Type 0) where
+module _ {W : Type 0} {X : Type 0} (w : W → Option (List ℕ)) (f : W → ℕ) (out out' : W) (stops : List ℕ → Type 0) (part : Result X Refusal → Type 0) (rest : X → Outcome → Type 0) where
   declined-as : (r : Refusal) → Declines (FollowedBy part rest) r → Untouched w f out out' → Performs stops (FollowedBy part rest) w f out out' (Err r)
   declined-as refusal.Memory d nothing = inl nothing
   declined-as refusal.WriteFault d nothing = absurd d
@@ -82,10 +85,10 @@ module _ {W : Type 0} {X : Type 0} (w : W → Option (List ℕ)) (f : W → ℕ)
   pub declined : (r : Refusal) (end : End) → Declines part r → end ≡ Err r → Untouched w f out out' → Performs stops (FollowedBy part rest) w f out out' end
   declined r end d is nothing = subst (Performs stops (FollowedBy part rest) w f out out') (sym is) (declined-as r (Declines-first part rest r d) nothing)
 
-  module _ {x : X} {s : Type 0} (is : IsTheAnswer part (Ok x)) (may : s → stops) where
+  module _ {x : X} {s : List ℕ → Type 0} (is : IsTheAnswer part (Ok x)) (may : (begun : List ℕ) → s begun → stops begun) where
     after-refusal : (r : Refusal) → Refuses s (rest x) w f out out' r → Refuses stops (FollowedBy part rest) w f out out' r
     after-refusal refusal.WriteFault d = (d.0, went_on part rest x (Ok d.0) is d.1, d.2)
-    after-refusal refusal.Memory d = elim d [ inl u ↦ inl u | inr p ↦ inr (may p.0, p.1, went_on part rest x (Ok p.1) is p.2, p.3) ]
+    after-refusal refusal.Memory d = elim d [ inl u ↦ inl u | inr p ↦ inr (p.0, went_on part rest x (Ok p.0) is p.1, p.2, may _ p.3) ]
     after-refusal (refusal.ReadFault word) d = d
     after-refusal (refusal.TooLong word) d = d
     after-refusal r d = (went_on part rest x (Err r) is d.0, d.1)
@@ -126,6 +129,11 @@ shown-refused shows old new r end shown is = subst (Shown shows old new) (sym is
 
 -- ---- commands that are known
 
+-- what a command that is known wrote
+pub performs-for : {W : Type 0} {c d : Command} (g : Given) (w : W → Option (List ℕ)) (f : W → ℕ) (old new : W) (end : End) → c ≡ d → Performs (MayStop d g) (CommandAnswers d g) w f old new end →
+    Performs (MayStop c g) (CommandAnswers c g) w f old new end
+performs-for g w f old new end is performs = subst (λ (e : Command). Performs (MayStop e g) (CommandAnswers e g) w f old new end) (sym is) performs
+
 -- the table of the code that passes run on, and that of the sights, at a command that is known
 pub runs-for : {c d : Command} (g : Given) (ps ps' : List PassView) (end : End) → c ≡ d → PassesRun (CommandRuns d g) ps ps' end → PassesRun (CommandRuns c g) ps ps' end
 runs-for g ps ps' end is runs = subst (λ (e : Command). PassesRun (CommandRuns e g) ps ps' end) (sym is) runs
@@ -137,3 +145,8 @@ shows-for g old new end is shown = subst (λ (e : Command). Shown (CommandShows 
 pub wrote-of : {W : Type 0} (w : W → Option (List ℕ)) (f : W → ℕ) (old new : W) (result : Status) (text : List ℕ) →
     ((result ≡ status.Ok) × All (sink_view w f old) (sink_view w f new) text) ⊎ ((result ≡ status.Memory) × Prefix (sink_view w f old) (sink_view w f new) text) → Wrote w f old new result text
 wrote-of w f old new result text s = elim s [ inl p ↦ inl (p.0, all-of w f old new text p.1) | inr p ↦ inr (p.0, some-of w f old new text p.1) ]
+
+-- the same of what was written before memory ran out
+pub ran-short : {W : Type 0} (w : W → Option (List ℕ)) (f : W → ℕ) (old new : W) (net : Network) →
+    Keeps (w old) (w new) ⊎ ((begun : List ℕ) × StopsAt net begun × All (sink_view w f old) (sink_view w f new) begun) → OutOfMemory w f old new net
+ran-short w f old new net s = elim s [ inl keeps ↦ inl keeps | inr p ↦ inr (p.0, p.1, all-of w f old new p.0 p.2) ]

@@ -27,6 +27,7 @@ use Rattle.lucid_top.specs.Snap.{SnapAnswers}
 use Rattle.lucid_top_fit.specs.Passes.{PassView}
 use Rattle.lucid_top_words.specs.Views.{Held}
 use Rattle.lucid_top_words.specs.Words.{Bytes, word_at}
+use Rattle.lucid_top_words.specs.Writing.{anywhere, nowhere}
 
 -- what a command is given: the words of the call, the texts of the files that they name, in word order, and the passes
 pub record Given : Type 0 where
@@ -53,20 +54,20 @@ CommandAnswers (command.Snap after) g o = SnapAnswers after (text 0 g) (text 1 g
 CommandAnswers (command.Gen kind seed n) g o = GenAnswers kind seed n o
 CommandAnswers (command.Bench seed n) g o = BenchAnswers seed n g.passes o
 
--- where a command may run out of memory after it began to write
-abbrev pub MayStop : Command → Given → Type 0
-MayStop command.Check g = ⊥
-MayStop (command.Once arguments) g = ⊥
-MayStop command.Expand g = ⊥
-MayStop command.Layout g = ⊥
-MayStop command.RunWhole g = Unit {0}
+-- after which bytes of its text a command may run out of memory
+abbrev pub MayStop : Command → Given → Bytes → Type 0
+MayStop command.Check g = nowhere
+MayStop (command.Once arguments) g = nowhere
+MayStop command.Expand g = nowhere
+MayStop command.Layout g = nowhere
+MayStop command.RunWhole g = anywhere
 MayStop command.RunPipe g = StopsPiped (text 0 g) (text 1 g) (text 2 g) g.passes
 MayStop command.RunPlaced g = StopsPlaced (text 0 g) (text 1 g) (text 2 g) (text 3 g) g.passes
-MayStop command.Drive g = ⊥
-MayStop command.Audit g = ⊥
-MayStop (command.Snap after) g = Unit {0}
-MayStop (command.Gen kind seed n) g = ⊥
-MayStop (command.Bench seed n) g = ⊥
+MayStop command.Drive g = nowhere
+MayStop command.Audit g = nowhere
+MayStop (command.Snap after) g = anywhere
+MayStop (command.Gen kind seed n) g = nowhere
+MayStop (command.Bench seed n) g = nowhere
 
 -- the code that a command runs the passes on
 abbrev pub CommandRuns : Command → Given → code.CodeParts → Type 0
@@ -93,8 +94,8 @@ abbrev pub AnswersTo : Option Command → Given → Outcome → Type 0
 AnswersTo None g o = o ≡ Err refusal.Usage
 AnswersTo (Some c) g o = CommandAnswers c g o
 
-abbrev pub StopsOf : Option Command → Given → Type 0
-StopsOf None g = ⊥
+abbrev pub StopsOf : Option Command → Given → Bytes → Type 0
+StopsOf None g = nowhere
 StopsOf (Some c) g = MayStop c g
 
 -- the words that name files
@@ -138,6 +139,9 @@ Answers q o = OverTexts (told_texts q) (λ texts. AnswersTo (command_of q.words)
 abbrev pub IsTold : Question → Type 0
 IsTold q = IsSome (told_texts q)
 
--- the call may run out of memory after it began to write
+-- the call may run out of memory after these bytes of its text, or after some
+abbrev pub StopsAfter : Question → Bytes → Type 0
+StopsAfter q begun = StopsOver (told_texts q) (λ texts. StopsOf (command_of q.words) (given q texts) begun)
+
 abbrev pub CanStop : Question → Type 0
-CanStop q = StopsOver (told_texts q) (λ texts. StopsOf (command_of q.words) (given q texts))
+CanStop q = (begun : Bytes) × StopsAfter q begun

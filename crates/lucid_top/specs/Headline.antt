@@ -1,5 +1,6 @@
 -- What is written on pipelines is what the handlers write that run whole, one event after another, in the order in which the events entered.
 use Rattle.std.specs.Prelude.{◌≡◌, ℕ, ◌≤◌, ◌⊎◌, List, [], ◌∷◌, Option, Some, Ok, codes, length}
+use Rattle.std.specs.Io.KnownBytes.{Keeps}
 use Rattle.lucid_audit.specs.declared.plan.Plan.{Plan}
 use Rattle.lucid_code.specs.Nodes.{nodes}
 use Rattle.lucid_conf.specs.declared.limits.Limits.{Limits}
@@ -11,7 +12,9 @@ use Rattle.lucid_gen.specs.Limits.{limits_text}
 use Rattle.lucid_gen.specs.Program.{program_text}
 use Rattle.lucid_gen.specs.Scene.{scene_text}
 use Rattle.lucid_io.specs.Puts.{PutsAll}
+use Rattle.lucid_net.specs.Wanting.{StopsAt}
 use Rattle.lucid_net_spec.specs.Log.{log, whole}
+use Rattle.lucid_net_spec.specs.Ways.{Network}
 use Rattle.lucid_pipe.specs.declared.sight.Sight.{Sight}
 use Rattle.lucid_snap.specs.Log.{snap_log}
 use Rattle.lucid_tables.specs.Placed.{PlacedParts}
@@ -118,3 +121,11 @@ snapshot_log f steps = snap_log (driven (ready_of f)) steps
 abbrev pub Wrote : {T : Type 0} → (T → Option Bytes) → (T → ℕ) → T → T → Status → Bytes → Type 0
 Wrote written faults old new result text =
     ((result ≡ status.Ok) × PutsAll written faults old new text) ⊎ ((result ≡ status.Memory) × PutsSome written faults old new text)
+
+-- the network itself
+abbrev pub whole_network : {texts : Three} → Accepted texts → Network
+whole_network a = whole a.core a.scene a.limits
+
+-- memory ran out: nothing was written, or at a tick an event had to wait, and the log of all ticks before it was written, and a part of its own
+abbrev pub OutOfMemory : {T : Type 0} → (T → Option Bytes) → (T → ℕ) → T → T → Network → Type 0
+OutOfMemory written faults old new net = Keeps (written old) (written new) ⊎ ((text : Bytes) × StopsAt net text × PutsAll written faults old new text)

@@ -2,7 +2,7 @@
 use Rattle.std.specs.Prelude.{◌≡◌, List, Result, Ok, length, map}
 use Rattle.lucid_code.specs.Nodes.{nodes}
 use Rattle.lucid_conf.specs.declared.scene.Scene.{Scene}
-use Rattle.lucid_net.specs.Wanting as net
+use Rattle.lucid_net.specs.Wanting.{StopsAt}
 use Rattle.lucid_net_spec.specs.Log.{log}
 use Rattle.lucid_pipe.specs.declared.sight.Sight.{Sight}
 use Rattle.lucid_top.specs.Layout.{fit_text}
@@ -12,7 +12,7 @@ use Rattle.lucid_top_fit.specs.Passes.{PassView}
 use Rattle.lucid_top_fit.specs.Placing.{IsAudited, IsCounted, IsPlan}
 use Rattle.lucid_top_program.specs.Settings.{IsScenario}
 use Rattle.lucid_top_words.specs.declared.refusal.Refusal.{Refusal}
-use Rattle.lucid_top_words.specs.Outcome.{FollowedBy, Outcome}
+use Rattle.lucid_top_words.specs.Outcome.{FollowedBy, IsTheAnswer, Outcome}
 use Rattle.lucid_top_words.specs.Words.{Bytes}
 
 -- a target, and what passes make of its program, of which the counts keep their limits
@@ -71,8 +71,8 @@ abbrev pub RunPlacedShows : Bytes → Bytes → Bytes → Bytes → List PassVie
 RunPlacedShows program limits scenario placement passes o =
     FollowedBy (IsReadyPlaced program limits scenario placement passes) (λ r p. p ≡ Ok (sights_of r)) o
 
--- a tick of the run may find no memory
-pub record StopsPlaced (program limits scenario placement : Bytes) (passes : List PassView) : Type 0 where
+-- the run may run out of memory after these bytes of the log
+pub record StopsPlaced (program limits scenario placement : Bytes) (passes : List PassView) (begun : Bytes) : Type 0 where
   pub runs : Ready
-  pub is : IsReadyPlaced program limits scenario placement passes (Ok runs)
-  pub stops : net.MayStop (network_of runs)
+  pub is : IsTheAnswer (IsReadyPlaced program limits scenario placement passes) (Ok runs)
+  pub stops : StopsAt (network_of runs) begun

@@ -7,8 +7,8 @@ ghost use Rattle.lucid_io.specs.Puts.{PutsAll, PutsPart};
 ghost use Rattle.lucid_top.specs.Answer.{Answers, CanStop, IsTold};
 ghost use Rattle.lucid_top.specs.Call.{Done, Ended, IsNamed, Names, Unfailed, asked, bytes_of, name_of, named_files};
 ghost use Rattle.lucid_net.specs.Sights.{ShowsAll};
-ghost use Rattle.lucid_top.specs.Headline.{Accepted, AuditAccepts, FirstFitPlaces, Hold, Holds, Three, Wrote, drive, network_log};
-ghost use Rattle.lucid_top.specs.Headline.{audited_of, bench_texts, ready_of, run_pipe, run_placed, run_whole, snap, snapshot_log, steps_log, steps_sights};
+ghost use Rattle.lucid_top.specs.Headline.{Accepted, AuditAccepts, FirstFitPlaces, Hold, Holds, OutOfMemory, Three, Wrote, drive, network_log};
+ghost use Rattle.lucid_top.specs.Headline.{audited_of, bench_texts, ready_of, run_pipe, run_placed, run_whole, snap, snapshot_log, steps_log, steps_sights, whole_network};
 ghost use Rattle.lucid_top.specs.Pipes.{sights_of};
 ghost use Rattle.lucid_top.specs.Watching.{ToldBefore};
 ghost use Rattle.lucid_top.specs.Passes.{SamePasses};
@@ -124,6 +124,14 @@ pub fn lucid<F: Files, W: Sink, E: Sink, V: Watch>(
         result ≡ Status.WriteFault → (text : List ℕ) → Answers q (Ok text) → PutsPart W.written W.faults out.old out.new text }
     ensures memory { let q = asked words.now (F.held files.old) (passes_view called gives count passes.old.items) in
         result ≡ Status.Memory → (text : List ℕ) → Answers q (Ok text) → PutsSome W.written W.faults out.old out.new text }
+    // if memory ran out in a run on pipelines: nothing, or the whole log of the ticks before the one at which an event had to wait
+    ensures memory_pipe { (names texts : Three) → Hold (F.held files.old) names texts → (a : Accepted texts) →
+        FirstFitPlaces (passes_view called gives count passes.old.items) a → bytes_of words.now ≡ run_pipe names →
+        result ≡ Status.Memory → OutOfMemory W.written W.faults out.old out.new (whole_network a) }
+    ensures memory_placed { (names texts : Three) → Hold (F.held files.old) names texts →
+        (placement text : List ℕ) → Holds (F.held files.old) placement text 8388608 → (a : Accepted texts) →
+        AuditAccepts (passes_view called gives count passes.old.items) a text → bytes_of words.now ≡ run_placed names placement →
+        result ≡ Status.Memory → OutOfMemory W.written W.faults out.old out.new (whole_network a) }
     ensures silent { let q = asked words.now (F.held files.old) (passes_view called gives count passes.old.items) in
         result ≢ Status.Ok → result ≢ Status.WriteFault → (result ≡ Status.Memory → ¬ CanStop q) →
         Keeps (W.written out.old) (W.written out.new) }

@@ -47,9 +47,6 @@ module _ {W : Type 0} (w : W → Option (List ℕ)) (f : W → ℕ) (old new : W
   pub part-of : (text : List ℕ) → Part (sink_view w f old) (sink_view w f new) text → PutsPart w f old new text
   part-of text p = record { bytes = p.bytes; cause = p.cause; later = p.later }
 
-  some-in : (text : List ℕ) → PutsSome w f old new text → Prefix (sink_view w f old) (sink_view w f new) text
-  some-in text p = record { count = p.count; within = p.within; bytes = p.bytes; quiet = p.quiet }
-
   pub some-of : (text : List ℕ) → Prefix (sink_view w f old) (sink_view w f new) text → PutsSome w f old new text
   some-of text p = record { count = p.count; within = p.within; bytes = p.bytes; quiet = p.quiet }
 
@@ -59,15 +56,15 @@ module _ {W : Type 0} (w : W → Option (List ℕ)) (f : W → ℕ) (old new : W
   pub line-of : (text : List ℕ) → Line (sink_view w f old) (sink_view w f new) text → Said w f old new text
   line-of text s = elim s [ inl p ↦ inl (all-of text p) | inr p ↦ inr (part-of text p) ]
 
-  refuses-in : (stops : Type 0) (answers : Outcome → Type 0) (r : Refusal) → Refuses stops answers w f old new r →
+  refuses-in : (stops : List ℕ → Type 0) (answers : Outcome → Type 0) (r : Refusal) → Refuses stops answers w f old new r →
       Refuses stops answers SinkView.written SinkView.faults (sink_view w f old) (sink_view w f new) r
   refuses-in stops answers refusal.WriteFault d = (d.0, d.1, part-in d.0 d.2)
-  refuses-in stops answers refusal.Memory d = elim d [ inl u ↦ inl (nothing-in u) | inr p ↦ inr (p.0, p.1, p.2, some-in p.1 p.3) ]
+  refuses-in stops answers refusal.Memory d = elim d [ inl u ↦ inl (nothing-in u) | inr p ↦ inr (p.0, p.1, record { count = p.2.count; within = p.2.within; bytes = p.2.bytes; quiet = p.2.quiet }, p.3) ]
   refuses-in stops answers (refusal.ReadFault word) d = d
   refuses-in stops answers (refusal.TooLong word) d = d
   refuses-in stops answers r d = (d.0, nothing-in d.1)
 
-  pub performs-in : (stops : Type 0) (answers : Outcome → Type 0) (end : End) → Performs stops answers w f old new end →
+  pub performs-in : (stops : List ℕ → Type 0) (answers : Outcome → Type 0) (end : End) → Performs stops answers w f old new end →
       Performs stops answers SinkView.written SinkView.faults (sink_view w f old) (sink_view w f new) end
   performs-in stops answers (Ok u) d = (d.0, d.1, all-in d.0 d.2)
   performs-in stops answers (Err r) d = refuses-in stops answers r d

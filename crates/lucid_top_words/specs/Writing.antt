@@ -23,20 +23,27 @@ pub record PutsSome {T : Type 0} (written : T → Option Bytes) (faults : T → 
   pub bytes : Appends (written old) (written new) (take count text)
   pub quiet : faults new ≡ faults old
 
--- How a command refused whose files were read: by the answer, with nothing written, but for a fault and for want of memory. A text
--- that was begun is left at want of memory only where `stops`.
-abbrev pub Refuses : {T : Type 0} → Type 0 → (Outcome → Type 0) → (T → Option Bytes) → (T → ℕ) → T → T → Refusal → Type 0
+-- after which of its bytes a text that was begun may end if memory runs out: after none, or after any
+abbrev pub nowhere : Bytes → Type 0
+nowhere begun = ⊥
+
+abbrev pub anywhere : Bytes → Type 0
+anywhere begun = Unit {0}
+
+-- How a command refused whose files were read: by the answer, with nothing written, except at a fault or if memory runs out. If memory
+-- runs out, a text that was begun ends only after bytes that `stops` allows.
+abbrev pub Refuses : {T : Type 0} → (Bytes → Type 0) → (Outcome → Type 0) → (T → Option Bytes) → (T → ℕ) → T → T → Refusal → Type 0
 Refuses stops answers written faults old new refusal.WriteFault =
     (text : Bytes) × IsTheAnswer answers (Ok text) × PutsPart written faults old new text
 Refuses stops answers written faults old new refusal.Memory =
     Untouched written faults old new
-    ⊎ (stops × (text : Bytes) × IsTheAnswer answers (Ok text) × PutsSome written faults old new text)
+    ⊎ ((text : Bytes) × IsTheAnswer answers (Ok text) × (begun : PutsSome written faults old new text) × stops (take begun.count text))
 Refuses stops answers written faults old new (refusal.ReadFault word) = ⊥
 Refuses stops answers written faults old new (refusal.TooLong word) = ⊥
 Refuses stops answers written faults old new r = IsTheAnswer answers (Err r) × Untouched written faults old new
 
 -- what a command does whose files were read: it writes the answer, or refuses
-abbrev pub Performs : {T : Type 0} → Type 0 → (Outcome → Type 0) → (T → Option Bytes) → (T → ℕ) → T → T → End → Type 0
+abbrev pub Performs : {T : Type 0} → (Bytes → Type 0) → (Outcome → Type 0) → (T → Option Bytes) → (T → ℕ) → T → T → End → Type 0
 Performs stops answers written faults old new (Ok u) =
     (text : Bytes) × IsTheAnswer answers (Ok text) × PutsAll written faults old new text
 Performs stops answers written faults old new (Err r) = Refuses stops answers written faults old new r

@@ -4,7 +4,7 @@ ghost use Rattle.lucid_top_fit.specs.Passes.{PassesRun, passes_view};
 ghost use Rattle.lucid_top_words.specs.Files.{texts_in};
 ghost use Rattle.lucid_top_words.specs.Outcome.{Prepares};
 ghost use Rattle.lucid_top_words.specs.Words.{word_at};
-ghost use Rattle.lucid_top_words.specs.Writing.{Performs};
+ghost use Rattle.lucid_top_words.specs.Writing.{Performs, nowhere};
 ghost use Rattle.lucid_top.specs.Held.{PipesKeep, pipes_view};
 ghost use Rattle.lucid_top.specs.Pipes.{RunsCode};
 ghost use Rattle.lucid_top.specs.Placed.{AuditAnswers, IsAudit};
@@ -27,7 +27,7 @@ pub fn audit<W: Sink>(
     requires { length texts.now ≡ 3 }
     ensures performs { let text = word_at (texts_in texts.now) in
         let answers = AuditAnswers (text 0) (text 1) (text 2) (passes_view called gives count passes.old.items) in
-        Performs ⊥ answers W.written W.faults out.old out.new result }
+        Performs nowhere answers W.written W.faults out.old out.new result }
     ensures ran { let text = word_at (texts_in texts.now) in let seen = passes_view called gives count in
         PassesRun (RunsCode (text 0) (text 1)) (seen passes.old.items) (seen passes.new.items) result }
 {

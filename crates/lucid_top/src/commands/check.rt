@@ -5,7 +5,7 @@ ghost use Rattle.lucid_top.specs.Check.{CheckAnswers, counts_line};
 ghost use Rattle.lucid_top_words.specs.Files.{texts_in};
 ghost use Rattle.lucid_top_words.specs.Outcome.{Prepares};
 ghost use Rattle.lucid_top_words.specs.Words.{word_at};
-ghost use Rattle.lucid_top_words.specs.Writing.{Performs};
+ghost use Rattle.lucid_top_words.specs.Writing.{Performs, nowhere};
 
 use crate::commands::text_at;
 use lucid_core::Core;
@@ -19,7 +19,7 @@ use std::alloc::Global;
 pub fn check<W: Sink>(alloc: Global, texts: &[Vec<u8>], out: &mut W) -> Result<(), Refusal>
     requires { length texts.now ≡ 1 }
     ensures { let answers = CheckAnswers (word_at (texts_in texts.now) 0) in
-        Performs ⊥ answers W.written W.faults out.old out.new result }
+        Performs nowhere answers W.written W.faults out.old out.new result }
 {
     let core = prepare(alloc, text_at(texts, 0))?;
     put(out, &core)?;

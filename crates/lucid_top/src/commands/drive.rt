@@ -6,7 +6,7 @@ ghost use Rattle.lucid_drive.specs.Sights.{sights};
 ghost use Rattle.lucid_top_fit.specs.Passes.{PassesRun, passes_view};
 ghost use Rattle.lucid_top_words.specs.Files.{texts_in};
 ghost use Rattle.lucid_top_words.specs.Words.{word_at};
-ghost use Rattle.lucid_top_words.specs.Writing.{Performs};
+ghost use Rattle.lucid_top_words.specs.Writing.{Performs, nowhere};
 ghost use Rattle.lucid_top.specs.Drive.{DriveAnswers, DriveShows, driven};
 ghost use Rattle.lucid_top.specs.Held.{ReadyKeeps, ready_view};
 ghost use Rattle.lucid_top.specs.Pipes.{RunsCode};
@@ -31,7 +31,7 @@ pub fn drive<W: Sink, V: Watch>(
 ) -> Result<(), Refusal>
     requires { length texts.now ≡ 3 }
     ensures performs { let text = word_at (texts_in texts.now) in let passes' = passes_view called gives count passes.old.items in
-        Performs ⊥ (DriveAnswers (text 0) (text 1) (text 2) passes') W.written W.faults out.old out.new result }
+        Performs nowhere (DriveAnswers (text 0) (text 1) (text 2) passes') W.written W.faults out.old out.new result }
     ensures ran { let text = word_at (texts_in texts.now) in let seen = passes_view called gives count in
         PassesRun (RunsCode (text 0) (text 1)) (seen passes.old.items) (seen passes.new.items) result }
     ensures shown { let text = word_at (texts_in texts.now) in let passes' = passes_view called gives count passes.old.items in
@@ -50,7 +50,7 @@ fn drive_ready<W: Sink, V: Watch>(
 ) -> Result<(), Refusal>
     requires { ReadyKeeps ready.now }
     ensures performs { let text = drive_log (driven (ready_view ready.now)) in
-        Performs ⊥ (λ o. o ≡ Ok text) W.written W.faults out.old out.new result }
+        Performs nowhere (λ o. o ≡ Ok text) W.written W.faults out.old out.new result }
     ensures shown { Shown (λ o. o ≡ Ok (sights (driven (ready_view ready.now)))) (V.seen watch.old) (V.seen watch.new) result }
 {
     let mut pipe = Pipe::new(alloc, &ready.pipes.fitted.placed)?;

@@ -4,7 +4,7 @@ ghost use Rattle.lucid_top_program.specs.Source.{text_of};
 ghost use Rattle.lucid_top_words.specs.Files.{texts_in};
 ghost use Rattle.lucid_top_words.specs.Outcome.{Prepares};
 ghost use Rattle.lucid_top_words.specs.Words.{word_at};
-ghost use Rattle.lucid_top_words.specs.Writing.{Performs};
+ghost use Rattle.lucid_top_words.specs.Writing.{Performs, nowhere};
 ghost use Rattle.lucid_top.specs.Expand.{ExpandAnswers};
 
 use crate::commands::text_at;
@@ -17,7 +17,7 @@ use std::alloc::Global;
 pub fn expand<W: Sink>(alloc: Global, texts: &[Vec<u8>], out: &mut W) -> Result<(), Refusal>
     requires { length texts.now ≡ 1 }
     ensures { let answers = ExpandAnswers (word_at (texts_in texts.now) 0) in
-        Performs ⊥ answers W.written W.faults out.old out.new result }
+        Performs nowhere answers W.written W.faults out.old out.new result }
 {
     let text = text_at(texts, 0);
     let source = prepare(alloc, text)?;

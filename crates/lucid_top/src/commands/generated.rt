@@ -9,7 +9,7 @@ ghost use Rattle.lucid_net_spec.specs.Log.{log};
 ghost use Rattle.lucid_top_fit.specs.Passes.{PassesRun, passes_view};
 ghost use Rattle.lucid_top_words.specs.declared.refusal.Refusal.TheVariants as refusal;
 ghost use Rattle.lucid_top_words.specs.Files.{texts_in};
-ghost use Rattle.lucid_top_words.specs.Writing.{Performs};
+ghost use Rattle.lucid_top_words.specs.Writing.{Performs, nowhere};
 ghost use Rattle.lucid_top.specs.Generated.{BenchAnswers, BenchShows, GenAnswers, gen_text};
 ghost use Rattle.lucid_top.specs.Held.{ReadyKeeps, ready_view};
 ghost use Rattle.lucid_top.specs.Pipes.{RunsCode, network_of, sights_of};
@@ -35,7 +35,7 @@ pub fn generate<W: Sink>(
     out: &mut W,
 ) -> Result<(), Refusal>
     requires { 0 < events }
-    ensures { Performs ⊥ (GenAnswers kind seed events) W.written W.faults out.old out.new result }
+    ensures { Performs nowhere (GenAnswers kind seed events) W.written W.faults out.old out.new result }
 {
     let text = made(alloc, kind, seed, events)?;
     put_all(out, text.as_slice())?;
@@ -64,7 +64,7 @@ pub fn bench<W: Sink, V: Watch>(
 ) -> Result<(), Refusal>
     requires { 0 < events }
     ensures performs { let passes' = passes_view called gives count passes.old.items in
-        Performs ⊥ (BenchAnswers seed events passes') W.written W.faults out.old out.new result }
+        Performs nowhere (BenchAnswers seed events passes') W.written W.faults out.old out.new result }
     ensures ran { let seen = passes_view called gives count in
         PassesRun (RunsCode (program_text seed) limits_text) (seen passes.old.items) (seen passes.new.items) result }
     ensures shown { let passes' = passes_view called gives count passes.old.items in
@@ -86,7 +86,7 @@ fn bench_ready<W: Sink, V: Watch>(
 ) -> Result<(), Refusal>
     requires { ReadyKeeps ready.now }
     ensures performs { let line = bench_line seed events (log (network_of (ready_view ready.now))) in
-        Performs ⊥ (λ o. o ≡ Ok line) W.written W.faults out.old out.new result }
+        Performs nowhere (λ o. o ≡ Ok line) W.written W.faults out.old out.new result }
     ensures shown { Shown (λ o. o ≡ Ok (sights_of (ready_view ready.now))) (V.seen watch.old) (V.seen watch.new) result }
 {
     let tally = tallied(alloc, ready, watch)?;

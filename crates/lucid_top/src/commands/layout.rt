@@ -5,7 +5,7 @@ ghost use Rattle.lucid_top_fit.specs.Fit.{fit_view};
 ghost use Rattle.lucid_top_fit.specs.Passes.{PassesRun, passes_view};
 ghost use Rattle.lucid_top_words.specs.Files.{texts_in};
 ghost use Rattle.lucid_top_words.specs.Words.{word_at};
-ghost use Rattle.lucid_top_words.specs.Writing.{Performs};
+ghost use Rattle.lucid_top_words.specs.Writing.{Performs, nowhere};
 ghost use Rattle.lucid_top.specs.Layout.{LayoutAnswers, fit_text, pass_line, passes_text};
 ghost use Rattle.lucid_top.specs.Pipes.{RunsCode};
 
@@ -29,7 +29,7 @@ pub fn layout<W: Sink>(
     requires { length texts.now ≡ 2 }
     ensures performs { let text = word_at (texts_in texts.now) in
         let answers = LayoutAnswers (text 0) (text 1) (passes_view called gives count passes.old.items) in
-        Performs ⊥ answers W.written W.faults out.old out.new result }
+        Performs nowhere answers W.written W.faults out.old out.new result }
     ensures ran { let text = word_at (texts_in texts.now) in let seen = passes_view called gives count in
         PassesRun (RunsCode (text 0) (text 1)) (seen passes.old.items) (seen passes.new.items) result }
 {
@@ -46,7 +46,7 @@ pub fn put_fit<W: Sink>(
     fitted: &Fitting,
 ) -> Result<(), Refusal>
     ensures { let text = fit_text names.now (fit_view fitted.now) in
-        Performs ⊥ (λ o. o ≡ Ok text) W.written W.faults out.old out.new result }
+        Performs nowhere (λ o. o ≡ Ok text) W.written W.faults out.old out.new result }
 {
     let text = LayoutText::new(alloc, &fitted.placed)?;
     put(out, names, fitted.gone.as_slice(), &text)?;

@@ -1,7 +1,7 @@
 // A network on pipelines, run to its end: the log is written as packets leave, and the watch is shown the pipes.
 ghost use Rattle.std.specs.Prelude.{◌≡◌, IfOk, Ok, Some};
 ghost use Rattle.lucid_net.specs.Seen.{IsStart};
-ghost use Rattle.lucid_net.specs.Wanting.{MayStop};
+ghost use Rattle.lucid_net.specs.Wanting.{StopsAt};
 ghost use Rattle.lucid_net_spec.specs.Log.{log};
 ghost use Rattle.lucid_top_words.specs.Writing.{Performs};
 ghost use Rattle.lucid_top.specs.Held.{ReadyKeeps, ready_view};
@@ -18,7 +18,7 @@ use lucid_top_words::Refusal;
 use std::alloc::Global;
 
 /// Writes the whole log, and shows all sights; or a part of both, where a write or memory failed. Memory is taken, while packets move, only
-/// for events that wait.
+/// for events that wait, and the log of the ticks before is written in full by then.
 pub fn run_network<W: Sink, V: Watch>(
     alloc: Global,
     ready: &Ready,
@@ -27,7 +27,7 @@ pub fn run_network<W: Sink, V: Watch>(
 ) -> Result<(), Refusal>
     requires { ReadyKeeps ready.now }
     ensures performs { let r = ready_view ready.now in
-        Performs (MayStop (network_of r)) (λ o. o ≡ Ok (log (network_of r))) W.written W.faults out.old out.new result }
+        Performs (StopsAt (network_of r)) (λ o. o ≡ Ok (log (network_of r))) W.written W.faults out.old out.new result }
     ensures shown { Shown (λ o. o ≡ Ok (sights_of (ready_view ready.now))) (V.seen watch.old) (V.seen watch.new) result }
 {
     let net = start(alloc, ready)?;

@@ -6,7 +6,7 @@ ghost use Rattle.lucid_top_words.specs.Files.{texts_in};
 ghost use Rattle.lucid_top.specs.Once.{OnceAnswers, last_of, event_at as event_in, event_of, shown, ran};
 ghost use Rattle.lucid_top_words.specs.Outcome.{Prepares};
 ghost use Rattle.lucid_top_words.specs.Words.{word_at};
-ghost use Rattle.lucid_top_words.specs.Writing.{Performs};
+ghost use Rattle.lucid_top_words.specs.Writing.{Performs, nowhere};
 
 use crate::commands::text_at;
 use lucid_base::{Args, Event, Outs};
@@ -28,7 +28,7 @@ pub fn once<W: Sink>(
 ) -> Result<(), Refusal>
     requires { length texts.now ≡ 1 }
     ensures { let answers = OnceAnswers (word_at (texts_in texts.now) 0) (word_at (map string_bytes words.now) 2) arguments in
-        Performs ⊥ answers W.written W.faults out.old out.new result }
+        Performs nowhere answers W.written W.faults out.old out.new result }
 {
     let ran = prepare(alloc, text_at(texts, 0), word_bytes(words, 2), arguments)?;
     put(out, &ran)?;

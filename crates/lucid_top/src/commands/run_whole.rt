@@ -5,7 +5,7 @@ ghost use Rattle.lucid_net_spec.specs.Log.{log, whole};
 ghost use Rattle.lucid_top_words.specs.Files.{texts_in};
 ghost use Rattle.lucid_top_words.specs.Outcome.{Prepares};
 ghost use Rattle.lucid_top_words.specs.Words.{word_at};
-ghost use Rattle.lucid_top_words.specs.Writing.{Performs};
+ghost use Rattle.lucid_top_words.specs.Writing.{Performs, anywhere};
 ghost use Rattle.lucid_top.specs.Held.{NetworkKeeps, target_view};
 ghost use Rattle.lucid_top.specs.RunWhole.{RunWholeAnswers, RunsUnder};
 
@@ -23,7 +23,7 @@ use std::alloc::Global;
 pub fn run_whole<W: Sink>(alloc: Global, texts: &[Vec<u8>], out: &mut W) -> Result<(), Refusal>
     requires { length texts.now ≡ 3 }
     ensures { let text = word_at (texts_in texts.now) in
-        Performs (Unit {0}) (RunWholeAnswers (text 0) (text 1) (text 2)) W.written W.faults out.old out.new result }
+        Performs anywhere (RunWholeAnswers (text 0) (text 1) (text 2)) W.written W.faults out.old out.new result }
 {
     let network = prepare(alloc, texts)?;
     match put(alloc, out, &network) {

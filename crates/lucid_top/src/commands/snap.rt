@@ -4,7 +4,7 @@ ghost use Rattle.lucid_snap.specs.Log.{snap_log};
 ghost use Rattle.lucid_top_fit.specs.Passes.{PassesRun, passes_view};
 ghost use Rattle.lucid_top_words.specs.Files.{texts_in};
 ghost use Rattle.lucid_top_words.specs.Words.{word_at};
-ghost use Rattle.lucid_top_words.specs.Writing.{Performs};
+ghost use Rattle.lucid_top_words.specs.Writing.{Performs, anywhere};
 ghost use Rattle.lucid_top.specs.Drive.{driven};
 ghost use Rattle.lucid_top.specs.Held.{ReadyKeeps, ready_view};
 ghost use Rattle.lucid_top.specs.Pipes.{RunsCode};
@@ -30,7 +30,7 @@ pub fn snap<W: Sink>(
 ) -> Result<(), Refusal>
     requires { length texts.now ≡ 3 }
     ensures performs { let text = word_at (texts_in texts.now) in let passes' = passes_view called gives count passes.old.items in
-        Performs (Unit {0}) (SnapAnswers after (text 0) (text 1) (text 2) passes') W.written W.faults out.old out.new result }
+        Performs anywhere (SnapAnswers after (text 0) (text 1) (text 2) passes') W.written W.faults out.old out.new result }
     ensures ran { let text = word_at (texts_in texts.now) in let seen = passes_view called gives count in
         PassesRun (RunsCode (text 0) (text 1)) (seen passes.old.items) (seen passes.new.items) result }
 {
@@ -41,7 +41,7 @@ pub fn snap<W: Sink>(
 fn snap_ready<W: Sink>(alloc: Global, ready: &Ready, after: u64, out: &mut W) -> Result<(), Refusal>
     requires { ReadyKeeps ready.now }
     ensures { let text = snap_log (driven (ready_view ready.now)) after in
-        Performs (Unit {0}) (λ o. o ≡ Ok text) W.written W.faults out.old out.new result }
+        Performs anywhere (λ o. o ≡ Ok text) W.written W.faults out.old out.new result }
 {
     let placed = &ready.pipes.fitted.placed;
     let mut pipe = Pipe::new(alloc, placed)?;

@@ -1,10 +1,11 @@
-use Rattle.std.proofs.Common.{◌+◌, ◌-◌, ◌<◌, ℕ, List, Err, refl, ◌∙◌, subst}
+use Rattle.std.proofs.Common.{◌+◌, ◌-◌, ◌<◌, ℕ, List, Err, refl, ◌∙◌, sym, subst}
 use Rattle.lucid_net_laws.specs.Runs.{late_text}
 use Rattle.lucid_net_spec.proofs.Telling.{pieces-next}
 use Rattle.lucid_net_spec.specs.Pieces.{pieces}
 use Rattle.lucid_net.specs.Seen.{lag, network}
 use Rattle.lucid_net.specs.Writes.{Writes}
-use Rattle.lucid_net.proofs.Running.{tick_piece, ticking_first, ticking_next}
+use Rattle.lucid_net.proofs.Running.{same_made, tick_piece, ticking_first, ticking_next}
+use Rattle.lucid_net.proofs.Stopped.{Writes-cut, lag_is, stops_at}
 use Rattle.lucid_net.proofs.Telling.{Writes-stop}
 use Rattle.lucid_net.proofs.net.all_ticks.Goals as goal
 
@@ -34,3 +35,15 @@ loop-tick-preserved g c =
 
 pub returns-in-Err-clause-sights : goal.returns-in-Err-clause-sights
 returns-in-Err-clause-sights g c = (c.loop-tick._tick, c.loop-tick.invariant.1.early, c.loop-tick.invariant.1.sights)
+
+pub returns-in-Err-clause-memory : goal.returns-in-Err-clause-memory
+returns-in-Err-clause-memory g c = λ piped is.
+    let begun = c.args.net.now in
+    let done : ℕ = c.loop-tick._tick in
+    let same = c.loop-tick.invariant.1.same in
+    let below : done < begun.scene.stop = subst (λ (n : ℕ). done < n) c.stop-stop.ensures c.loop-tick-test.true in
+    let cut = Writes-cut g.S.Sink.written g.S.Sink.faults c.loop-tick.sink c.tick.new.sink (late_text (network begun) (lag begun) done) c.in-Err.error is
+    (subst (λ (l : List ℕ). Writes g.S.Sink.written g.S.Sink.faults c.loop-tick.sink c.tick.new.sink l (Err c.in-Err.error)) (tick_piece begun c.loop-tick.net done same c.loop-tick.invariant.1.at) c.in-Err.ensures.writes) in
+    stops_at g.S.Sink.written g.S.Sink.faults c.args.sink.now c.loop-tick.sink c.tick.new.sink (network begun) (lag begun) done below c.loop-tick.invariant.1.text cut.0
+    (lag_is begun.limits begun.placed piped) cut.1
+    (same_made begun c.loop-tick.net done same c.loop-tick.invariant.1.at (c.in-Err.ensures.memory (λ none. piped (sym same.placed ∙ none)) is))

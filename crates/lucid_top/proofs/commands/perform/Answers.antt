@@ -1,10 +1,15 @@
 use Rattle.std.proofs.Common.{◌≡◌, rules}
 use Rattle.lucid_top_words.specs.declared.command.Command.TheVariants as command
-use Rattle.lucid_top.proofs.Runs.{runs-for, shows-for}
+use Rattle.lucid_top.proofs.Runs.{performs-for, runs-for, shows-for}
 use Rattle.lucid_top.proofs.commands.perform.Goals as goal
 
 pub returns-in-Layout-clause-ran : goal.returns-in-Layout-clause-ran
 returns-in-Layout-clause-ran g c = let is : c.args.command ≡ command.Layout = search rules in runs-for _ _ _ c.layout.result is c.layout.ensures.ran
+
+pub returns-in-RunPipe-clause-performs : goal.returns-in-RunPipe-clause-performs
+returns-in-RunPipe-clause-performs g c =
+    let is : c.args.command ≡ command.RunPipe = search rules in
+    performs-for _ g.W.Sink.written g.W.Sink.faults c.args.out.now c.run_pipe.new.out c.run_pipe.result is c.run_pipe.ensures.performs
 
 pub returns-in-RunPipe-clause-ran : goal.returns-in-RunPipe-clause-ran
 returns-in-RunPipe-clause-ran g c = let is : c.args.command ≡ command.RunPipe = search rules in runs-for _ _ _ c.run_pipe.result is c.run_pipe.ensures.ran
@@ -13,6 +18,11 @@ pub returns-in-RunPipe-clause-shown : goal.returns-in-RunPipe-clause-shown
 returns-in-RunPipe-clause-shown g c =
     let is : c.args.command ≡ command.RunPipe = search rules in
     shows-for _ (g.V.Watch.seen c.args.watch.now) (g.V.Watch.seen c.run_pipe.new.watch) c.run_pipe.result is c.run_pipe.ensures.shown
+
+pub returns-in-RunPlaced-clause-performs : goal.returns-in-RunPlaced-clause-performs
+returns-in-RunPlaced-clause-performs g c =
+    let is : c.args.command ≡ command.RunPlaced = search rules in
+    performs-for _ g.W.Sink.written g.W.Sink.faults c.args.out.now c.run_placed.new.out c.run_placed.result is c.run_placed.ensures.performs
 
 pub returns-in-RunPlaced-clause-ran : goal.returns-in-RunPlaced-clause-ran
 returns-in-RunPlaced-clause-ran g c = let is : c.args.command ≡ command.RunPlaced = search rules in runs-for _ _ _ c.run_placed.result is c.run_placed.ensures.ran

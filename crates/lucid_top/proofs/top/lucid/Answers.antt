@@ -1,5 +1,5 @@
 use Rattle.lucid_top.proofs.Laws as laws
-use Rattle.lucid_top.proofs.Runs.{wrote-of}
+use Rattle.lucid_top.proofs.Runs.{ran-short, wrote-of}
 use Rattle.lucid_top_words.proofs.Seen as seen
 use Rattle.lucid_top.proofs.top.lucid.Goals as goal
 
@@ -73,6 +73,14 @@ returns-clause-cut g c = λ is text asked. seen.part-of g.W.Sink.written g.W.Sin
 
 pub returns-clause-memory : goal.returns-clause-memory
 returns-clause-memory g c = λ is text asked. seen.some-of g.W.Sink.written g.W.Sink.faults c.args.out.now c.call.new.out text (laws.memory-clause c.call.ensures.ended is text asked)
+
+pub returns-clause-memory_pipe : goal.returns-clause-memory_pipe
+returns-clause-memory_pipe g c = λ names texts hold a f is memory.
+    ran-short g.W.Sink.written g.W.Sink.faults c.args.out.now c.call.new.out _ (laws.memory_pipe-clause c.call.ensures.ended names texts hold a f is memory)
+
+pub returns-clause-memory_placed : goal.returns-clause-memory_placed
+returns-clause-memory_placed g c = λ names texts hold placement text holds a audit is memory.
+    ran-short g.W.Sink.written g.W.Sink.faults c.args.out.now c.call.new.out _ (laws.memory_placed-clause c.call.ensures.ended names texts hold placement text holds a audit is memory)
 
 pub returns-clause-silent : goal.returns-clause-silent
 returns-clause-silent g c = laws.silent-clause c.call.ensures.ended

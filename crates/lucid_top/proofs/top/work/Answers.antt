@@ -1,6 +1,6 @@
 use Rattle.std.proofs.Common.{◌≡◌, ◌∙◌, List, length, ap, refl, subst, Some, None, Err, rules, sym}
 use Rattle.std.proofs.lemmas.List.{length-map}
-use Rattle.lucid_top.specs.Answer.{command_files}
+use Rattle.lucid_top.specs.Answer.{MayStop, command_files}
 use Rattle.lucid_top.specs.Call.{bytes_of}
 use Rattle.lucid_top_words.specs.Command.{command_of}
 use Rattle.lucid_top_words.specs.Files.{TriesOnly, texts_in}
@@ -27,7 +27,7 @@ pub returns-clause-done : goal.returns-clause-done
 returns-clause-done g c =
     let is : command_of (bytes_of c.args.words.now) ≡ Some c.in-Some.command = search rules in
     does-performed c.in-Some.command _ is c.files.ensures.files c.in_ok-texts.ensures.reads c.as_slice.ensures.value
-    (performs-in g.W.Sink.written g.W.Sink.faults c.args.out.now c.perform.new.out _ _ c.perform.result c.perform.ensures.performs)
+    (performs-in g.W.Sink.written g.W.Sink.faults c.args.out.now c.perform.new.out (MayStop c.in-Some.command _) _ c.perform.result c.perform.ensures.performs)
     c.perform.ensures.ran c.perform.ensures.shown
 
 pub returns-in_err-texts-clause-unread : goal.returns-in_err-texts-clause-unread

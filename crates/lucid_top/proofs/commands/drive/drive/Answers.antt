@@ -7,6 +7,7 @@ use Rattle.lucid_top_words.specs.declared.refusal.Refusal.{Refusal}
 use Rattle.lucid_top_words.specs.Files.{texts_in}
 use Rattle.lucid_top_words.specs.Outcome.{Outcome}
 use Rattle.lucid_top_words.specs.Words.{word_at}
+use Rattle.lucid_top_words.specs.Writing.{nowhere}
 use Rattle.lucid_top_words.proofs.Seen.{untouched}
 use Rattle.lucid_top.specs.declared.commands.setup.Ready.{Ready}
 use Rattle.lucid_top.specs.Held.{ready_view}
@@ -19,7 +20,7 @@ pub returns-in_err-ready-clause-performs : goal.returns-in_err-ready-clause-perf
 returns-in_err-ready-clause-performs g c =
     let text = word_at (texts_in c.args.texts.now) in
     let ps = passes_view (λ b. (goal.Pass-dyn g (b.vtable, b.value)).called b.value) (λ b. (goal.Pass-dyn g (b.vtable, b.value)).gives b.value) (λ b. (goal.Pass-dyn g (b.vtable, b.value)).count b.value) c.args.passes.now.items in
-    declined g.W.Sink.written g.W.Sink.faults c.args.out.now c.args.out.now ⊥ (IsReady (text 0) (text 1) (text 2) ps) (λ r (p : Outcome). p ≡ Ok (drive_log (driven r)))
+    declined g.W.Sink.written g.W.Sink.faults c.args.out.now c.args.out.now nowhere (IsReady (text 0) (text 1) (text 2) ps) (λ r (p : Outcome). p ≡ Ok (drive_log (driven r)))
     c.in_err-ready.field-0.0 c.from_residual.result c.in_err-ready.ensures.ready (search rules) untouched
 
 pub returns-in_err-ready-clause-ran : goal.returns-in_err-ready-clause-ran
@@ -29,8 +30,8 @@ pub returns-clause-performs : goal.returns-clause-performs
 returns-clause-performs g c =
     let text = word_at (texts_in c.args.texts.now) in
     let ps = passes_view (λ b. (goal.Pass-dyn g (b.vtable, b.value)).called b.value) (λ b. (goal.Pass-dyn g (b.vtable, b.value)).gives b.value) (λ b. (goal.Pass-dyn g (b.vtable, b.value)).count b.value) c.args.passes.now.items in
-    performs-after g.W.Sink.written g.W.Sink.faults c.args.out.now c.drive_ready.new.out ⊥ (IsReady (text 0) (text 1) (text 2) ps) (λ r (p : Outcome). p ≡ Ok (drive_log (driven r)))
-    c.in_ok-ready.ensures.ready (λ none. none) c.drive_ready.result c.drive_ready.ensures.performs
+    performs-after g.W.Sink.written g.W.Sink.faults c.args.out.now c.drive_ready.new.out nowhere (IsReady (text 0) (text 1) (text 2) ps) (λ r (p : Outcome). p ≡ Ok (drive_log (driven r)))
+    c.in_ok-ready.ensures.ready (λ begun none. none) c.drive_ready.result c.drive_ready.ensures.performs
 
 pub returns-clause-ran : goal.returns-clause-ran
 returns-clause-ran g c = ran-ok Ready (Unit {0}) _ _ _ c.in_ok-ready.ready c.drive_ready.result c.in_ok-ready.ensures.ran

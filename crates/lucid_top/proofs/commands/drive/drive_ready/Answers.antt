@@ -5,6 +5,7 @@ use Rattle.lucid_io.specs.Puts.{PutsAll, PutsPart}
 use Rattle.lucid_pipe.specs.declared.sight.Sight.{Sight}
 use Rattle.lucid_top_words.specs.declared.refusal.Refusal.{Refusal}
 use Rattle.lucid_top_words.specs.declared.refusal.Refusal.TheVariants as refusal
+use Rattle.lucid_top_words.specs.Writing.{nowhere}
 use Rattle.lucid_top_words.proofs.Parts.{one-text}
 use Rattle.lucid_top.specs.Drive.{driven}
 use Rattle.lucid_top.specs.Held.{ready_view}
@@ -17,7 +18,7 @@ pub returns-in_err-drive-clause-performs : goal.returns-in_err-drive-clause-perf
 returns-in_err-drive-clause-performs g c =
     let r = ready_view c.args.ready.now in
     let is = drive-is r c.in_ok-pipe.pipe c.in_ok-pipe.ensures in
-    cut ⊥ g.W.Sink.written g.W.Sink.faults c.args.out.now c.drive.new.sink (drive_log (driven r)) c.from_residual-in_err-drive.result
+    cut nowhere g.W.Sink.written g.W.Sink.faults c.args.out.now c.drive.new.sink (drive_log (driven r)) c.from_residual-in_err-drive.result
     (subst (λ (d : Drive). PutsPart g.W.Sink.written g.W.Sink.faults c.args.out.now c.drive.new.sink (drive_log d)) is c.in_err-drive.ensures.part) (search rules)
 
 pub returns-in_err-drive-clause-shown : goal.returns-in_err-drive-clause-shown

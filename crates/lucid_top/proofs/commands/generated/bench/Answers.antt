@@ -10,6 +10,7 @@ use Rattle.lucid_top_words.specs.declared.refusal.Refusal.{Refusal}
 use Rattle.lucid_top_words.specs.Files.{texts_in}
 use Rattle.lucid_top_words.specs.Outcome.{Declines, IsTheAnswer, Outcome}
 use Rattle.lucid_top_words.specs.Words.{word_at}
+use Rattle.lucid_top_words.specs.Writing.{nowhere}
 use Rattle.lucid_top_words.proofs.Seen.{untouched}
 use Rattle.lucid_top.specs.declared.commands.setup.Ready.{Ready}
 use Rattle.lucid_top.specs.Held.{ready_view}
@@ -24,7 +25,7 @@ pub returns-in_err-ready-clause-performs : goal.returns-in_err-ready-clause-perf
 returns-in_err-ready-clause-performs g c =
     let ts : texts_in c.as_slice.result.now ≡ program_text c.args.seed ∷ limits_text ∷ scene_text c.args.seed c.args.events ∷ [] = ap texts_in c.as_slice.ensures.value ∙ c.in_ok-texts.ensures in
     let ps = passes_view (λ b. (goal.Pass-dyn g (b.vtable, b.value)).called b.value) (λ b. (goal.Pass-dyn g (b.vtable, b.value)).gives b.value) (λ b. (goal.Pass-dyn g (b.vtable, b.value)).count b.value) c.args.passes.now.items in
-    declined g.W.Sink.written g.W.Sink.faults c.args.out.now c.args.out.now ⊥ (IsReady (program_text c.args.seed) limits_text (scene_text c.args.seed c.args.events) ps) (λ r (p : Outcome). p ≡ Ok (bench_line c.args.seed c.args.events (log (network_of r))))
+    declined g.W.Sink.written g.W.Sink.faults c.args.out.now c.args.out.now nowhere (IsReady (program_text c.args.seed) limits_text (scene_text c.args.seed c.args.events) ps) (λ r (p : Outcome). p ≡ Ok (bench_line c.args.seed c.args.events (log (network_of r))))
     c.in_err-ready.field-0.0 c.from_residual-in_err-ready.result
     (subst (λ (l : List (List ℕ)). Declines (IsReady (word_at l 0) (word_at l 1) (word_at l 2) ps) c.in_err-ready.field-0.0) ts c.in_err-ready.ensures.ready) (search rules) untouched
 
@@ -40,7 +41,7 @@ returns-clause-performs g c =
     let ps = passes_view (λ b. (goal.Pass-dyn g (b.vtable, b.value)).called b.value) (λ b. (goal.Pass-dyn g (b.vtable, b.value)).gives b.value) (λ b. (goal.Pass-dyn g (b.vtable, b.value)).count b.value) c.args.passes.now.items in
     let is : IsTheAnswer (IsReady (program_text c.args.seed) limits_text (scene_text c.args.seed c.args.events) ps) (Ok (ready_view c.in_ok-ready.ready)) =
     subst (λ (l : List (List ℕ)). IsTheAnswer (IsReady (word_at l 0) (word_at l 1) (word_at l 2) ps) (Ok (ready_view c.in_ok-ready.ready))) ts c.in_ok-ready.ensures.ready in
-    performs-after g.W.Sink.written g.W.Sink.faults c.args.out.now c.bench_ready.new.out ⊥ (IsReady (program_text c.args.seed) limits_text (scene_text c.args.seed c.args.events) ps) (λ r (p : Outcome). p ≡ Ok (bench_line c.args.seed c.args.events (log (network_of r)))) is (λ none. none) c.bench_ready.result c.bench_ready.ensures.performs
+    performs-after g.W.Sink.written g.W.Sink.faults c.args.out.now c.bench_ready.new.out nowhere (IsReady (program_text c.args.seed) limits_text (scene_text c.args.seed c.args.events) ps) (λ r (p : Outcome). p ≡ Ok (bench_line c.args.seed c.args.events (log (network_of r)))) is (λ begun none. none) c.bench_ready.result c.bench_ready.ensures.performs
 
 pub returns-clause-ran : goal.returns-clause-ran
 returns-clause-ran g c =

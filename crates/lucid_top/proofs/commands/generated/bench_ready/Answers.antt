@@ -6,6 +6,7 @@ use Rattle.lucid_pipe.specs.declared.sight.Sight.{Sight}
 use Rattle.lucid_top_words.specs.declared.refusal.Refusal.{Refusal}
 use Rattle.lucid_top_words.specs.declared.refusal.Refusal.TheVariants as refusal
 use Rattle.lucid_top_words.specs.Outcome.{Outcome}
+use Rattle.lucid_top_words.specs.Writing.{nowhere}
 use Rattle.lucid_top_words.proofs.Parts.{one-text}
 use Rattle.lucid_top.specs.Held.{ready_view}
 use Rattle.lucid_top.specs.Pipes.{network_of, sights_of}
@@ -16,7 +17,7 @@ use Rattle.lucid_top.proofs.commands.generated.bench_ready.Goals as goal
 pub returns-in_err-tally-clause-performs : goal.returns-in_err-tally-clause-performs
 returns-in_err-tally-clause-performs g c =
     let text = bench_line c.args.seed c.args.events (log (network_of (ready_view c.args.ready.now))) in
-    ended-by-memory ⊥ (λ (o : Outcome). o ≡ Ok text) g.W.Sink.written g.W.Sink.faults c.args.out.now c.in_err-tally.field-0.0 c.from_residual.result c.in_err-tally.ensures.memory (search rules)
+    ended-by-memory nowhere (λ (o : Outcome). o ≡ Ok text) g.W.Sink.written g.W.Sink.faults c.args.out.now c.in_err-tally.field-0.0 c.from_residual.result c.in_err-tally.ensures.memory (search rules)
 
 pub returns-in_err-tally-clause-shown : goal.returns-in_err-tally-clause-shown
 returns-in_err-tally-clause-shown g c =
@@ -27,7 +28,7 @@ pub returns-in_err-put_bench-clause-performs : goal.returns-in_err-put_bench-cla
 returns-in_err-put_bench-clause-performs g c =
     let line : bench_line c.args.seed c.args.events c.in_ok-tally.tally.bytes ≡ bench_line c.args.seed c.args.events (log (network_of (ready_view c.args.ready.now))) = ap (bench_line c.args.seed c.args.events) c.in_ok-tally.ensures.log in
     let text = bench_line c.args.seed c.args.events (log (network_of (ready_view c.args.ready.now))) in
-    cut ⊥ g.W.Sink.written g.W.Sink.faults c.args.out.now c.put_bench.new.sink text c.from_residual-in_err-put_bench.result
+    cut nowhere g.W.Sink.written g.W.Sink.faults c.args.out.now c.put_bench.new.sink text c.from_residual-in_err-put_bench.result
     (subst (PutsPart g.W.Sink.written g.W.Sink.faults c.args.out.now c.put_bench.new.sink) line c.in_err-put_bench.ensures.part) (search rules)
 
 pub returns-in_err-put_bench-clause-shown : goal.returns-in_err-put_bench-clause-shown

@@ -1,5 +1,5 @@
 use Rattle.std.proofs.Common.{◌≡◌, List, inr, Ok, Err, Result, subst, rules}
-use Rattle.lucid_net.specs.Wanting.{MayStop}
+use Rattle.lucid_net.specs.Wanting.{StopsAt}
 use Rattle.lucid_net.specs.Writes.{Writes}
 use Rattle.lucid_net_spec.specs.Log.{log}
 use Rattle.lucid_net_spec.specs.Ways.{Network}
@@ -32,9 +32,9 @@ pub returns-in-Err-clause-performs : goal.returns-in-Err-clause-performs
 returns-in-Err-clause-performs g c =
     let r = ready_view c.args.ready.now in
     let e = c.in-Err.error in
-    stopped (MayStop (network_of r)) (λ (o : Outcome). o ≡ Ok (log (network_of r))) g.W.Sink.written g.W.Sink.faults c.args.out.now c.run.new.sink (log (network_of r)) e (Err c.of_net.result) (one-text (log (network_of r)))
+    stopped (StopsAt (network_of r)) (λ (o : Outcome). o ≡ Ok (log (network_of r))) g.W.Sink.written g.W.Sink.faults c.args.out.now c.run.new.sink (log (network_of r)) e (Err c.of_net.result) (one-text (log (network_of r)))
     (subst (λ (n : Network). Writes g.W.Sink.written g.W.Sink.faults c.args.out.now c.run.new.sink (log n) (Err e)) (network-is c.in_ok-net.net c.in_ok-net.ensures) c.in-Err.ensures.log)
-    (λ is. stops-is r c.in_ok-net.net c.in_ok-net.ensures (c.in-Err.ensures.memory (search rules) (search rules))) (search rules)
+    (λ is. stops-is g.W.Sink.written g.W.Sink.faults c.args.out.now c.run.new.sink r c.in_ok-net.net c.in_ok-net.ensures (c.in-Err.ensures.memory (search rules) (search rules))) (search rules)
 
 pub returns-in-Err-clause-shown : goal.returns-in-Err-clause-shown
 returns-in-Err-clause-shown g c =

@@ -29,7 +29,7 @@ returns-clause-performs g c =
     let text = word_at (texts_in c.args.texts.now) in
     let ps = passes_view (λ b. (goal.Pass-dyn g (b.vtable, b.value)).called b.value) (λ b. (goal.Pass-dyn g (b.vtable, b.value)).gives b.value) (λ b. (goal.Pass-dyn g (b.vtable, b.value)).count b.value) c.args.passes.now.items in
     performs-after g.W.Sink.written g.W.Sink.faults c.args.out.now c.run_network.new.out (StopsPlaced (text 0) (text 1) (text 2) (text 3) ps) (IsReadyPlaced (text 0) (text 1) (text 2) (text 3) ps) (λ r (p : Outcome). p ≡ Ok (log (network_of r)))
-    c.in_ok-ready.ensures.ready (λ stops. record { runs = ready_view c.in_ok-ready.ready; is = c.in_ok-ready.ensures.ready.is; stops = stops }) c.run_network.result c.run_network.ensures.performs
+    c.in_ok-ready.ensures.ready (λ begun stops. record { runs = ready_view c.in_ok-ready.ready; is = c.in_ok-ready.ensures.ready; stops = stops }) c.run_network.result c.run_network.ensures.performs
 
 pub returns-clause-ran : goal.returns-clause-ran
 returns-clause-ran g c = ran-ok Ready (Unit {0}) _ _ _ c.in_ok-ready.ready c.run_network.result c.in_ok-ready.ensures.ran

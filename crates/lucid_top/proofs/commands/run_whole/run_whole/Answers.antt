@@ -4,7 +4,7 @@ use Rattle.lucid_top_words.specs.Files.{texts_in}
 use Rattle.lucid_top_words.specs.Outcome.{IsTheAnswer}
 use Rattle.lucid_top_words.specs.Words.{word_at}
 use Rattle.lucid_top.specs.RunWhole.{RunWholeAnswers}
-use Rattle.lucid_top.proofs.Stopping.{stopped}
+use Rattle.lucid_top.proofs.Stopping.{stopped-anywhere}
 use Rattle.lucid_top.proofs.commands.run_whole.run_whole.Goals as goal
 
 pub returns : goal.returns
@@ -12,5 +12,5 @@ returns g c =
     let text = word_at (texts_in c.args.texts.now) in
     let network = c.in_ok-network.network in
     let answer : IsTheAnswer (RunWholeAnswers (text 0) (text 1) (text 2)) (Ok (log (whole network.target.core network.scene network.target.limits))) = search rules in
-    stopped (Unit {0}) (RunWholeAnswers (text 0) (text 1) (text 2)) g.W.Sink.written g.W.Sink.faults c.args.out.now c.put.new.out (log (whole network.target.core network.scene network.target.limits))
-    c.in-Err.error (Err c.of_net.result) answer c.in-Err.ensures (λ is. tt) (search rules)
+    stopped-anywhere (RunWholeAnswers (text 0) (text 1) (text 2)) g.W.Sink.written g.W.Sink.faults c.args.out.now c.put.new.out (log (whole network.target.core network.scene network.target.limits))
+    c.in-Err.error (Err c.of_net.result) answer c.in-Err.ensures (search rules)
