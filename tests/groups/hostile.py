@@ -170,7 +170,7 @@ SHAPES: Dict[str, Shape] = {
     "8 matches of 16": Shape(flat_matches, LAYOUT, 16, 3, 60, True),
     "8 matches of 32": Shape(flat_matches, LAYOUT, 32, 11, 60),
     "15 arrays in 32 arms each": Shape(arrays, LAYOUT, 15, 3, 60, True),
-    "60 arrays in 32 arms each": Shape(arrays, LAYOUT, 60, 40, 100),
+    "60 arrays in 32 arms each": Shape(arrays, LAYOUT, 60, 6, 100),
     "64 instances of 5,000 calls": Shape(wide_calls, CHECK, 64, 130, 300, status=6),
     "64 instances of 1,700 calls in order": Shape(ordered_calls, CHECK, 64, 20, 300),
     "4 instances of 1,700 calls in order": Shape(ordered_calls, CHECK, 4, 3, 100, True),
@@ -185,7 +185,7 @@ SHAPES: Dict[str, Shape] = {
     "a tower of 24 functions": Shape(tower, ["once", "p", "go", "1"], 24, 5, 30),
     "65,536 ticks of 8 sends": Shape(senders, ["run", "whole", "p", "l", "s"], 65536, 2, 350, True),
     "8 MiB of deep lists": Shape(lists, ["run", "whole", "p", "l", "s"], 8388544, 3.5, 700, True, 9),
-    "8 MiB of keys": Shape(keys, ["run", "whole", "p", "l", "s"], 8388544, 3.5, 700, True, 9),
+    "8 MiB of keys": Shape(keys, ["run", "whole", "p", "l", "s"], 8388544, 2, 300, True, 9),
 }
 GROWTH = 5.0
 
