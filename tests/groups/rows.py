@@ -65,9 +65,10 @@ def model_answer(row: Row) -> Ended:
     """The answer of the second implementation, tools/lucid_model."""
     sys.path.insert(0, str(TOP / "tools"))
     import lucid_model
+    from lucid_tools.stack import deeply
 
     read = lambda name: row.files[name.decode() if isinstance(name, bytes) else name]
-    return Ended(*lucid_model.answer(row.words, read))
+    return Ended(*deeply(lambda: lucid_model.answer(row.words, read)))
 
 
 def fill(group: Group, rows: Iterable[Row]) -> None:
