@@ -84,7 +84,7 @@ def run(group: Group) -> None:
         ours = measure(spent, [group.options.program, *words.split()], group.room).ended
         theirs = measure(spent, [reference, *words.split()], group.room).ended
         group.check(f"{words}: the bytes of the plain program", ours == theirs and ours.status == 0, ours)
-        entered = next((int(line.split()[1]) for line in ours.out.splitlines()[::-1] if line.startswith(b"entered")), entered)
+        entered = next((int(line.split()[1]) for line in ours.out.splitlines()[::-1] if line.startswith(b"entered ")), 0) or entered
     times = [{words: (seconds(group, spent, group.options.program, words), seconds(group, spent, reference, words)) for words in CALLS}
              for _ in range(group.options.runs or 5)]
     count = entered * json.loads((group.room / "limits").read_text())["stages"]
@@ -109,7 +109,9 @@ def reading(group: Group, spent: Path, reference: Path) -> None:
 
 def seconds(group: Group, spent: Path, program: Path, words: str) -> float:
     """Processor seconds of a call whose output goes to /dev/null."""
-    return measure(spent, ["sh", "-c", 'exec "$@" >/dev/null', "sh", program, *words.split()], group.room).seconds
+    spent_by = measure(spent, ["/bin/sh", "-c", 'exec "$@" >/dev/null', "sh", program, *words.split()], group.room)
+    group.check(f"{words}: ends with 0 as it is timed", spent_by.ended.status == 0, spent_by.ended)
+    return spent_by.seconds
 
 
 def row(name: str, form: str, ours: float, theirs: float) -> List[str]:
