@@ -5,8 +5,9 @@ A search in C finds names that fall into one group of the table with one tag, as
 kit's maps have where nobody says otherwise, for the seeded hasher with no seed, with the seed of a text of the same size, and with the seed
 of the text which that last search led to. Each list of names is written as events, at half and at full size. It fails where a text takes more
 than twice the seconds of one with names that nobody chose, or more than 2.3 times those of its half, or where the names fall into few groups
-under the seed that the text really has. A table with a hasher of one fixed seed fails the first of these rows. The group of the gate tries
-the names for the default hasher and those for the seed of another text; `--whole` and this script try all.
+under the seed that the text really has. What breaks it (seen): a program that reads a text of full size six times. A table with a hasher of
+one fixed seed was not tried. The group of the gate tries the names for the default hasher and those for the seed of another text; `--whole`
+and this script try all.
 
 Usage: tests/collisions.py PROGRAM"""
 import os
