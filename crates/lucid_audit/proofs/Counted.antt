@@ -1,4 +1,4 @@
--- The items of a list, counted, and what holds of an answer that is never Ok.
+-- The items of a list, counted, and facts of an answer that is never Ok.
 use Rattle.std.proofs.Common.{◌≡◌, ℕ, Result, Ok, Err, IfOk, List, [], ◌∷◌, length, refl, ap, suc}
 use Rattle.serde_json.specs.View.{items_view}
 use Rattle.serde_json.specs.declared.value.Value.{Value}

@@ -1,4 +1,4 @@
--- The layout of a first fit is what the audit answers for its places.
+-- `audit` returns the layout of a first fit for its places.
 use Rattle.std.proofs.Common.{◌≡◌, ℕ, List, ap, ap₂, ◌∙◌, map}
 use Rattle.std.specs.List.{range_with_len}
 use Rattle.std.proofs.lemmas.List.FromFn.{fill_by_all}

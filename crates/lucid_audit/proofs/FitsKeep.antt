@@ -84,7 +84,7 @@ module _ (ops : List Op) (stages : List Stage) (s : Seat) (l : s.at.stage < leng
     length_here : length (stage_of (seated ops s stages) s.at.stage).tables ≡ max (length old.tables) (s.at.table + 1)
     length_here = ap (λ (g : Stage). length g.tables) stage_here ∙ put_length old.tables s.at.table (table (with_work ops (rows_at old s.at.table) s.node)) r
 
--- ---- what holds once some nodes have their places
+-- ---- facts once some nodes have their places
 
 pub record Kept (ops : List Op) (limits : Limits) (done : List Seat) : Type 0 where
   pub tables_are : (k t : ℕ) → table_of (stage_of (laid ops limits done) k) t ≡ table_at ops done k t

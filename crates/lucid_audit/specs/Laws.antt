@@ -1,4 +1,4 @@
--- What holds of all placements.
+-- Laws of all placements.
 use Rattle.std.specs.Prelude.{◌≡◌, ◌≢◌, List, []}
 use Rattle.lucid_code.specs.Parts.{CodeParts}
 use Rattle.lucid_tables.specs.Placed.{PlacedParts}
@@ -12,7 +12,7 @@ use Rattle.lucid_audit.specs.declared.error.AuditError.TheVariants.{Memory}
 use Rattle.lucid_audit.specs.Audit.{KeepsRules, IsAudited}
 use Rattle.lucid_audit.specs.Refused.{IsRefused}
 
--- The places of every first fit keep the rules, and where code has a layout, it is what its places give.
+-- The places of every first fit keep the rules, and if code has a layout, its places give that layout.
 pub record FirstFitsAreAccepted : Type 0 where
   pub rules : (code : CodeParts) (limits : Limits) (pairs : List Pair) → IsFirstFit code.ops limits [] (works code.ops) pairs → KeepsRules code.ops limits (seats (works code.ops) pairs)
   pub placed : (code : CodeParts) (limits : Limits) (placed : PlacedParts) → IsLayout code limits placed → (pairs : List Pair) × IsFirstFit code.ops limits [] (works code.ops) pairs × IsAudited code limits pairs placed

@@ -1,4 +1,4 @@
--- Values that are what `bits_of` makes.
+-- Values made by `bits_of`.
 use Rattle.std.proofs.Common.{◌≡◌, ℕ, ◌^◌, ◌%◌, ◌∙◌, sym, subst}
 use Rattle.std.proofs.Math.Nat.{mod-eq_of_lt}
 use Rattle.lucid_base.specs.Bits.{bits_of, Bits-same}

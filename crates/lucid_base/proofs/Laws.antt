@@ -1,4 +1,4 @@
--- Laws of the operations over plain numbers: what they give fits the width, and a shift by the width or more gives 0.
+-- Laws of the operations over plain numbers: results fit the width, and a shift by the width or more gives 0.
 use Rattle.std.proofs.Common.{◌≡◌, ℕ, ◌+◌, ◌-◌, ◌*◌, ◌^◌, ◌<◌, ◌≤◌, inl, inr, arith}
 use Rattle.std.proofs.lemmas.Nat.{pow_pos, mod_below, shr_le, and_le_l, or_lt, xor_lt}
 use Rattle.lucid_base.specs.declared.ops.UnOp.{UnOp}

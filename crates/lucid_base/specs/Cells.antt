@@ -15,7 +15,7 @@ row_of cells array = slice_index_or cells array []
 abbrev pub place_of : List ℕ → ℕ → ℕ
 place_of row i = i % length row
 
--- what cell i of an array holds
+-- the value of cell i of an array
 abbrev pub cell_at : List (List ℕ) → ℕ → ℕ → ℕ
 cell_at cells array i = slice_index (row_of cells array) (place_of (row_of cells array) i)
 

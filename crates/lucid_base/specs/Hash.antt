@@ -3,11 +3,11 @@ use Rattle.std.specs.Prelude.{ℕ, ◌*◌, ◌%◌, ◌^◌, List, bit_xor}
 use Rattle.std.specs.List.{fold, flat_map}
 use Rattle.std.specs.Int.{w64, to_le_bytes}
 
--- what the hash of no bytes is
+-- the hash of no bytes
 abbrev pub offset_basis : ℕ
 offset_basis = 14_695_981_039_346_656_037
 
--- what each byte multiplies the hash by
+-- the factor for each byte
 abbrev pub prime : ℕ
 prime = 1_099_511_628_211
 

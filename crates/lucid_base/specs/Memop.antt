@@ -1,4 +1,4 @@
--- What a memop gives of the stored number and an argument, and whether its fixed numbers fit.
+-- The result of a memop for the stored number and an argument, and whether its fixed numbers fit.
 use Rattle.std.specs.Prelude.{ℕ, ◌^◌, Bool, true, ◌&&◌, nat_lt, if◌then◌else◌, Option, None, Some}
 use Rattle.lucid_base.specs.Bits.{bits_of}
 use Rattle.lucid_base.specs.declared.bits.Bits.{Bits}
@@ -10,13 +10,13 @@ use Rattle.lucid_base.specs.declared.memory_alu.MemSide.TheVariants.{One, Two}
 use Rattle.lucid_base.specs.declared.memory_alu.MemAlu.{MemAlu}
 use Rattle.lucid_base.specs.Ops.{bin_of, cmp_of, low_of}
 
--- the number that an operand stands for, at width w
+-- the number of an operand, at width w
 abbrev pub operand_of : MemArg → ℕ → ℕ → ℕ → ℕ
 operand_of Stored w stored arg = stored
 operand_of Arg w stored arg = arg
 operand_of (Fixed n) w stored arg = low_of w n
 
--- what one side gives
+-- the result of one side
 abbrev pub side_of : MemSide → ℕ → ℕ → ℕ → ℕ
 side_of (One a) w stored arg = operand_of a w stored arg
 side_of (Two op a b) w stored arg = bin_of op w (operand_of a w stored arg) (operand_of b w stored arg)
@@ -26,12 +26,12 @@ abbrev pub test_of : Option (CmpOp × MemArg × MemArg) → ℕ → ℕ → ℕ 
 test_of None w stored arg = true
 test_of (Some test) w stored arg = cmp_of test.0 (operand_of test.1 w stored arg) (operand_of test.2 w stored arg)
 
--- what the memop gives
+-- the result of the memop
 abbrev pub apply_of : MemAlu → ℕ → ℕ → ℕ
 apply_of alu stored arg =
     side_of (if test_of alu.test alu.width stored arg then alu.yes else alu.no) alu.width stored arg
 
--- what the memop gives of any stored number and argument, which count by their low bits: as a value, and as a plain number
+-- the result of the memop for the low bits of any stored number and argument: as a value, and as a plain number
 abbrev pub memop_value : MemAlu → ℕ → ℕ → Bits
 memop_value m stored arg = bits_of m.width (apply_of m (low_of m.width stored) (low_of m.width arg))
 

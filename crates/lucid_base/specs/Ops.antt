@@ -1,4 +1,4 @@
--- What each operation gives, over plain numbers that fit the width `w`. The code computes the same in machine words.
+-- The result of each operation, over plain numbers that fit the width `w`. The code computes the same in machine words.
 use Rattle.std.specs.Prelude.{ℕ, ◌+◌, ◌-◌, ◌*◌, ◌/◌, ◌%◌, ◌^◌, min, Bool, not, nat_eq, nat_lt, nat_le, bit_and, bit_or, bit_xor, ◌⊎◌, ◌≡◌}
 use Rattle.lucid_base.specs.declared.ops.UnOp.{UnOp}
 use Rattle.lucid_base.specs.declared.ops.UnOp.TheVariants.{Neg, Flip, Shl, Shr}
@@ -7,7 +7,7 @@ use Rattle.lucid_base.specs.declared.ops.BinOp.TheVariants.{Add, Sub, And, Or, X
 use Rattle.lucid_base.specs.declared.ops.CmpOp.{CmpOp}
 use Rattle.lucid_base.specs.declared.ops.CmpOp.TheVariants.{Eq, Ne, Lt, Gt, Le, Ge}
 
--- negation modulo 2 ^ w, every bit turned round, and shifts that lose what leaves the width and fill with zeros
+-- negation modulo 2 ^ w, the complement of every bit, and shifts that drop bits past the width and fill with zeros
 abbrev pub un_of : UnOp → ℕ → ℕ → ℕ
 un_of Neg w a = (2 ^ w - a) % 2 ^ w
 un_of Flip w a = 2 ^ w - 1 - a

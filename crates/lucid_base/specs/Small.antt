@@ -18,7 +18,7 @@ pub length-used : {A : Type 0} (room : ℕ) (filler : A) (len : ℕ) (cells : Li
     length (take len cells) ≡ len
 length-used room filler len cells s = length-take-le len cells (omega (arith, s.within, s.room_is))
 
--- the cells in use give all cells back
+-- the cells in use, padded, are all cells
 pub padded-used : {A : Type 0} (room : ℕ) (filler : A) (len : ℕ) (cells : List A) → IsSmall room filler len cells →
     padded room filler (take len cells) ≡ cells
 padded-used room filler len cells s =

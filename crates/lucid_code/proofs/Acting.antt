@@ -1,4 +1,4 @@
--- What an operation leaves of the fields, and when it does the same.
+-- The fields that an operation leaves unchanged, and when two runs of it agree.
 use Rattle.std.proofs.Common.{◌≡◌, ◌≢◌, ℕ, zero, suc, ◌<◌, ◌^◌, List, [], ◌∷◌, ◌++◌, Bool, true, false, not, ◌&&◌, Option, None, Some, if◌then◌else◌, map, slice_index, nat_eq, refl, sym, ap, ap₂, subst, ◌∙◌, ⊎_elim, mod-lt, pow_pos}
 use Rattle.std.specs.List.{AllByRecursion, list_any}
 use Rattle.std.specs.Option.{option_to_list, option_map}
@@ -118,7 +118,7 @@ never_acts widths m o c = by (all_hold m.fields o.guard) refl
     by true h = absurd (contradict_never m.fields o.guard o.guard c h h)
     by false h = rests widths m o h
 
--- ---- what an act does, by what its operands stand for
+-- ---- the effect of an act, by the values of its operands
 
 abbrev pub Cells : Type 0
 Cells = List (List ℕ)
@@ -126,7 +126,7 @@ Cells = List (List ℕ)
 abbrev pub Outs : Type 0
 Outs = List (ℕ × Out)
 
--- a field, a cell and what it sends out
+-- a field, a cell and an out
 pub record Effect : Type 0 where
   pub made : ℕ
   pub cell : Option (ℕ × ℕ × ℕ)
@@ -162,7 +162,7 @@ act_applies widths m (act.Gen slot event args delay to) = refl
 act_applies widths m (act.Say slot form args) = refl
 act_applies widths m _ = refl
 
--- other operands stand for the same numbers in other fields
+-- other operands have the same values in other fields
 abbrev pub Stand : (Operand → Operand) → Fields → Fields → List Operand → Type 0
 Stand h f g operands = AllByRecursion (λ (o : Operand). value g (h o) ≡ value f o) operands
 
@@ -198,7 +198,7 @@ effect_stands h f g cells (act.Gen slot event args delay to) e =
     ∙ ap₂ (λ (d : ℕ) (t : Target). made (values f args) d t) parts.1.0 (target_stands h f g to parts.1.1)
 effect_stands h f g cells (act.Say slot form args) e = ap (λ vs. record { made = 0; cell = None; sent = Some (slot, out.Say form vs) }) (values_stand h f g args e)
 
--- it writes, calls and sends the same, whatever its operands are
+-- the written field, the called array and the slot do not depend on the operands
 pub written_with : (h : Operand → Operand) (a : Act) → written_by (with_operands h a) ≡ written_by a
 written_with h (act.Un op w a k) = refl
 written_with h (act.Bin op w a b k) = refl
@@ -210,7 +210,7 @@ written_with h (act.Touch array index get get_arg set set_arg to) = refl
 written_with h (act.Gen slot event args delay to) = refl
 written_with h (act.Say slot form args) = refl
 
--- An act does the same with operands that stand for the same.
+-- An act has the same effect with operands of the same values.
 pub act_stands : (widths : List ℕ) (h : Operand → Operand) (m : Machine) (a : Act) → Stand h m.fields m.fields (operands_of a) → run_act widths (with_operands h a) m ≡ run_act widths a m
 act_stands widths h m a e =
     act_applies widths m (with_operands h a)
@@ -236,6 +236,6 @@ with_same (act.Touch array index get get_arg set set_arg to) = refl
 with_same (act.Gen slot event args delay to) = ap₂ (λ l t. act.Gen slot event l delay t) (map_same args) (option_same to)
 with_same (act.Say slot form args) = ap (λ l. act.Say slot form l) (map_same args)
 
--- It does the same in fields in which its operands stand for the same.
+-- It has the same effect in fields in which its operands have the same values.
 pub effect_by : (f g : Fields) (cells : Cells) (a : Act) → AllByRecursion (λ (o : Operand). value g o ≡ value f o) (operands_of a) → effect a g cells ≡ effect a f cells
 effect_by f g cells a e = ap (λ (b : Act). effect b g cells) (sym (with_same a)) ∙ effect_stands (λ o. o) f g cells a e

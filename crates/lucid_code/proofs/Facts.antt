@@ -1,4 +1,4 @@
--- What valid code tells of its operations, and what its tests need.
+-- Facts of the operations of valid code, and facts for its tests.
 use Rattle.std.proofs.Common.{◌≡◌, ◌≢◌, ℕ, ◌+◌, ◌<◌, ◌≤◌, List, [], ◌∷◌, Bool, true, false, not, ◌&&◌, ◌||◌, inl, inr, Option, None, Some, nat_eq, nat_lt, nat_le, refl, sym, ap, ap₂, subst, ◌∙◌, ⊎_elim, arith}
 use Rattle.std.specs.List.{list_all, enumerate_from}
 use Rattle.std.proofs.lemmas.Bool.{and_parts, and_from, or_cases, or_left, or_right, eqb-true, eq-eqb, true≢false, not-true, le-leb, leb-true, lt-ltb, ltb-true, cases_lt}
@@ -19,7 +19,7 @@ Shares place x y = (k : ℕ) → place x.act ≡ Some k → place y.act ≡ Some
 abbrev pub Blind : Op → Op → Type 0
 Blind x y = (k : ℕ) → In k (read_by x) → written_by y.act ≢ Some k
 
--- What holds of an operation and one behind it; where nodes count, they are not calls of one array, if the second reads the first.
+-- Facts of an operation and a later one; if nodes count, they are not calls of one array if the second reads the first.
 pub record Pair (nodes : Bool) (x y : Op) : Type 0 where
   pub fields : Shares written_by x y
   pub calls : Shares called_by x y
@@ -126,7 +126,7 @@ only_pairs : (nodes : Bool) (place : Act → Option ℕ) → ((x y : Op) → Pai
 only_pairs nodes place f [] h = tt
 only_pairs nodes place f (o ∷ ops) h = (λ y i. f o y (h.0 y i), only_pairs nodes place f ops h.1)
 
--- where one that writes a field stands, and one that reads it
+-- the position of a writer of a field, and of a reader
 pub record Goes (nodes : Bool) (w r : ℕ × Op) : Type 0 where
   pub place : w.0 < r.0
   pub key : key_of w.1 ≤ key_of r.1

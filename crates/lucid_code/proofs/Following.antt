@@ -1,4 +1,5 @@
--- What is written before it is read, of each two operations at their places in the list: what the two tests of it say, and what they need.
+-- Fields are written before they are read, for each two operations at their positions in the list: the meaning of the two tests, and
+-- facts for them.
 use Rattle.std.proofs.Common.{◌≡◌, ℕ, List, true, Some}
 use Rattle.std.specs.List.{enumerate_from}
 use Rattle.lucid_code.specs.declared.op.Op.{Op}
@@ -8,7 +9,7 @@ use Rattle.lucid_code.specs.Valid.{reads_follow_writes}
 use Rattle.lucid_code.proofs.Facts.{Before, read_before, reads_from_pairs, nodes_apart, nodes_from_pairs}
 use Rattle.lucid_code.proofs.Members.{In}
 
--- What writes a field that another reads goes before it.
+-- The writer of a field precedes its readers.
 abbrev pub Everywhere : List Op → Type 0
 Everywhere ops = (r w : ℕ × Op) → In r (enumerate_from 0 ops) → In w (enumerate_from 0 ops) → (k : ℕ) → In k (read_by r.1) → written_by w.1.act ≡ Some k → Before w r
 

@@ -1,4 +1,4 @@
--- What an operation has written stands as long as its guard holds.
+-- The result of an operation stays valid as long as its guard holds.
 use Rattle.std.proofs.Common.{◌≡◌, ℕ, List, [], ◌∷◌, Bool, true, false, Some, inl, inr, map, slice_index, refl, sym, ap, subst, ◌∙◌, true≢false}
 use Rattle.std.specs.List.{AllByRecursion, flat_map}
 use Rattle.lucid_base.specs.Ops.{low_of}
@@ -15,7 +15,7 @@ use Rattle.lucid_code.proofs.Acting.{Effect, effect_by, put_same, op_other, acts
 use Rattle.lucid_code.proofs.Facts.{Blind, Pair}
 use Rattle.lucid_code.proofs.Members.{In, Pairwise, in_left, in_right, each_in, into_map, into_flat}
 
--- what reads fields which agree acts in both, or in neither, and does the same
+-- an operation that reads fields which agree acts in both, or in neither, with the same effect
 pub record Alike (f g : Fields) (o : Op) : Type 0 where
   pub guard : all_hold g o.guard ≡ all_hold f o.guard
   pub operands : AllByRecursion (λ (x : Operand). value g x ≡ value f x) (operands_of o.act)
@@ -34,7 +34,7 @@ alike f g o h = record {
 pub blind_alike : (widths : List ℕ) (m : Machine) (o p : Op) → Blind o p → Alike m.fields (run_op widths m p).fields o
 blind_alike widths m o p b = alike m.fields (run_op widths m p).fields o (λ k i. op_other widths m p k (b k i))
 
--- what an act that only writes makes
+-- the result of an act that only writes
 abbrev pub made : Act → Fields → ℕ
 made a f = result a (record { fields = f; cells = []; outs = [] })
 
@@ -58,7 +58,7 @@ only_written (act.Cast a j) k e = e
 only_written (act.Hash xs j) k e = e
 only_written (act.Move a j) k e = e
 
--- as long as its guard holds, the field that it writes holds what it would write now
+-- as long as its guard holds, the field that it writes has the value that it would write now
 abbrev pub Fresh : List ℕ → Fields → Op → Type 0
 Fresh widths f o = (k : ℕ) → only_writes o.act ≡ Some k → all_hold f o.guard ≡ true → slice_index f k ≡ low_of (slice_index widths k) (made o.act f)
 

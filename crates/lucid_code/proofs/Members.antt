@@ -1,4 +1,4 @@
--- What stands in a list, and what holds of each two of its elements, the earlier first.
+-- The members of a list, and facts of each two of its elements, the earlier first.
 use Rattle.std.proofs.Common.{◌≡◌, ℕ, zero, suc, ◌+◌, ◌<◌, ◌≤◌, List, [], ◌∷◌, ◌++◌, Bool, true, false, ◌⊎◌, inl, inr, if◌then◌else◌, length, map, slice_index_or, refl, sym, ap, subst, ◌∙◌, ⊎_elim, arith}
 use Rattle.std.specs.Prelude.{⊤}
 use Rattle.std.specs.List.{AllByRecursion, list_all, list_any, filter, flat_map, enumerate_from}

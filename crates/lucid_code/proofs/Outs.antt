@@ -1,4 +1,4 @@
--- What valid code sends out: at most 8, each with at most 8 numbers.
+-- The outs of valid code: at most 8, each with at most 8 numbers.
 use Rattle.std.proofs.Common.{◌≡◌, ◌≢◌, ℕ, ◌+◌, ◌-◌, ◌<◌, ◌≤◌, List, [], ◌∷◌, ◌++◌, Bool, true, false, ◌⊎◌, Some, inl, inr, if◌then◌else◌, length, nat_eq, nat_lt, nat_le, refl, sym, ap, subst, ◌∙◌, ⊎_elim, arith, append_assoc, true≢false}
 use Rattle.std.specs.Prelude.{⊤}
 use Rattle.std.proofs.lemmas.Bool.{and_parts, eqb-true, leb-true, ltb-true, lt-ltb, cases_lt}

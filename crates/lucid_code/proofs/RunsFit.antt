@@ -1,4 +1,4 @@
--- Valid code keeps to its limits, whatever it meets.
+-- Valid code keeps to its limits for every input.
 use Rattle.std.proofs.Common.{ℕ, ◌≤◌, length, subst, sym, slice_index_or}
 use Rattle.std.proofs.lemmas.List.{length-map}
 use Rattle.std.proofs.lemmas.List.Elements.{All-map}

@@ -1,4 +1,4 @@
--- What holds of all that an operation reads, by its guard and its act: a literal whose value fits its field names one that is there.
+-- Facts of all reads of an operation, by its guard and its act: a literal whose value fits its field names one that exists.
 use Rattle.std.proofs.Common.{◌≡◌, ◌∙◌, ℕ, ◌^◌, List, [], ◌∷◌, Option, None, Some, Bool, true, false, ◌&&◌, length, map, nat_lt, slice_get, sym, ap, refl}
 use Rattle.std.specs.List.{list_all, flat_map}
 use Rattle.std.specs.Option.{option_map_or}

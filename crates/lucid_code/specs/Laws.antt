@@ -1,4 +1,4 @@
--- What valid code keeps and sends, whatever it meets.
+-- The invariants of valid code and the bounds of its outs, for every input.
 use Rattle.std.specs.Prelude.{ℕ, ◌≤◌, List, All, IsTrue, length}
 use Rattle.lucid_base.specs.Cells.{rows_fit}
 use Rattle.lucid_base.specs.declared.event.Event.{Event}

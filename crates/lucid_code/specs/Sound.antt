@@ -1,4 +1,4 @@
--- What is asked of the names of an act, apart from those of its guard.
+-- The rules for the names of an act, apart from those of its guard.
 use Rattle.std.specs.Prelude.{ℕ, List, Bool, true, ◌&&◌, length, nat_lt}
 use Rattle.std.specs.List.{list_all, flat_map}
 use Rattle.std.specs.Option.{option_map_or}

@@ -6,7 +6,7 @@ use Rattle.std.specs.List.{slice_index_or}
 use Rattle.std.specs.Str.{bytes_eq}
 use Rattle.lucid_conf.specs.Named.{last_from, last_named}
 
--- A step of the loop over what is declared is a step of `last_from`.
+-- A step of the loop over the declarations is a step of `last_from`.
 pub next : {A : Type 0} (f : A → List ℕ) (n : List ℕ) (xs : List A) (i k : ℕ) (found : Option ℕ) (d : A) → i < length xs →
     last_from n (suc k) (if bytes_eq n (f (slice_index_or xs i d)) then Some k else found) (drop (suc i) (map f xs)) ≡ last_from n k found (drop i (map f xs))
 next f n [] i k found d less = absurd (omega (arith, less))

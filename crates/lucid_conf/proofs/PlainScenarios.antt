@@ -55,7 +55,7 @@ file_plain (string s) no_version no_down = refl
 file_plain (array ds) no_version no_down = refl
 file_plain (object ms) no_version no_down = ap (check key.Other) (all_known_plain ms no_version no_down)
 
--- The table, given what stands under the two keys and whether the file has no others.
+-- The table, given the values of the two keys and whether the file has no others.
 abbrev read_with : CoreParts → Data → Option Data → Option Data → Reading (Unit {0}) → Reading Scene
 read_with parts d version down keys = do
   _ ← keys

@@ -1,4 +1,4 @@
--- What the calls answer to the bytes of a file, given how its value is read.
+-- The answers of the calls to the bytes of a file, given the reading of its value.
 use Rattle.std.specs.Prelude.{◌≡◌, ℕ, List, Some, Result, Ok, Err, IsUtf8}
 use Rattle.serde_json.specs.Data.{Data}
 use Rattle.serde_json.specs.Read.{read}
@@ -10,7 +10,7 @@ use Rattle.lucid_conf.specs.Reading.{Reading}
 abbrev pub Reads : List ℕ → Data → Type 0
 Reads bytes d = IsUtf8 bytes × (read bytes ≡ Some d)
 
--- Within the crate: an answer is what the reading of a value is, unless memory ran out.
+-- Within the crate: the error is that of the reading of a value, unless memory ran out.
 abbrev pub Fails : {A : Type 0} → ConfError → Reading A → Type 0
 Fails error.NotJson reading = ⊥
 Fails (error.BadField k place) reading = reading ≡ Err (k, place)
@@ -20,8 +20,8 @@ abbrev pub Gives : {A : Type 0} → Result A ConfError → Reading A → Type 0
 Gives (Ok x) reading = reading ≡ Ok x
 Gives (Err e) reading = Fails e reading
 
--- Of the calls: Ok where the bytes spell a value that reads so; `BadField` where they spell one that fails so; `NotJson` where they spell none.
--- Bytes spell one value at most, so each answer comes only where no other does, but for want of memory.
+-- For the calls: Ok if the bytes spell a value that reads so; `BadField` if they spell one that fails so; `NotJson` if they spell none.
+-- Bytes spell one value at most, so each answer excludes the others, except Memory.
 abbrev pub Refuses : {A : Type 0} → ConfError → (Data → Reading A) → List ℕ → Type 0
 Refuses error.NotJson reading bytes = (d : Data) → ¬ (Reads bytes d)
 Refuses (error.BadField k place) reading bytes = (d : Data) × Reads bytes d × (reading d ≡ Err (k, place))

@@ -1,4 +1,4 @@
--- The words of the items: what is not there, or is of another kind, gives nothing, and then the item is bad.
+-- The words of the items: a field that is missing or of another kind gives nothing, and then the item is bad.
 use Rattle.std.specs.Prelude.{ℕ, List, [], ◌∷◌, ◌++◌, Bool, true, false, nat_lt, length, if◌then◌else◌, Option, None, Some, option_and_then, is_some}
 use Rattle.serde_json.specs.Data.{Data, Items, no_items, item}
 use Rattle.serde_json.specs.Find.{get, at, as_str, as_array}
@@ -27,7 +27,7 @@ text_at i d = option_and_then as_str (at i d)
 abbrev pub text_of : List ℕ → Data → Option (List ℕ)
 text_of key d = option_and_then as_str (get key d)
 
--- Nothing stands at this place, so the list ends before it.
+-- Nothing is at this place, so the list ends before it.
 abbrev pub ends_at : ℕ → Data → Option (Unit {0})
 ends_at i d = if is_some (at i d) then None else Some tt
 

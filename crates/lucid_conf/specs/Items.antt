@@ -1,4 +1,4 @@
--- What the items of the scenario's lists must be, a line a demand: an item that breaks one is bad. The words of the lines are in Fields.
+-- The rules for the items of the scenario's lists, one per line: an item that breaks one is bad. The words of the lines are in Fields.
 use Rattle.std.specs.Prelude.{ℕ, List, length, Bool, ◌&&◌, ◌||◌, not, nat_eq, nat_lt, nat_le, bytes_eq, codes, if◌then◌else◌}
 use Rattle.std.specs.Prelude.{Option, None, Some, option_and_then}
 use Rattle.std.specs.List.{list_any}

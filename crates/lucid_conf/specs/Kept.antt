@@ -1,4 +1,4 @@
--- What the limits and the scenario of an accepted file keep, so that whoever is given them need not test it.
+-- The invariants of the limits and the scenario of an accepted file, so that no caller needs to test them.
 use Rattle.std.specs.Prelude.{◌≡◌, ◌≢◌, ℕ, ◌*◌, ◌<◌, ◌≤◌, List, length, false, IsTrue}
 use Rattle.std.specs.List.{All, AllPairs}
 use Rattle.lucid_core.specs.Fits.{event_fits}
@@ -31,7 +31,7 @@ pub record IsLink (switches : ℕ) (l : Link) : Type 0 where
   pub differ : l.a ≢ l.b
   pub latency : IsBetween 1 most_latency l.latency
 
--- Two links join different pairs, whatever their directions.
+-- Two links join different pairs, in any direction.
 abbrev pub AreApart : Link → Link → Type 0
 AreApart l m = joins m.a m.b l ≡ false
 

@@ -11,7 +11,7 @@ event_names events = map (λ e. e.name) events
 abbrev pub array_names : List ArrayDef → List (List ℕ)
 array_names arrays = map (λ a. a.name) arrays
 
--- The place of the last of these names that is the name, where the first of them has the number n; without one, what was found before.
+-- The place of the last of these names that equals the name, if the first of them has the number n; without one, the earlier result.
 abbrev pub last_from : List ℕ → ℕ → Option ℕ → List (List ℕ) → Option ℕ
 last_from name n found [] = found
 last_from name n found (x ∷ xs) = last_from name (suc n) (if bytes_eq name x then Some n else found) xs

@@ -1,5 +1,5 @@
--- The two files, a line a key; the keys are tried in this order. Of a number: the least, the most, and what stands for an absent one.
--- The words of the lines are in Reading, what the items of the lists must be in Items.
+-- The two files, one key per line; the keys are tried in this order. Of a number: the least, the most, and the default of an absent one.
+-- The words of the lines are in Reading, the rules for the items of the lists in Items.
 use Rattle.std.specs.Prelude.{ℕ, ◌+◌, ◌*◌, List, [], ◌∷◌, nat_le, nat_eq, not, ◌||◌, is_some, Ok}
 use Rattle.serde_json.specs.Data.{Data}
 use Rattle.serde_json.specs.Find.{get}
@@ -28,7 +28,7 @@ limits_read d = do
   recirc ← number d Recirc 0 65536 0
   Ok (record { stages = stages; tables = tables; rows = rows; arrays = arrays; arms = arms; bits = bits; recirc = recirc })
 
--- `switches`: all switches together have at most so many cells, where each has those of all arrays.
+-- `switches`: the most cells of all switches together, where each switch has the cells of all arrays.
 abbrev pub most_cells : ℕ
 most_cells = 4194304
 
@@ -42,7 +42,7 @@ switches_read parts d = do
   _ ← check Switches (nat_le (cells parts.arrays * switches) most_cells)
   Ok switches
 
--- `stop`: it has to be there, and all switches together have at most so many ticks.
+-- `stop`: the key is required; the most ticks of all switches together.
 abbrev pub most_ticks : ℕ
 most_ticks = 131072
 

@@ -1,4 +1,4 @@
--- The search for a circle: the walk along what is left, and why it ends in a circle or an order.
+-- The search for a circle: the walk along the rest, and why it ends in a circle or an order.
 use Rattle.std.proofs.Common.{◌⊎◌, inl, inr, ◌≡◌, ℕ, zero, suc, ◌+◌, ◌<◌, Bool, true, false, if◌then◌else◌, List, [], ◌∷◌, ◌++◌, length, get_or, take, drop, refl, sym, ◌∙◌, subst, arith}
 use Rattle.std.specs.List.{remove}
 use Rattle.lucid_constraints.specs.Circle.{Member, OrderOn, Leads, Distinct, IsCircle}
@@ -9,7 +9,7 @@ Linked before [] = Unit {0}
 Linked before (x ∷ []) = Unit {0}
 Linked before (x ∷ y ∷ xs) = (before x y ≡ true) × Linked before (y ∷ xs)
 
--- The path leads on, what is still asked was asked, and an order of what is left orders all.
+-- The path continues, the remaining constraints are original ones, and an order of the rest orders all.
 pub record Walking {A : Type 0} (before left : A → A → Bool) (all path rest : List A) : Type 0 where
   pub linked : Linked before path
   pub distinct : Distinct path
@@ -41,7 +41,7 @@ module _ {A : Type 0} (before left same : A → A → Bool) (same_is : (x y : A)
   less : (P Q : A → Type 0) → ((x : A) → P x → Q x) → OrderOn left Q → OrderOn left P
   less P Q within order = (order.0, λ x y p q. order.1 x y (within x p) (within y q))
 
-  -- what has none before it may come first
+  -- a name without predecessors may come first
   first : (P Q : A → Type 0) (x : A) → ((y : A) → P y → (x ≡ y) ⊎ Q y) → ((y : A) → P y → left y x ≡ false) → OrderOn left Q → OrderOn left P
   first P Q x split none order = (N, rises)
     where
@@ -152,7 +152,7 @@ module _ {A : Type 0} (before left same : A → A → Bool) (same_is : (x y : A)
       of z (inl (inr m)) = inr (inl m)
       of z (inr m) = inr (inr m)
 
-  -- what is asked of one that is neither on the path nor waits counts no more
+  -- constraints on one that is neither on the path nor to be visited no longer matter
   pub walk_without : (left2 : A → A → Bool) (all path rest : List A) (x : A) → Walking before left all path rest → ¬ Member x path → ¬ Member x rest → ((y z : A) → left2 y z ≡ true → left y z ≡ true) → ((y z : A) → same x y ≡ false → left y z ≡ true → left2 y z ≡ true) → Walking before left2 all path rest
   walk_without left2 all path rest x w off gone fewer kept = record {
     linked = w.linked;
@@ -177,7 +177,7 @@ module _ {A : Type 0} (before : A → A → Bool) where
   leads_rise N up x z [] h = up x z h.0
   leads_rise N up x z (y ∷ xs) h = let e = up x y h.0 in let f = leads_rise N up y z xs h.1 in omega (arith, e, f)
 
-  -- what stands in a circle has no order
+  -- names in a circle have no order
   pub circle_has_none : (xs : List A) → IsCircle before xs → (N : A → ℕ) → ((x y : A) → before x y ≡ true → N x < N y) → ⊥
   circle_has_none [] c N up = let h = c.some in omega (arith, h)
   circle_has_none (x ∷ xs) c N up = let h = leads_rise N up x x xs (c.closed x) in omega (arith, h)

@@ -1,4 +1,4 @@
--- Joining what was joined, and joining what is there.
+-- Joining joined lists, and joining members.
 use Rattle.std.proofs.Common.{◌≡◌, ◌∙◌, Bool, true, false, List, [], ◌∷◌, ◌++◌, if◌then◌else◌, ◌||◌, refl, sym, ap, subst}
 use Rattle.std.specs.List.{list_all, list_any}
 use Rattle.std.proofs.lemmas.Bool.{and_parts}
@@ -77,7 +77,7 @@ onto xs zs [] = refl
 onto xs zs (y ∷ ys) = onto xs (joined same_pair zs y) ys ∙ ap (λ (ps : List Pair). join_all same_pair ps ys) (join_joined xs zs y)
 
 module _ (names : List ArrayName) (start : List Atom) where
-  -- what a function's pairs are to a caller, joined to the caller's
+  -- a function's pairs in the caller's names, joined to the caller's
   needs_onto : (xs zs ps : List Pair) → join_all same_pair xs (needs_from names start zs ps) ≡ needs_from names start (join_all same_pair xs zs) ps
   needs_onto xs zs [] = refl
   needs_onto xs zs (p ∷ ps) =

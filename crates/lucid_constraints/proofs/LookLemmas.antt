@@ -1,4 +1,4 @@
--- What one look of the search finds, and what is left of the pairs when a name is left behind.
+-- The result of one look of the search, and the remaining pairs when a name is removed.
 use Rattle.std.proofs.Common.{◌≡◌, ◌⊎◌, inl, inr, ℕ, suc, ◌+◌, ◌<◌, ◌≤◌, Bool, true, false, if◌then◌else◌, cond, ◌||◌, ◌&&◌, not, List, [], ◌∷◌, length, get_or, Some, None, refl, sym, ◌∙◌, subst, arith}
 use Rattle.std.specs.List.{filter, list_any}
 use Rattle.lucid_base.specs.declared.array.ArrayName.{ArrayName}

@@ -1,4 +1,4 @@
--- What needs and ends mean does not turn on repeats, and commutes with substitution.
+-- The meaning of needs and ends does not depend on repeats, and commutes with substitution.
 use Rattle.std.proofs.Common.{◌≡◌, ℕ, ◌≤◌, max, Bool, true, false, if◌then◌else◌, ◌&&◌, nat_le, List, [], ◌∷◌, ◌++◌, map, refl, sym, ◌∙◌, ap, subst, arith}
 use Rattle.std.specs.List.{list_any}
 use Rattle.std.proofs.lemmas.Bool.Decides.{nat_tests}

@@ -18,7 +18,7 @@ one_more a names more h is b l = subst (λ (xs : List ArrayName). Member (Global
     of (inl k) = member_left (Global b) names (Global a ∷ []) (h b k)
     of (inr k) = let e : a ≡ b = omega arith in member_right (Global b) names (Global a ∷ []) (inl (ap Global e))
 
--- what is joined is there, and so is what was there
+-- joined names are members, and so are the earlier ones
 join_keeps : (x y : ArrayName) (xs : List ArrayName) → Member x xs → Member x (joined same_name xs y)
 join_keeps x y xs m = of (list_any (same_name y) xs)
   where

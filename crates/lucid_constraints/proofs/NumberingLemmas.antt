@@ -1,4 +1,4 @@
--- Pairs are allowed by a numbering exactly where it rises along what must come first.
+-- Pairs are allowed by a numbering exactly if it rises along the constraints.
 use Rattle.std.proofs.Common.{◌≡◌, ℕ, ◌<◌, Bool, true, false, ◌&&◌, ◌||◌, nat_le, nat_lt, List, [], ◌∷◌, refl, ◌∙◌, ap, arith}
 use Rattle.std.specs.List.{list_any}
 use Rattle.std.proofs.lemmas.Bool.Decides.{nat_tests}

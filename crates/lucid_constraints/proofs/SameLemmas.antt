@@ -1,4 +1,4 @@
--- What the tests call the same is equal.
+-- Values that the tests call the same are equal.
 use Rattle.std.proofs.Common.{◌≡◌, true, refl, ◌∙◌, ap, arith}
 use Rattle.std.proofs.lemmas.Bool.{and_parts}
 use Rattle.std.proofs.lemmas.Bool.Decides.{nat_tests}

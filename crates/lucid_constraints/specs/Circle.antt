@@ -1,5 +1,5 @@
--- The search for a cycle, as tests: what must come first, names in a circle, and what each step of the search finds.
--- Only contracts inside this crate cite this page.
+-- The search for a cycle, as tests: constraints, names in a circle, and the result of each step of the search. Only contracts inside this
+-- crate cite this page.
 use Rattle.std.specs.Prelude.{◌⊎◌, ◌≡◌, ℕ, ◌+◌, ◌<◌, Bool, true, false, if◌then◌else◌, ◌&&◌, ◌||◌, nat_lt, List, [], ◌∷◌, ◌++◌, get_or, length, take}
 use Rattle.std.specs.Prelude.{drop, Option, Some, None}
 use Rattle.std.specs.List.{list_any}
@@ -35,11 +35,11 @@ Member y (x ∷ xs) = (x ≡ y) ⊎ Member y xs
 abbrev pub OrderOn : {A : Type 0} → (A → A → Bool) → (A → Type 0) → Type 0
 OrderOn {A} before P = (N : A → ℕ) × ((x y : A) → P x → P y → before x y ≡ true → N x < N y)
 
--- among these stand all that must come first or later
+-- these include all names that must precede or follow another
 abbrev pub Covers : (ArrayName → ArrayName → Bool) → List ArrayName → Type 0
 Covers before names = (x y : ArrayName) → before x y ≡ true → Member x names × Member y names
 
--- the first `n` declared arrays stand among these
+-- these include the first `n` declared arrays
 abbrev pub HasDeclared : ℕ → List ArrayName → Type 0
 HasDeclared n names = (a : ℕ) → a < n → Member (Global a) names
 
@@ -61,12 +61,12 @@ abbrev pub Leads : {A : Type 0} → (A → A → Bool) → List A → A → Type
 Leads before [] z = Unit {0}
 Leads before (x ∷ xs) z = (before x (get_or xs 0 z) ≡ true) × Leads before xs z
 
--- none stands twice
+-- none occurs twice
 abbrev pub Distinct : {A : Type 0} → List A → Type 0
 Distinct [] = Unit {0}
 Distinct (x ∷ xs) = ¬ Member x xs × Distinct xs
 
--- none stands in it twice, each comes before the next, and the last before the first
+-- none occurs in it twice, each comes before the next, and the last before the first
 pub record IsCircle {A : Type 0} (before : A → A → Bool) (xs : List A) : Type 0 where
   pub some : 0 < length xs
   pub distinct : Distinct xs
@@ -91,7 +91,7 @@ abbrev pub first_place : {A : Type 0} → (A → Bool) → List A → ℕ → Op
 first_place p [] at = None
 first_place p (x ∷ xs) at = if p x then Some at else first_place p xs (at + 1)
 
--- where one stands that must come before the head of the path
+-- the position of one that must precede the head of the path
 abbrev pub Finds : List ArrayName → List ArrayName → List Pair → ℕ → ArrayName → Found → Type 0
 Finds path waiting ps n x (OnPath j) = (j < length path) × (needed ps n (get_or path j x) x ≡ true)
 Finds path waiting ps n x (Waiting i) = (i < length waiting) × (needed ps n (get_or waiting i x) x ≡ true) × ¬ Member (get_or waiting i x) path

@@ -7,7 +7,7 @@ use Rattle.lucid_base.specs.declared.array.ArrayName.TheVariants.{Param}
 use Rattle.lucid_constraints.specs.declared.pair.Atom.{Atom}
 use Rattle.lucid_constraints.specs.Marks.{atom_number, name_number}
 
--- what the number of a function's name is to the caller: these are the numbers of the arrays that the 8 parameters stand for
+-- the caller's number of a function's name, given the numbers of the arrays that the 8 parameters represent
 abbrev pub moved : List ℕ → ℕ → ℕ
 moved places n = if nat_lt n 8 then get_or places n 0 else n
 
@@ -15,7 +15,7 @@ moved places n = if nat_lt n 8 then get_or places n 0 else n
 abbrev pub ArePlacesTo : List ArrayName → List ℕ → ℕ → Type 0
 ArePlacesTo names places end = (i : ℕ) → i < end → name_number (name_at names (Param i)) ≡ Some (get_or places i 0)
 
--- what is marked in the one table behind `from` is marked in the other behind `to`: declared arrays below this number
+-- each mark of the one table after `from` is in the other after `to`: declared arrays below this number
 abbrev pub GlobalsHeld : List Bool → ℕ → List Bool → ℕ → ℕ → Type 0
 GlobalsHeld theirs from ours to end = (n : ℕ) → 8 ≤ n → n < end → get_or theirs (from + n) false ≡ true → get_or ours (to + n) false ≡ true
 
@@ -23,7 +23,7 @@ GlobalsHeld theirs from ours to end = (n : ℕ) → 8 ≤ n → n < end → get_
 abbrev pub ParamsHeld : List ℕ → List Bool → ℕ → List Bool → ℕ → ℕ → Type 0
 ParamsHeld places theirs from ours to end = (n : ℕ) → n < end → get_or theirs (from + n) false ≡ true → get_or ours (to + get_or places n 0) false ≡ true
 
--- what is marked in the one table from the place `from` on is marked in the other from the place `to` on, by the caller's names
+-- each mark of the one table from the place `from` on is in the other from the place `to` on, by the caller's names
 abbrev pub RowHeld : List ℕ → List Bool → ℕ → List Bool → ℕ → Type 0
 RowHeld places theirs from ours to = (n : ℕ) → n < 72 → get_or theirs (from + n) false ≡ true → get_or ours (to + moved places n) false ≡ true
 

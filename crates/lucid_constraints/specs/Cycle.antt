@@ -19,7 +19,7 @@ Needed arrays pairs x y = Contains pairs (record { atom = After x; array = y }) 
 abbrev pub Rises : ℕ → (ArrayName → ℕ) → Type 0
 Rises arrays N = (a b : ℕ) → a < b → b < arrays → N (Global a) < N (Global b)
 
--- Some numbering of all names rises strictly along what must come first.
+-- Some numbering of all names rises strictly along the constraints.
 abbrev pub HasNumbering : (ArrayName → ArrayName → Type 0) → Type 0
 HasNumbering needed = (N : ArrayName → ℕ) × ((x y : ArrayName) → needed x y → N x < N y)
 

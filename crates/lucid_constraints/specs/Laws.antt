@@ -1,4 +1,4 @@
--- What this crate promises of its definitions.
+-- The laws of this crate's definitions.
 use Rattle.std.specs.Prelude.{◌≡◌, ◌↔◌, ℕ, ◌<◌, max, true, ◌&&◌, nat_le, List, [], map}
 use Rattle.lucid_base.specs.Arrays.{name_at}
 use Rattle.lucid_base.specs.declared.array.ArrayName.{ArrayName}
@@ -13,8 +13,8 @@ use Rattle.lucid_constraints.specs.declared.pair.Pair.{Pair}
 abbrev pub through : List ArrayName → (ArrayName → ℕ) → ArrayName → ℕ
 through names N = λ y. N (name_at names y)
 
--- What pairs and ends mean: dropping repeats changes nothing, and a function's pairs and ends mean to its caller what they mean to it,
--- begun at the greatest of the places where it is called.
+-- The meaning of pairs and ends: dropping repeats changes nothing, and a function's pairs and ends mean the same to its caller as to the
+-- function, begun at the greatest of the places where it is called.
 pub record PairsKeepMeaning : Type 0 where
   pub joined_pairs : (N : ArrayName → ℕ) (c : ℕ) (ps qs : List Pair) → allow_all N c (join_all same_pair ps qs) ≡ (allow_all N c ps && allow_all N c qs)
   pub joined_ends : (N : ArrayName → ℕ) (c : ℕ) (xs ys : List Atom) → greatest N c (join_all same_atom xs ys) ≡ max (greatest N c xs) (greatest N c ys)

@@ -1,4 +1,4 @@
--- A table that tells of the pairs of few names whether they are there. Only contracts inside this crate cite this page.
+-- A table that records which pairs of few names exist. Only contracts inside this crate cite this page.
 use Rattle.std.specs.Prelude.{◌≡◌, ℕ, ◌+◌, ◌*◌, ◌<◌, Bool, false, if◌then◌else◌, ◌&&◌, nat_eq, nat_lt, List, [], ◌∷◌, ◌++◌, get_or, length, Option}
 use Rattle.std.specs.Prelude.{None, Some, IfSome, is_some, true}
 use Rattle.std.specs.List.{list_all, list_any}

@@ -1,4 +1,4 @@
--- What pairs and ends say of a numbering of the arrays.
+-- The meaning of pairs and ends for a numbering of the arrays.
 use Rattle.std.specs.Prelude.{ℕ, ◌+◌, max, Bool, true, if◌then◌else◌, ◌&&◌, nat_le, List, [], ◌∷◌, Option, Some, None}
 use Rattle.lucid_base.specs.declared.array.ArrayName.{ArrayName}
 use Rattle.lucid_constraints.specs.declared.pair.Atom.{Atom}

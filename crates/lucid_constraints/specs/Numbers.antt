@@ -1,4 +1,4 @@
--- Numbers of names that are raised until they rise along what must come first. Only contracts inside this crate cite this page.
+-- Numbers of names that are raised until they rise along the constraints. Only contracts inside this crate cite this page.
 use Rattle.std.specs.Prelude.{ℕ, zero, suc, ◌-◌, max, Bool, true, false, ◌&&◌, ◌||◌, nat_lt, List, fold, slice_index_or, slice_set}
 use Rattle.std.specs.Option.{option_map_or}
 use Rattle.lucid_base.specs.Saturating.{saturating_next}
@@ -14,7 +14,7 @@ use Rattle.lucid_constraints.specs.Means.{allow_all}
 abbrev pub number_of : List ℕ → ArrayName → ℕ
 number_of numbers x = option_map_or (λ n. slice_index_or numbers n 0) (name_number x) 0
 
--- the second is put above the first, unless it stands there
+-- the second is moved above the first, unless it is there
 abbrev pub lifted : ArrayName → ArrayName → List ℕ → List ℕ
 lifted x y numbers = option_map_or (λ n. slice_set numbers n (max (slice_index_or numbers n 0) (saturating_next (number_of numbers x)))) (name_number y) numbers
 

@@ -1,4 +1,4 @@
--- What a function's pairs and ends are to a caller, who gives it these arrays and calls it at the places `start`.
+-- A function's pairs and ends in the names of a caller, which passes it these arrays and calls it at the places `start`.
 use Rattle.std.specs.Prelude.{List, [], ◌∷◌, map}
 use Rattle.lucid_base.specs.Arrays.{name_at}
 use Rattle.lucid_base.specs.declared.array.ArrayName.{ArrayName}

@@ -1,4 +1,4 @@
--- Cells that fit a program, and arrays that have the widths of the parameters that stand for them.
+-- Cells that fit a program, and arrays that have the widths of the parameters for which they are passed.
 use Rattle.std.proofs.Common.{◌≡◌, ℕ, zero, suc, ◌<◌, ◌^◌, List, [], ◌∷◌, true, map, Some, sym, ap, ◌∙◌, slice_get}
 use Rattle.std.proofs.lemmas.Bool.{lt-ltb}
 use Rattle.lucid_base.specs.Cells.{with_cell, zero_cells}
@@ -25,7 +25,7 @@ pub nothing_there : (i w : ℕ) → slice_get [] i ≡ Some w → ⊥
 nothing_there i w h = cc
 
 module _ (asked : Asked) (core : CoreParts) (s : Scope) (p : Frame) (stands : Stands asked core s p) (is : asked.cells ≡ true) where
-  -- A name stands for an array of its width.
+  -- A name denotes an array of its width.
   pub is_wide : (name : ArrayName) (w : ℕ) → cell_width name s ≡ Some w → IsWide core (array_of p.arrays name) w
   is_wide (Global a) w h = ap (λ (ws : List ℕ). slice_get ws a) (sym stands.arrays) ∙ h
   is_wide (Param i) w h = stands.params is i w h

@@ -152,7 +152,7 @@ funs_fit asked parts few now me before known (f ∷ fs) pairs widths texts limit
     let all = funs_fit asked parts few now me (before ++ f ∷ []) (known ++ fun_of now me known f ∷ []) fs more width.1 text.1 limit.1 return.1 in
     subst (λ (q : List FunDef). Pairwise (FunFits asked parts) q (funs_from now me (known ++ fun_of now me known f ∷ []) fs)) (append_assoc before (f ∷ []) fs) all
 
--- After an event's handler, what is sent out fits and carries few numbers, and is at most 8 outs; and the cells fit, where they did before.
+-- After an event's handler, the outs fit and carry few numbers, and are at most 8; and the cells fit, if they did before.
 record Ends (parts : CoreParts) (cells : List (List ℕ)) (after : State) : Type 0 where
   outs : list_all (goes_out parts) after.outs ≡ true
   few : length after.outs ≤ 8
@@ -166,7 +166,7 @@ module _ (parts : CoreParts) (sound : IsSound parts) (cells : List (List ℕ)) (
   few_counted : (k : ℕ) (h : HandlerDef) → slice_get parts.handlers k ≡ Some h → body_outs h.body (funs_outs [] parts.funs) ≤ 8
   few_counted k h is = leb-true _ _ (passes_at (λ g. nat_le (body_outs g.body (funs_outs [] parts.funs)) 8) parts.handlers k h (and_parts _ _ sound.outs).1 is)
 
-  -- Whatever its arguments are, a handler begins with locals of their widths.
+  -- For any arguments, a handler begins with locals of their widths.
   started_fine : (h : HandlerDef) → IsFine asked parts h.locals (once false None) (started cells (begun_with (taken_at h.locals args) h.locals))
   started_fine h = record { locals = widths-begun (taken_at h.locals args) (length args) h.locals (widths-taken h.locals args); answer = tt; outs = λ is. refl; cells = λ is. is }
 
@@ -204,7 +204,7 @@ module _ (parts : CoreParts) (sound : IsSound parts) (cells : List (List ℕ)) (
 ends : (parts : CoreParts) → IsSound parts → (cells : List (List ℕ)) (now me : ℕ) (event : Event) → Ends parts cells (ran parts cells now me event).after
 ends parts sound cells now me event = handled_fits parts sound cells now me event.args (option_and_then (λ e. e.handler) (slice_get parts.events event.id))
 
--- In a sound program, what an event's handler sends out fits and carries few numbers, and is at most 8 outs.
+-- In a sound program, the outs of an event's handler fit and carry few numbers, and are at most 8.
 pub outs_fit : (parts : CoreParts) → IsSound parts → OutsFit parts
 outs_fit parts sound = record {
   each = λ cells now me event. All-weaker (λ out. goes_out parts out ≡ true) (λ out. IsTrue (out_fits parts out)) (λ out fits. (and_parts _ _ fits).0) _ (all_go_out cells now me event);

@@ -1,4 +1,4 @@
--- Events one after another: what the fold says of each of them.
+-- Events one after another: the meaning of the fold for each of them.
 use Rattle.std.proofs.Common.{◌≡◌, ℕ, zero, suc, ◌+◌, List, [], ◌∷◌, Some, length, take, arith, length-append}
 use Rattle.std.specs.Prelude.{fold, slice_get, slice_index_or}
 use Rattle.std.specs.Option.{option_map_or}
@@ -14,7 +14,7 @@ abbrev pub steps_from : CoreParts → Steps → List Entry → Steps
 steps_from parts so_far entries = fold (one_more parts) so_far entries
 
 module _ (parts : CoreParts) where
-  -- What was sent out before stays where it is.
+  -- Earlier outs stay in their positions.
   outs_stay : (so_far : Steps) (entries : List Entry) (j : ℕ) (sent : List Out) → slice_get so_far.outs j ≡ Some sent → slice_get (steps_from parts so_far entries).outs j ≡ Some sent
   outs_stay so_far [] j sent is = is
   outs_stay so_far (e ∷ es) j sent is = outs_stay (one_more parts so_far e) es j sent (get_before so_far.outs (step parts so_far.cells e.now e.me e.event).outs j sent is)

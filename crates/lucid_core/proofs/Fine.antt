@@ -1,4 +1,4 @@
--- What holds of the state of a body all along, and acts that keep it so.
+-- The invariant of the state of a body, and acts that keep it.
 use Rattle.std.proofs.Common.{◌≡◌, ℕ, zero, suc, List, [], ◌∷◌, ◌++◌, Bool, true, false, not, ◌&&◌, ◌||◌, if◌then◌else◌, map, take, Option, None, Some, refl, sym, ap, subst, ◌∙◌, length, slice_get, slice_index, nat_eq, nat_le}
 use Rattle.std.specs.List.{list_all}
 use Rattle.std.specs.Option.{option_eq, option_map_or}
@@ -33,7 +33,7 @@ once false a = None
 abbrev pub goes_out : CoreParts → Out → Bool
 goes_out core out = out_fits core out && nat_le (length (carried out)) 8
 
--- What is asked of a state beyond widths: whether its outs fit, and whether its cells do.
+-- The conditions on a state beyond widths: whether its outs fit, and whether its cells do.
 pub record Asked : Type 0 where
   pub outs : Bool
   pub cells : Bool
@@ -45,7 +45,7 @@ pub record IsFine (k : Asked) (core : CoreParts) (ws : List ℕ) (a : Answer) (s
   pub outs : k.outs ≡ true → list_all (goes_out core) s.outs ≡ true
   pub cells : k.cells ≡ true → cells_fit core s.cells ≡ true
 
--- A run gives what P holds of, and leaves a state that is fine.
+-- The result of a run has P, and its final state is fine.
 pub record Goes {A : Type 0} (k : Asked) (core : CoreParts) (ws : List ℕ) (a : Answer) (P : A → Type 0) (ran : Ran A) : Type 0 where
   pub gives : P ran.gives
   pub fine : IsFine k core ws a ran.after
@@ -54,7 +54,7 @@ pub record Goes {A : Type 0} (k : Asked) (core : CoreParts) (ws : List ℕ) (a :
 abbrev pub IsWide : CoreParts → ℕ → ℕ → Type 0
 IsWide core a w = slice_get (map (λ d. d.width) core.arrays) a ≡ Some w
 
--- Each array parameter of these widths stands for an array of its width.
+-- Each array parameter of these widths denotes an array of its width.
 abbrev pub AreWide : CoreParts → List ℕ → List ℕ → Type 0
 AreWide core params arrays = (i w : ℕ) → slice_get params i ≡ Some w → IsWide core (slice_index arrays i) w
 
@@ -96,7 +96,7 @@ module _ (k : Asked) (core : CoreParts) (ws : List ℕ) where
   pub forget : (a : Answer) (s : State) → IsFine k core ws a s → IsFine k core ws None s
   forget a s fine = record { locals = fine.locals; answer = tt; outs = fine.outs; cells = fine.cells }
 
-  -- After what never returns.
+  -- After a part that never returns.
   pub still : (given : Bool) (a : Answer) (s : State) → IsFine k core ws (once given a) s → IsFine k core ws (once (given || false) a) s
   still true a s fine = fine
   still false a s fine = fine
@@ -119,7 +119,7 @@ module _ (k : Asked) (core : CoreParts) (ws : List ℕ) where
   on_the_second false false true a s fine = forget a s fine
   on_the_second false false false a s fine = fine
 
-  -- An act after which the state is fine, whatever it gives.
+  -- An act after which the state is fine, for any result.
   abbrev pub StaysFine : {A : Type 0} → Frame → Computation A → Type 0
   StaysFine p act = (a : Answer) (s : State) → IsFine k core ws a s → IsFine k core ws a (act p s).after
 
@@ -169,7 +169,7 @@ both_pass test xs ys h = and_parts _ _ (sym (list_all-append test xs ys) ∙ h)
 pub both_pass_of : {A : Type 0} (test : A → Bool) (all xs ys : List A) → all ≡ xs ++ ys → list_all test all ≡ true → (list_all test xs ≡ true) × (list_all test ys ≡ true)
 both_pass_of test all xs ys e h = both_pass test xs ys (subst (λ zs. list_all test zs ≡ true) e h)
 
--- The same of what is known where it is asked.
+-- The same for facts where they are asked.
 pub parts_asked : {asked a b : Bool} → (asked ≡ true → (a && b) ≡ true) → (asked ≡ true → a ≡ true) × (asked ≡ true → b ≡ true)
 parts_asked {a = a} {b = b} h = (λ is. (and_parts a b (h is)).0, λ is. (and_parts a b (h is)).1)
 
@@ -190,7 +190,7 @@ pub touched_has : (answers : Bool) (w : ℕ) (a : Answer) (v : Bits) → a ≡ (
 touched_has true w a v e width = has a w v e width
 touched_has false w a v e width = has_none a v e
 
--- What returns give, where all give a.
+-- The answer of returns, if all have a.
 pub is_none : (a : Answer) → option_eq nat_eq a None ≡ true → a ≡ None
 is_none None h = refl
 is_none (Some w) h = absurd (cc)

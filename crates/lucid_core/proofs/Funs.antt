@@ -14,7 +14,7 @@ use Rattle.lucid_core.specs.Values.{nothing}
 use Rattle.lucid_core.specs.Weight.{weight}
 use Rattle.lucid_core.proofs.Grown.{grow, grow-at}
 
--- What functions do, behind those already known.
+-- The effects of functions, after those already known.
 abbrev pub funs_from : ℕ → ℕ → List Fun → List FunDef → List Fun
 funs_from now me known fs = grow (fun_of now me) known fs
 

@@ -17,18 +17,18 @@ get_last [] x = refl
 get_last (y ∷ ys) x = get_last ys x
 
 module _ {A B : Type 0} (g : List B → A → B) where
-  -- Behind the first items stands what the next one adds.
+  -- The first items are followed by the one that the next one adds.
   pub grown : (before : List B) (xs : List A) (i : ℕ) (x : A) → slice_get xs i ≡ Some x → grow g before (take (suc i) xs) ≡ grow g before (take i xs) ++ g (grow g before (take i xs)) x ∷ []
   grown before [] i x is = absurd (cc)
   grown before (y ∷ ys) zero x is = let e : y ≡ x = cc in ap (λ z. before ++ g before z ∷ []) e
   grown before (y ∷ ys) (suc i) x is = grown (before ++ g before y ∷ []) ys i x is
 
-  -- What is there stays where it is.
+  -- An existing item stays at its position.
   grow-known : (before : List B) (xs : List A) (i : ℕ) (y : B) → slice_get before i ≡ Some y → slice_get (grow g before xs) i ≡ Some y
   grow-known before [] i y is = is
   grow-known before (x ∷ xs) i y is = grow-known (before ++ g before x ∷ []) xs i y (get_before before (g before x) i y is)
 
-  -- At each place stands what its item makes of the items before.
+  -- At each position is the result of its item for the items before.
   pub grow-at : (before : List B) (xs : List A) (k : ℕ) → slice_get (grow g before xs) (length before + k) ≡ option_map (λ x. g (grow g before (take k xs)) x) (slice_get xs k)
   grow-at before [] k = slice_get_past before (length before + k) (omega arith)
   grow-at before (x ∷ xs) zero =

@@ -1,4 +1,4 @@
--- What is known of a step is known of its handler, which is run whole.
+-- A fact about a step is one about its handler, which is run whole.
 use Rattle.std.proofs.Common.{◌≡◌, ℕ, List, Some, refl}
 use Rattle.lucid_base.specs.declared.event.Event.{Event}
 use Rattle.lucid_core.specs.declared.defs.HandlerDef.{HandlerDef}

@@ -12,7 +12,7 @@ use Rattle.lucid_core.specs.Step.{handler_of}
 use Rattle.lucid_core.specs.Valid.{IsSound}
 use Rattle.lucid_core.proofs.Fine.{is_this}
 
--- What all of a numbered list pass, each passes with its number.
+-- A test of all of a numbered list holds for each with its number.
 pub numbered_at : {A : Type 0} (test : ℕ × A → Bool) (xs : List A) (b k : ℕ) (x : A) → list_all test (enumerate_from b xs) ≡ true → slice_get xs k ≡ Some x → test (b + k, x) ≡ true
 numbered_at test [] b k x all h = absurd (cc)
 numbered_at {A = A} test (y ∷ ys) b zero x all h = let e : y ≡ x = cc in let z : b ≡ b + 0 = omega arith in ap₂ (λ (i : ℕ) (v : A). test (i, v)) (sym z) (sym e) ∙ (and_parts _ _ all).0
@@ -20,7 +20,7 @@ numbered_at {A = A} test (y ∷ ys) b (suc k) x all h =
     let z : b + suc k ≡ b + 1 + k = omega arith in ap (λ (i : ℕ). test (i, x)) z ∙ numbered_at test ys (b + 1) k x (and_parts _ _ all).1 h
 
 module _ (parts : CoreParts) (agree : events_and_handlers_agree parts ≡ true) where
-  -- What a handler's event says of it.
+  -- The meaning of a handler's event for it.
   pub record Declared (k : ℕ) (h : HandlerDef) : Type 0 where
     pub event : EventDef
     pub there : slice_get parts.events h.event ≡ Some event

@@ -1,4 +1,4 @@
--- What a call with its body put in means.
+-- The meaning of an inlined call.
 use Rattle.std.proofs.Common.{◌≡◌, ℕ, List, map, sym, ap, ◌∙◌}
 use Rattle.lucid_base.specs.declared.bits.Bits.{Bits}
 use Rattle.lucid_core.specs.declared.body.Expr.{Expr}

@@ -1,4 +1,4 @@
--- Prints that fill their texts and have few arguments: what the rules on texts and on limits say of prints, as one fold.
+-- Prints that fill their texts and have few arguments: the rules on texts and on limits for prints, as one fold.
 use Rattle.std.proofs.Common.{◌≡◌, ℕ, List, [], ◌∷◌, ◌++◌, Bool, true, false, ◌&&◌, length, map, None, Some, suc, refl, ap, subst, sym, ◌∙◌, nat_eq, nat_le, slice_get}
 use Rattle.std.specs.List.{list_all}
 use Rattle.std.specs.Option.{option_map_or}

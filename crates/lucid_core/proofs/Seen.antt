@@ -1,4 +1,5 @@
--- What the widths of a block's returns say of how it returns: where one gives a value the rule for returns knows it, and where the block always returns there is one.
+-- The widths of a block's returns and its ways to return: if one has a value the rule for returns knows it, and if the block always
+-- returns there is one.
 use Rattle.std.proofs.Common.{◌≡◌, ℕ, List, [], ◌∷◌, ◌++◌, Bool, true, false, ◌||◌, ◌⊎◌, inl, inr, is_some, map, None, Some, refl, sym, ap, subst, ◌∙◌}
 use Rattle.std.specs.List.{list_any}
 use Rattle.std.proofs.lemmas.Bool.{and_parts, or_cases, or_left, or_right}
@@ -16,7 +17,7 @@ use Rattle.lucid_core.specs.Typing as t
 use Rattle.lucid_core.specs.Typing.{Answer, Typed, all_typed, answer_of, returns_of, touch_answer, joined}
 use Rattle.lucid_core.proofs.TypingRules.{all_rule, assign_rule, drop_rule, if_rule, gen_rule, multi_rule, say_rule, return_rule}
 
--- Where a return gives a value, the rule for returns knows it; what always returns has a return.
+-- If a return has a value, the rule for returns knows it; a block that always returns has a return.
 pub record Sees (rs : List Answer) (returns : Returns) : Type 0 where
   pub value : list_any is_some rs ≡ true → returns.value ≡ true
   pub always : returns.always ≡ true → rs ≡ [] → ⊥
@@ -29,7 +30,7 @@ some_right : {A : Type 0} (xs ys : List A) → xs ++ ys ≡ [] → ys ≡ []
 some_right [] ys e = e
 some_right (x ∷ xs) ys e = absurd (cc)
 
--- What has no return.
+-- A block without a return.
 sees_nothing : (rs : List Answer) (returns : Returns) → rs ≡ [] → returns.always ≡ false → Sees rs returns
 sees_nothing rs returns e never = record {
   value = λ some. let no : list_any (is_some {T = ℕ}) [] ≡ true = subst (λ (q : List Answer). list_any is_some q ≡ true) e some in absurd (cc);

@@ -1,4 +1,4 @@
--- What a run sends out is no more than what is counted of its body. This holds of all programs, also of those that aren't valid.
+-- A run sends no more outs than are counted for its body. This holds for all programs, also for invalid ones.
 use Rattle.std.proofs.Common.{◌≡◌, ℕ, zero, suc, ◌+◌, ◌≤◌, List, [], ◌∷◌, ◌++◌, length, map, Option, None, Some, sym, subst, arith, length-append}
 use Rattle.std.proofs.lemmas.List.{length-map}
 use Rattle.std.specs.Prelude.{Bool, true, false, option_map, option_to_list, if◌then◌else◌, max, nat_eq, slice_index}
@@ -97,7 +97,7 @@ given_keep (g ∷ gs) p counts known s =
     let rest = given_keep gs p counts known (value_of g.1.0 p s).after in
     omega arith
 
--- The trees of a node, what it does and what is counted of it.
+-- The trees of a node, its effect and its count.
 abbrev expr_tree : Expr-F E S T → Expr-F Expr Stmt Touch
 expr_tree = map-Expr E S T Expr Stmt Touch (λ p. p.0) (λ p. p.0) (λ p. p.0)
 
@@ -281,7 +281,7 @@ funs_keep now me (f ∷ fs) known counted keep =
     funs_keep now me fs (known ++ fun_of now me known f ∷ []) (counted ++ body_outs f.body counted ∷ []) (one_more FunSends known counted _ _ keep
     (λ arrays vs s. body_keeps f.body (record { now = now; me = me; arrays = arrays; funs = known }) counted keep (record s { locals = begun_with vs f.locals; answer = nothing })))
 
--- What a handler sends out is at most what is counted of its body, behind all functions.
+-- A handler sends at most the outs that are counted for its body, after all functions.
 pub handler_keeps : (h : HandlerDef) (parts : CoreParts) (cells : List (List ℕ)) (now me : ℕ) (args : List ℕ) →
     length (handled (Some h) parts cells now me args).after.outs ≤ body_outs h.body (funs_outs [] parts.funs)
 handler_keeps h parts cells now me args =

@@ -1,4 +1,4 @@
--- In a body whose widths agree, whose texts are filled and whose returns stand last, each node keeps the state fine, if its parts do.
+-- In a body whose widths agree, whose texts are filled and whose returns are last, each node keeps the state fine, if its parts do.
 use Rattle.std.proofs.Common.{◌≡◌, ℕ, suc, List, [], ◌∷◌, ◌++◌, Bool, true, false, ◌&&◌, ◌||◌, if◌then◌else◌, length, map, Option, None, Some, refl, sym, ap, subst, ◌∙◌, nat_eq, slice_get, slice_index_or, slice_set, option_map, option_to_list}
 use Rattle.std.specs.List.{list_all}
 use Rattle.std.specs.Option.{option_eq}
@@ -91,7 +91,7 @@ module _ (asked : Asked) (core : CoreParts) (s : Scope) (p : Frame) (stands : St
   abbrev given_trees : List (ℕ × E) → List (ℕ × Expr)
   given_trees gs = map (λ (g : ℕ × E). (g.0, g.1.0)) gs
 
-  -- Arguments of a call that has its body put in fit the locals that are to hold them.
+  -- Arguments of an inlined call fit the locals that are to hold them.
   given_fit : (gs : List (ℕ × E)) →
       Texts (map (λ (g : ℕ × Printed). g.1) (map (λ (g : ℕ × Expr). (g.0, expr_prints g.1)) (given_trees gs))) →
       all_last (map (λ (g : ℕ × Returns). g.1) (map (λ (g : ℕ × Expr). (g.0, expr_returns g.1)) (given_trees gs))) ≡ true →
@@ -124,7 +124,7 @@ module _ (asked : Asked) (core : CoreParts) (s : Scope) (p : Frame) (stands : St
       let next = block_fits es text.1 end.1 rule.2.0 rule.2.1 a alone.1 (given || first) (effect_of e.0 p old).after ran in
       or_later asked core s.locals given first (r.block_returns (map stmt_returns (stmts es))).always a _ next
 
-  -- The trees of a node, and what its steps make of them.
+  -- The trees of a node, and the results of its steps for them.
   abbrev pub expr_tree : Expr-F E S T → Expr-F Expr Stmt Touch
   expr_tree = map-Expr E S T Expr Stmt Touch (λ e. e.0) (λ e. e.0) (λ e. e.0)
 

@@ -1,4 +1,4 @@
--- What the widths of a node say of its parts.
+-- The meaning of the widths of a node for its parts.
 use Rattle.std.proofs.Common.{◌≡◌, ℕ, List, [], ◌∷◌, ◌++◌, Bool, true, false, ◌&&◌, if◌then◌else◌, map, take, Option, None, Some, refl, sym, ap, subst, ◌∙◌, slice_get, nat_eq, option_map, option_to_list}
 use Rattle.std.specs.List.{list_all, list_any}
 use Rattle.std.specs.Option.{option_eq, is_some}
@@ -37,7 +37,7 @@ option_eq_self : (a : Answer) → option_eq nat_eq a a ≡ true
 option_eq_self None = refl
 option_eq_self (Some w) = eq-eqb w w refl
 
--- What is answered is what each return gives; and where it is a value, some return gives one.
+-- The answer is that of each return; and if it is a value, some return has one.
 only_answer : (rs : List Answer) (a : Answer) → one_answer rs ≡ Some a → (list_all (option_eq nat_eq a) rs ≡ true) × ((w : ℕ) → a ≡ Some w → list_any is_some rs ≡ true)
 only_answer [] a h = (refl, λ w e. absurd (cc))
 only_answer (r ∷ rs) a h =

@@ -28,12 +28,12 @@ widths-set [] i v h = absurd (cc)
 widths-set (u ∷ vs) zero v h = cc
 widths-set (u ∷ vs) (suc i) v h = ap (λ (ws : List ℕ). u.width ∷ ws) (widths-set vs i v h)
 
--- Each local that is to be held has the width of what it is to hold.
+-- Each local has the width of its new value.
 abbrev pub HeldFit : List ℕ → List (ℕ × Bits) → Type 0
 HeldFit locals [] = Unit {0}
 HeldFit locals (h ∷ hs) = (slice_get locals h.0 ≡ Some h.1.width) × HeldFit locals hs
 
--- Locals keep their widths when they are to hold what fits them.
+-- Locals keep their widths when they get values that fit them.
 pub widths-holding : (locals : List ℕ) (hs : List (ℕ × Bits)) (vs : List Bits) → HeldFit locals hs → widths vs ≡ locals → widths (holding vs hs) ≡ locals
 widths-holding locals [] vs fit e = e
 widths-holding locals (h ∷ hs) vs fit e =
@@ -86,7 +86,7 @@ params_are_few [] id params h all = absurd (cc)
 params_are_few (d ∷ ds) zero params h all = let same : d.params ≡ params = cc in ap (λ (ws : List ℕ). nat_le (length ws) 8) (sym same) ∙ (and_parts _ _ all).0
 params_are_few (d ∷ ds) (suc id) params h all = params_are_few ds id params h (and_parts _ _ all).1
 
--- What all of a list pass, each passes.
+-- A test of all of a list holds for each.
 pub passes_at : {A : Type 0} (test : A → Bool) (xs : List A) (i : ℕ) (x : A) → list_all test xs ≡ true → slice_get xs i ≡ Some x → test x ≡ true
 passes_at test [] i x all h = absurd (cc)
 passes_at test (y ∷ ys) zero x all h = let e : y ≡ x = cc in ap test (sym e) ∙ (and_parts _ _ all).0

@@ -1,4 +1,4 @@
--- The width that is read off an expression is what the typing rules answer.
+-- The width that is read off an expression is the answer of the typing rules.
 use Rattle.std.proofs.Common.{◌≡◌, ℕ, List, [], ◌∷◌, ◌++◌, Option, None, Some, map, refl, sym, ap, subst, ◌∙◌, nat_eq}
 use Rattle.std.specs.List.{list_all}
 use Rattle.std.specs.Option.{option_and_then, option_eq, option_or}

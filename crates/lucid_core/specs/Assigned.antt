@@ -1,4 +1,5 @@
--- Definite assignment: a local that is no parameter is read only after an assignment of it that stands earlier in the same block or in a block round it.
+-- Definite assignment: a local that is no parameter is read only after an assignment of it earlier in the same block or in an enclosing
+-- block.
 use Rattle.std.specs.Prelude.{ℕ, List, [], ◌∷◌, ◌++◌, Bool, true, ◌&&◌, map, take}
 use Rattle.std.specs.List.{list_all}
 use Rattle.lucid_core.specs.declared.body.Expr.{Expr}
@@ -11,7 +12,8 @@ use Rattle.lucid_core.specs.Parts.{CoreParts}
 use Rattle.lucid_core.specs.Numbers.{is_in, places}
 use Rattle.lucid_core.specs.Events.{event_params}
 
--- Of a part of a body: whether it reads only what is assigned, given the locals assigned before it, and the locals that it assigns for what follows in its block.
+-- For a part of a body: whether it reads only assigned locals, given those assigned before it, and the locals that it assigns for the
+-- rest of its block.
 pub record Flow : Type 0 where
   pub reads_assigned : List ℕ → Bool
   pub assigns : List ℕ

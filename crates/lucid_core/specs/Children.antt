@@ -1,5 +1,5 @@
--- What stands directly in a node of a body: each part once, of an event the delay before the target, whichever is evaluated first.
--- A rule that takes its children from here must not turn on their order.
+-- The direct parts of a node of a body: each part once, of an event the delay before the target, in any order of evaluation. A rule that
+-- takes its children from here must not depend on their order.
 use Rattle.std.specs.Prelude.{[], ◌∷◌, ◌++◌, List, map}
 use Rattle.std.specs.Option.{option_to_list}
 use Rattle.lucid_core.specs.declared.body.Expr.TheOpen.{Expr-F, Stmt-F, Touch-F}

@@ -1,4 +1,4 @@
--- What a body does to the state: computations, and how they follow one another.
+-- The effect of a body on the state: computations, and their sequence.
 use Rattle.std.specs.Prelude.{ℕ, List, [], ◌∷◌, ◌++◌, Bool, true, false, length, map, drop, slice_index}
 use Rattle.lucid_base.specs.Bits.{bits_of}
 use Rattle.lucid_base.specs.declared.array.ArrayName.{ArrayName}
@@ -8,24 +8,24 @@ use Rattle.lucid_base.specs.declared.event.Out.{Out}
 use Rattle.lucid_base.specs.Cells.{cell_at, with_cell}
 use Rattle.lucid_core.specs.Values.{nothing}
 
--- The cells by array, the outs so far, the locals of the running body, and what it answers.
+-- The cells by array, the outs so far, the locals of the running body, and its answer.
 pub record State : Type 0 where
   pub cells : List (List ℕ)
   pub outs : List Out
   pub locals : List Bits
   pub answer : Bits
 
--- What a run gives, the state after it, and the numbers of the arrays that it calls, in order.
+-- The result of a run, the state after it, and the numbers of the arrays that it calls, in order.
 pub record Ran (A : Type 0) : Type 0 where
   pub gives : A
   pub after : State
   pub calls : List ℕ
 
--- What a function does, given arrays and arguments.
+-- The effect of a function, given arrays and arguments.
 abbrev pub Fun : Type 0
 Fun = List ℕ → List Bits → State → Ran Bits
 
--- Where a body runs: the tick, the switch, the arrays that its array parameters stand for, and the functions before it.
+-- The context of a body: the tick, the switch, the arrays passed for its array parameters, and the functions before it.
 pub record Frame : Type 0 where
   pub now : ℕ
   pub me : ℕ
@@ -71,12 +71,12 @@ abbrev pub array_of : List ℕ → ArrayName → ℕ
 array_of arrays (Global a) = a
 array_of arrays (Param i) = slice_index arrays i
 
--- A call of an array: it answers and stores by what the cell held.
+-- A call of an array: it answers and stores by the old value of the cell.
 abbrev pub touched : ArrayName → ℕ → (ℕ → Bits) → (ℕ → Bits) → Computation Bits
 touched name i answer store = λ p s. let a = array_of p.arrays name in let old = cell_at s.cells a i in
     record { gives = answer old; after = record s { cells = with_cell s.cells a i (store old).value }; calls = a ∷ [] }
 
--- A body on locals of its own and with an answer of its own, which is what it gives.
+-- A body on locals of its own and with an answer of its own, which is its result.
 abbrev pub called : List Bits → Effect → Computation Bits
 called locals body = λ p s. let ran = body p (record s { locals = locals; answer = nothing }) in
     record { gives = ran.after.answer; after = record ran.after { locals = s.locals; answer = s.answer }; calls = ran.calls }

@@ -126,6 +126,6 @@ with_handler ss = program bumps (ss ++ handles)
 abbrev pub flat : List Stmt → CoreParts
 flat ss = record small { funs = []; handlers = handler ss ∷ [] }
 
--- A call with its body put in: local 2 holds its parameter.
+-- An inlined call: local 2 holds its parameter.
 abbrev pub bump_put_in : Expr
 bump_put_in = inlined ((2, local 0) ∷ []) (return (Some (update (Global 0) (local 2) plus)) ∷ [])

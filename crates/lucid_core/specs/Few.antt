@@ -1,4 +1,4 @@
--- Hashes have at most 9 operands and prints at most 8: the limits that whoever builds a body may test once, of the whole body.
+-- Hashes have at most 9 operands and prints at most 8: limits that the builder of a body may test once, for the whole body.
 use Rattle.std.specs.Prelude.{List, Bool, ◌&&◌, length, map, nat_le}
 use Rattle.lucid_core.specs.declared.body.Expr.{Expr}
 use Rattle.lucid_core.specs.declared.body.Stmt.{Stmt}

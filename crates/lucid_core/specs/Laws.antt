@@ -15,7 +15,7 @@ use Rattle.lucid_core.specs.Scope.{Scope, fun_scope, handler_scope}
 use Rattle.lucid_core.specs.Step.{Entry, after, handler_of, outs, step, steps}
 use Rattle.lucid_core.specs.Typing.{answer_of}
 
--- What an event's handler sends out fits the program, and is at most 8 outs, of at most 8 numbers each; also where the event doesn't fit.
+-- The outs of an event's handler fit the program, and are at most 8, of at most 8 numbers each; also if the event does not fit.
 pub record OutsFit (parts : CoreParts) : Type 0 where
   pub each : (cells : List (List ℕ)) (now me : ℕ) (event : Event) → All (λ out. IsTrue (out_fits parts out)) (step parts cells now me event).outs
   pub small : (cells : List (List ℕ)) (now me : ℕ) (event : Event) → All (λ out. length (carried out) ≤ 8) (step parts cells now me event).outs
@@ -31,7 +31,8 @@ pub record CellsStayFit (parts : CoreParts) : Type 0 where
 abbrev pub OutsAreOfSteps : CoreParts → Type 0
 OutsAreOfSteps parts = (entries : List Entry) (j : ℕ) → slice_index_or (steps parts entries).outs j [] ≡ outs parts entries j
 
--- An expression that answers width w in this scope, and in which returns stand last, gives a value of width w in this frame, where the locals have their widths.
+-- An expression that answers width w in this scope, and in which returns are last, has a value of width w in this frame, if the locals
+-- have their widths.
 abbrev pub GivesItsWidth : Scope → Frame → Type 0
 GivesItsWidth scope frame = (e : Expr) (w : ℕ) (s : State) → answer_of e scope ≡ Some (Some w) → (expr_returns e).last ≡ true → map (λ v. v.width) s.locals ≡ scope.locals →
     (value_of e frame s).gives.width ≡ w
@@ -40,14 +41,15 @@ GivesItsWidth scope frame = (e : Expr) (w : ℕ) (s : State) → answer_of e sco
 abbrev pub AnswersItsWidth : FunDef → Fun → Type 0
 AnswersItsWidth f g = (arrays : List ℕ) (vs : List Bits) (w : ℕ) (s : State) → map (λ v. v.width) vs ≡ take f.params f.locals → f.answer ≡ Some w → (g arrays vs s).gives.width ≡ w
 
--- The width that the typing rules give is the width of the value, in the body of each handler and of each function, and of what each function answers.
+-- The width by the typing rules is the width of the value, in the body of each handler and of each function, and of the answer of each
+-- function.
 pub record WidthsAreStatic (parts : CoreParts) : Type 0 where
   pub handlers : (h : HandlerDef) (now me : ℕ) → GivesItsWidth (handler_scope parts h) (record { now = now; me = me; arrays = []; funs = funs_of now me parts.funs })
   pub funs : (k : ℕ) (f : FunDef) → slice_get parts.funs k ≡ Some f → (now me : ℕ) (arrays : List ℕ) →
       GivesItsWidth (fun_scope parts (take k parts.funs) f) (record { now = now; me = me; arrays = arrays; funs = funs_of now me (take k parts.funs) })
   pub answers : (k : ℕ) (f : FunDef) → slice_get parts.funs k ≡ Some f → (now me : ℕ) → AnswersItsWidth f (fun_of now me (funs_of now me (take k parts.funs)) f)
 
--- An event has one handler: each handler is that of its event, no two are of one event, and what is an event's handler is one of it.
+-- An event has one handler: each handler is that of its event, no two are of one event, and an event's handler is one of them.
 pub record OneHandler (parts : CoreParts) : Type 0 where
   pub own : (k : ℕ) (h : HandlerDef) → slice_get parts.handlers k ≡ Some h → handler_of parts h.event ≡ Some h
   pub one : (j k : ℕ) (g h : HandlerDef) → slice_get parts.handlers j ≡ Some g → slice_get parts.handlers k ≡ Some h → g.event ≡ h.event → j ≡ k

@@ -22,7 +22,8 @@ pub record Measure : Type 0 where
   pub ops : Around → ℕ
   pub needs_move : Bool
 
--- A statement: how many ops it becomes, the locals that it assigns for what follows in its block, all those that it assigns, and whether it returns on some path, and with a value.
+-- A statement: the number of its ops, the locals that it assigns for the rest of its block, all those that it assigns, and whether it
+-- returns on some path, and with a value.
 pub record Piece : Type 0 where
   pub ops : Around → ℕ
   pub sets : ℕ → Bool
@@ -82,7 +83,7 @@ expr_step (Expr-F.Inlined given ss) = measured true (λ a. total_ops (map (λ g.
 abbrev pub touch_step : Touch-F Measure Piece Measure → Measure
 touch_step t = measured false (λ a. t.index.ops a + t.get_arg.ops a + t.set_arg.ops a + 1)
 
--- What becomes of something that neither assigns nor returns.
+-- The piece of a form that neither assigns nor returns.
 abbrev pub plainly : (Around → ℕ) → Piece
 plainly ops = record { ops = ops; sets = λ i. false; changes = λ i. false; returns = false; value = false }
 

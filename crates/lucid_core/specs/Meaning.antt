@@ -1,5 +1,5 @@
--- What expressions and statements mean: each is an act, by recursion on the tree. A return sets the answer and ends nothing by itself:
--- in a valid program nothing of the body stands behind it.
+-- The meaning of expressions and statements: each is an act, by recursion on the tree. A return sets the answer and does not jump: in a
+-- valid program nothing of the body follows it.
 use Rattle.std.specs.Prelude.{ℕ, List, [], ◌∷◌, ◌++◌, Option, None, Some, if◌then◌else◌}
 use Rattle.std.specs.Prelude.{nat_eq, map, fold, slice_get, slice_index_or, slice_set}
 use Rattle.std.specs.Option.{option_map_or}
@@ -18,7 +18,7 @@ use Rattle.lucid_core.specs.declared.defs.FunDef.{FunDef}
 use Rattle.lucid_core.specs.Computations.{Computation, Effect, Fun, give, ◌>>=◌, all, block, both, change, send, array_of, touched, called, begun_with}
 use Rattle.lucid_core.specs.Values.{nothing, unary, binary, comparison, hashed, memop, numbers}
 
--- What arguments give, from left to right, with the locals that are to hold them.
+-- The values of arguments, from left to right, with the locals that are to hold them.
 abbrev pub all_given : List (ℕ × Computation Bits) → Computation (List (ℕ × Bits))
 all_given given = all (map (λ g. do v ← g.1; give (g.0, v)) given)
 
@@ -26,7 +26,7 @@ all_given given = all (map (λ g. do v ← g.1; give (g.0, v)) given)
 abbrev pub holding : List Bits → List (ℕ × Bits) → List Bits
 holding locals held = fold (λ vs h. slice_set vs h.0 h.1) locals held
 
--- What function k gives, and nothing where it isn't there.
+-- The result of function k, and nothing if it does not exist.
 abbrev pub call : ℕ → List ℕ → List Bits → Computation Bits
 call k arrays vs = λ p. option_map_or (λ f. f arrays vs) (slice_get p.funs k) (give nothing p)
 
@@ -44,11 +44,11 @@ expr_step (Expr-F.Array t) = t
 expr_step (Expr-F.Fun k names xs) = do vs ← all xs; λ p. call k (map (array_of p.arrays) names) vs p
 expr_step (Expr-F.Inlined given ss) = do held ← all_given given; λ p s. called (holding s.locals held) (block ss) p s
 
--- Both memops see what the cell held.
+-- Both memops see the old value of the cell.
 abbrev pub touch_step : Touch-F (Computation Bits) Effect (Computation Bits) → Computation Bits
 touch_step t = do i ← t.index; g ← t.get_arg; v ← t.set_arg; touched t.array i.value (λ old. memop t.get old g) (λ old. memop t.set old v)
 
--- What an operand gives that may be left out, and what stands for it then.
+-- The value of an operand that may be left out, and its default.
 abbrev pub optional : {A : Type 0} → A → (ℕ → A) → Option (Computation Bits) → Computation A
 optional absent given None = give absent
 optional absent given (Some x) = do v ← x; give (given v.value)
@@ -88,6 +88,6 @@ abbrev pub fun_of : ℕ → ℕ → List Fun → FunDef → Fun
 fun_of now me before f arrays vs =
     called (begun_with vs f.locals) (block (map effect_of f.body)) (record { now = now; me = me; arrays = arrays; funs = before })
 
--- What functions do, in the order of their declarations.
+-- The effects of functions, in the order of their declarations.
 abbrev pub funs_of : ℕ → ℕ → List FunDef → List Fun
 funs_of now me fs = fold (λ before f. before ++ fun_of now me before f ∷ []) [] fs

@@ -9,7 +9,7 @@ is_in xs n = list_any (nat_eq n) xs
 abbrev pub are_in : List ℕ → List ℕ → Bool
 are_in xs ns = list_all (is_in xs) ns
 
--- No number stands there twice.
+-- No number occurs twice.
 abbrev pub are_distinct : List ℕ → Bool
 are_distinct [] = true
 are_distinct (x ∷ xs) = not (is_in xs x) && are_distinct xs

@@ -1,4 +1,4 @@
--- What a program is made of. Contracts see a `Core` and a `Flat` as their parts; those of a `Flat` have no functions.
+-- The parts of a program. Contracts see a `Core` and a `Flat` as their parts; those of a `Flat` have no functions.
 use Rattle.std.specs.Prelude.{ℕ, List}
 use Rattle.lucid_base.specs.declared.array.ArrayDef.{ArrayDef}
 use Rattle.lucid_core.specs.declared.defs.MemopDef.{MemopDef}

@@ -1,4 +1,4 @@
--- Where bodies end: a return stands last in its block, and so does an if that returns on some path.
+-- The ends of bodies: a return is last in its block, and so is an if that returns on some path.
 use Rattle.std.specs.Prelude.{List, [], ◌∷◌, Bool, true, false, not, ◌&&◌, ◌||◌, map, is_some}
 use Rattle.std.specs.List.{list_all}
 use Rattle.lucid_core.specs.declared.body.Expr.{Expr}
@@ -9,15 +9,15 @@ use Rattle.lucid_core.specs.declared.body.Expr.TheFolds.{fold-Expr, fold-Stmt, f
 use Rattle.lucid_core.specs.Children.{expr_children, stmt_children, touch_children}
 use Rattle.lucid_core.specs.Parts.{CoreParts}
 
--- Of a statement or a block: whether it returns on some path, whether it returns a value on some path, whether it returns on every path,
--- and whether each return in it stands last in its block.
+-- For a statement or a block: whether it returns on some path, whether it returns a value on some path, whether it returns on every path,
+-- and whether each return in it is last in its block.
 pub record Returns : Type 0 where
   pub some : Bool
   pub value : Bool
   pub always : Bool
   pub last : Bool
 
--- What doesn't return, made of these.
+-- The returns of a form that does not return itself, made of these.
 abbrev pub goes_on : List Returns → Returns
 goes_on parts = record { some = false; value = false; always = false; last = list_all (λ r. r.last) parts }
 

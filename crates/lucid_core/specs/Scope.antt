@@ -1,4 +1,4 @@
--- What a body stands in, and tests that depend on it.
+-- The scope of a body, and tests that depend on it.
 use Rattle.std.specs.Prelude.{ℕ, List, [], ◌∷◌, ◌++◌, Bool, true, ◌&&◌, map}
 use Rattle.std.specs.List.{list_all}
 use Rattle.lucid_core.specs.declared.defs.FunDef.{FunDef}
@@ -6,8 +6,8 @@ use Rattle.lucid_core.specs.declared.defs.HandlerDef.{HandlerDef}
 use Rattle.lucid_core.specs.declared.body.Stmt.{Stmt}
 use Rattle.lucid_core.specs.Parts.{CoreParts}
 
--- What a body may name: the cell widths of the declared arrays and of its array parameters, the widths of its locals,
--- the widths of each event's parameters, the texts, and the functions before it.
+-- The names of a body: the cell widths of the declared arrays and of its array parameters, the widths of its locals, the widths of each
+-- event's parameters, the texts, and the functions before it.
 pub record Scope : Type 0 where
   pub arrays : List ℕ
   pub params : List ℕ

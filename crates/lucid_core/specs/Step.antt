@@ -1,4 +1,4 @@
--- The whole step: what an event does when its handler runs whole, and what a list of events does, one after another.
+-- The whole step: the effect of an event whose handler runs whole, and that of a list of events, one after another.
 use Rattle.std.specs.Prelude.{ℕ, List, [], ◌∷◌, ◌++◌, Option, None, Some, fold, map, take, zip, slice_get}
 use Rattle.std.specs.Option.{option_and_then, option_map_or}
 use Rattle.lucid_base.specs.Bits.{bits_of}
@@ -32,12 +32,12 @@ handled (Some h) parts cells now me args = let locals = begun_with (taken_at h.l
 abbrev pub ran : CoreParts → List (List ℕ) → ℕ → ℕ → Event → Ran (Unit {0})
 ran parts cells now me event = handled (handler_of parts event.id) parts cells now me event.args
 
--- New cells, and what is sent out, in order.
+-- New cells, and the outs, in order.
 pub record Stepped : Type 0 where
   pub cells : List (List ℕ)
   pub outs : List Out
 
--- What an event does at switch `me` that enters at tick `now`.
+-- The effect of an event that enters switch `me` at tick `now`.
 abbrev pub step : CoreParts → List (List ℕ) → ℕ → ℕ → Event → Stepped
 step parts cells now me event = let after = (ran parts cells now me event).after in record { cells = after.cells; outs = after.outs }
 
@@ -69,6 +69,6 @@ steps parts entries = fold (one_more parts) (record { cells = zero_cells parts.a
 abbrev pub after : CoreParts → List Entry → ℕ → List (List ℕ)
 after parts entries n = (steps parts (take n entries)).cells
 
--- The outs of event j: what it sends out on the cells after the events before it. None where there is no such event.
+-- The outs of event j: those on the cells after the events before it. None if there is no such event.
 abbrev pub outs : CoreParts → List Entry → ℕ → List Out
 outs parts entries j = option_map_or (λ e. (step parts (after parts entries j) e.now e.me e.event).outs) (slice_get entries j) []

@@ -1,4 +1,4 @@
--- Which forms stand in a core and which in a flat core.
+-- The forms of a core and of a flat core.
 use Rattle.std.specs.Prelude.{Bool, false, ◌&&◌}
 use Rattle.std.specs.List.{list_all}
 use Rattle.lucid_core.specs.declared.body.Expr.{Expr}
@@ -13,7 +13,7 @@ use Rattle.lucid_core.specs.Parts.{CoreParts}
 abbrev pub touch_step : Touch-F Bool Bool Bool → Bool
 touch_step t = all_hold (touch_children t)
 
--- No call has its body put in.
+-- No call is inlined.
 abbrev pub not_inlined : Expr-F Bool Bool Bool → Bool
 not_inlined (Expr-F.Inlined given ss) = false
 not_inlined e = all_hold (expr_children e)
@@ -30,7 +30,7 @@ is_core_stmt = fold-Stmt Bool Bool Bool not_inlined any_stmt touch_step
 abbrev pub is_core_touch : Touch → Bool
 is_core_touch = fold-Touch Bool Bool Bool not_inlined any_stmt touch_step
 
--- Each call has its body put in, and each group its members.
+-- Each call is inlined, and each group is replaced by its members.
 abbrev pub not_call : Expr-F Bool Bool Bool → Bool
 not_call (Expr-F.Fun k names xs) = false
 not_call e = all_hold (expr_children e)

@@ -10,7 +10,7 @@ use Rattle.lucid_core.specs.declared.body.Expr.TheFolds.{fold-Expr, fold-Stmt, f
 use Rattle.lucid_core.specs.Children.{expr_children, stmt_children, touch_children}
 use Rattle.lucid_core.specs.Parts.{CoreParts}
 
--- How often `%d` stands in a text; 37 is '%' and 100 is 'd'.
+-- The number of `%d` in a text; 37 is '%' and 100 is 'd'.
 abbrev pub holes_of : List ℕ → ℕ
 holes_of [] = 0
 holes_of (a ∷ []) = 0

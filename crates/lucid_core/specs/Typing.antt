@@ -14,11 +14,11 @@ use Rattle.lucid_core.specs.declared.defs.FunDef.{FunDef}
 use Rattle.lucid_core.specs.Parts.{CoreParts}
 use Rattle.lucid_core.specs.Scope.{Scope, fun_scope, handler_scope, funs_pass}
 
--- What a call or an expression gives: the width of its value, or None where it gives no value.
+-- The answer of a call or an expression: the width of its value, or None if it has no value.
 abbrev pub Answer : Type 0
 Answer = Option ℕ
 
--- What is known of a part in a scope; None where its widths don't agree.
+-- The type of a part in a scope; None if its widths don't agree.
 abbrev pub Typed : Type 0 → Type 0
 Typed A = Scope → Option A
 
@@ -40,7 +40,7 @@ same = pointwise nat_eq
 abbrev pub value : Typed Answer → Typed ℕ
 value x s = x s >>= (λ answer. answer)
 
--- What is known of each of these, in order.
+-- The types of these, in order.
 abbrev pub all_typed : {A : Type 0} → List (Typed A) → Typed (List A)
 all_typed [] s = Some []
 all_typed (x ∷ xs) s = do
@@ -151,11 +151,11 @@ stmt_step (Stmt-F.Return (Some x)) s = do
   w ← value x s
   Some (Some w ∷ [])
 
--- What an expression gives.
+-- The answer of an expression.
 abbrev pub answer_of : Expr → Typed Answer
 answer_of = fold-Expr (Typed Answer) (Typed (List Answer)) (Typed Answer) expr_step stmt_step touch_step
 
--- What the returns in a statement give; those in an `Inlined` are its own.
+-- The answers of the returns in a statement; those in an `Inlined` are its own.
 abbrev pub returns_of : Stmt → Typed (List Answer)
 returns_of = fold-Stmt (Typed Answer) (Typed (List Answer)) (Typed Answer) expr_step stmt_step touch_step
 

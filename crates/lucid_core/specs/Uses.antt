@@ -1,4 +1,4 @@
--- Which locals a body reads and assigns, and what an `Inlined` may name.
+-- The locals that a body reads and assigns, and the names that an `Inlined` may use.
 use Rattle.std.specs.Prelude.{ℕ, List, [], ◌∷◌, ◌++◌, Bool, ◌&&◌, map, nat_eq, nat_le, drop, length}
 use Rattle.std.specs.List.{list_all, flat_map, count_by}
 use Rattle.lucid_core.specs.declared.body.Expr.{Expr}
@@ -11,8 +11,8 @@ use Rattle.lucid_core.specs.Parts.{CoreParts}
 use Rattle.lucid_core.specs.Events.{event_params}
 use Rattle.lucid_core.specs.Numbers.{are_in, places}
 
--- An `Inlined`: the locals that it assigns, its parameters among them, those that its statements read, and all of these, each as often as it is.
--- Its arguments stand outside it.
+-- An `Inlined`: the locals that it assigns, its parameters among them, those that its statements read, and all of these, each as often as
+-- it occurs. Its arguments are outside it.
 pub record Inlining : Type 0 where
   pub assigns : List ℕ
   pub reads : List ℕ
@@ -82,8 +82,8 @@ locals_are_assigned parts =
 abbrev pub times_in : List ℕ → ℕ → ℕ
 times_in xs n = count_by (nat_eq n) xs
 
--- The locals that an `Inlined` assigns are no parameters of the handler, which has so many, and are named nowhere outside it;
--- its statements read no others.
+-- The locals that an `Inlined` assigns are no parameters of the handler, which has this many, and are named nowhere outside it; its
+-- statements read no others.
 abbrev pub keeps_to_itself : ℕ → List ℕ → Inlining → Bool
 keeps_to_itself params body i = list_all (λ n. nat_le params n && nat_eq (times_in body n) (times_in i.names n)) i.assigns && are_in i.assigns i.reads
 

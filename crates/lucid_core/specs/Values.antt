@@ -1,5 +1,5 @@
--- What operations make of values. The second operand of an operation, and what a memop is given, are taken at the width of the first and of the memop;
--- in a valid core they have it.
+-- The results of operations on values. The second operand of an operation, and the arguments of a memop, are taken at the width of the
+-- first and of the memop; in a valid core they have it.
 use Rattle.std.specs.Prelude.{ℕ, List, map}
 use Rattle.lucid_base.specs.Bits.{bits_of}
 use Rattle.lucid_base.specs.Bool.{bit_of}
@@ -12,7 +12,7 @@ use Rattle.lucid_base.specs.declared.ops.BinOp.{BinOp}
 use Rattle.lucid_base.specs.declared.ops.CmpOp.{CmpOp}
 use Rattle.lucid_base.specs.declared.ops.UnOp.{UnOp}
 
--- What stands where no value is given.
+-- The value if none is given.
 abbrev pub nothing : Bits
 nothing = bits_of 1 0
 
@@ -32,6 +32,6 @@ numbers vs = map (λ v. v.value) vs
 abbrev pub hashed : ℕ → List Bits → Bits
 hashed w vs = bits_of w (hash_of w (numbers vs))
 
--- What a memop gives of a stored number and an argument.
+-- The result of a memop for a stored number and an argument.
 abbrev pub memop : MemAlu → ℕ → Bits → Bits
 memop m stored arg = memop_value m stored arg.value

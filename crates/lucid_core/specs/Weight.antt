@@ -1,4 +1,4 @@
--- How deep the bodies of functions are, all together: what falls where a function calls one before it.
+-- The depth of the bodies of functions, all together: it falls when a function calls an earlier one.
 use Rattle.std.specs.Prelude.{ℕ, ◌+◌, List, [], ◌∷◌}
 use denote.Param.Weighed.{most}
 use Rattle.lucid_core.specs.declared.body.Expr.TheViews.{size-Stmt}

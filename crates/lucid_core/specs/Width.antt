@@ -1,4 +1,4 @@
--- The width of what an expression gives, read off the expression alone. Where widths agree it is what the typing rules give.
+-- The width of an expression's value, read off the expression alone. If widths agree it is that of the typing rules.
 use Rattle.std.specs.Prelude.{ℕ, List, [], ◌∷◌, Option, None, Some, if◌then◌else◌, slice_get}
 use Rattle.std.specs.Option.{option_and_then, option_or}
 use Rattle.lucid_core.specs.declared.body.Expr.{Expr}
@@ -13,7 +13,7 @@ use Rattle.lucid_core.specs.Typing.{Answer}
 abbrev pub Read : Type 0 → Type 0
 Read A = List ℕ → List FunDef → A
 
--- What the first return gives, if there is one.
+-- The width of the first return, if there is one.
 abbrev pub first_of : List (Read (Option Answer)) → Read (Option Answer)
 first_of [] = λ locals funs. None
 first_of (s ∷ ss) = λ locals funs. option_or (s locals funs) (first_of ss locals funs)

@@ -1,4 +1,4 @@
--- What each rule asks of an expression or a call of an array, given that its parts keep it.
+-- Each rule for an expression or a call of an array, given that its parts keep it.
 use Rattle.std.proofs.Common.{◌≡◌, ℕ, suc, ◌≤◌, List, [], ◌∷◌, ◌++◌, None, Some, Bool, true, false, not, ◌&&◌, ◌||◌, if◌then◌else◌, is_some, length, map, take, arith, nat_eq, nat_le, refl, sym, ap, subst, ◌∙◌}
 use Rattle.std.specs.List.{list_all}
 use Rattle.std.specs.Option.{option_eq}
@@ -35,7 +35,7 @@ use Rattle.lucid_core_laws.specs.Keeps.{Keeps, KeepsExpr, KeepsTouch, KeepsBlock
 use Rattle.lucid_core_laws.specs.Place.{Place, behind}
 use Rattle.lucid_core_laws.proofs.Parts.{ListedGiven, arguments, arrays_are_there, array_is_there, both_lists, is_below, just, listed, listed_given, of_both, pair, same_width, same_widths}
 
--- What the rules make of a node, by what they make of its parts.
+-- The results of the rules for a node, by their results for its parts.
 abbrev AtExpr : Place → Answer → Expr-F Expr Stmt Touch → Type 0
 AtExpr p a y = Keeps p a
     (names.expr_step (map-Expr Expr Stmt Touch Test Test Test expr_names stmt_names touch_names y))
@@ -101,7 +101,7 @@ hash_limit n m k few limits e f h g =
     let least : 1 ≤ n = omega (arith, e) in
     and_from _ _ (and_from _ _ (le-leb 1 n least) (ap (λ x. nat_le x 9) (sym f) ∙ parts.0)) (h parts.1)
 
--- ---- a call whose body is put in
+-- ---- an inlined call
 
 answer_is : (a b : Answer) → option_eq nat_eq a b ≡ true → b ≡ a
 answer_is None None h = refl

@@ -1,4 +1,4 @@
--- Which locals the calls of a body name whose bodies are put in, part by part.
+-- The locals that the inlined calls of a body name, part by part.
 use Rattle.std.proofs.Common.{◌≡◌, ◌⊎◌, inl, inr, ℕ, ◌+◌, ◌<◌, ◌≤◌, List, [], ◌∷◌, ◌++◌, Bool, true, false, cond, ◌&&◌, refl, sym, ap, subst, ◌∙◌, arith, nat_eq, nat_le}
 use Rattle.std.specs.List.{list_all}
 use Rattle.std.proofs.lemmas.Bool.{and_from, cases_lt, cases_Bool, eqb-false, eq-eqb, le-leb, ne_eqb, or_left, or_right}
@@ -19,7 +19,7 @@ times-none y ys x ne = times-cons y ys x ∙ ap (λ (b : Bool). cond b 1 0 + tim
 times-one : (y : ℕ) (ys : List ℕ) (x : ℕ) → x ≡ y → times_in (y ∷ ys) x ≡ 1 + times_in ys x
 times-one y ys x e = times-cons y ys x ∙ ap (λ (b : Bool). cond b 1 0 + times_in ys x) (eq-eqb x y e)
 
--- What is there at least once is in the list.
+-- A number that occurs at least once is in the list.
 is_in-from : (xs : List ℕ) (x : ℕ) → 0 < times_in xs x → is_in xs x ≡ true
 is_in-from [] x h = absurd (omega arith)
 is_in-from (y ∷ ys) x h = either (cases_Bool (nat_eq x y)) (is_in-from ys x)
@@ -28,7 +28,7 @@ is_in-from (y ∷ ys) x h = either (cases_Bool (nat_eq x y)) (is_in-from ys x)
     either (inl e) rest = or_left _ _ e
     either (inr e) rest = or_right _ _ (rest (let n = times-none y ys x (eqb-false x y e) in omega arith))
 
--- Everything in `names` that stands there is in `known`.
+-- Every number in `names` that occurs there is in `known`.
 are_in-from : (known xs : List ℕ) → ((x : ℕ) → 0 < times_in xs x → 0 < times_in known x) → are_in known xs ≡ true
 are_in-from known [] h = refl
 are_in-from known (y ∷ ys) h = and_from _ _
@@ -39,7 +39,7 @@ keep_both : (lo hi : ℕ) (count : ℕ → ℕ) (is js : List Inlining) → AllK
 keep_both lo hi count [] js h k = k
 keep_both lo hi count (i ∷ is) js h k = (h.0, keep_both lo hi count is js h.1 k)
 
--- In a wider range, where what is counted there is the same.
+-- In a wider range, if the counts there are the same.
 keep_wider : (lo hi lo2 hi2 : ℕ) (count count2 : ℕ → ℕ) (is : List Inlining) → lo2 ≤ lo → hi ≤ hi2 → ((a : ℕ) → lo ≤ a → a < hi → count2 a ≡ count a) → AllKeepToThemselves lo hi count is → AllKeepToThemselves lo2 hi2 count2 is
 keep_wider lo hi lo2 hi2 count count2 [] l h e k = tt
 keep_wider lo hi lo2 hi2 count count2 (i ∷ is) l h e k = (
@@ -128,7 +128,7 @@ owns_assign b n lo hi i u h bound k = record {
     outside x e (inl l) = omega arith
     outside x e (inr l) = omega arith
 
--- A call's body put in: its parameters and its statements name only locals from mid on, and assign all of them.
+-- An inlined call: its parameters and its statements name only locals from mid on, and assign all of them.
 owns_inlined : (b n lo mid own hi : ℕ) (args body : Uses) (params : List ℕ) → b + n ≤ lo → Owns b n lo mid args → Owns mid own (mid + own) hi body →
     ((x : ℕ) → (x < mid) ⊎ (mid + own ≤ x) → times_in params x ≡ 0) → ((x : ℕ) → mid ≤ x → x < mid + own → 0 < times_in params x + times_in body.assigns x) →
     Owns b n lo hi (inlining args (assigning params body))

@@ -99,7 +99,7 @@ just p w c x = listed p (w ∷ []) (c ∷ []) (x, tt)
 pub pair : (p : Place) (w v : ℕ) (c d : Expr) → KeepsExpr p (Some w) c → KeepsExpr p (Some v) d → Listed p (w ∷ v ∷ []) (c ∷ d ∷ [])
 pair p w v c d x y = listed p (w ∷ v ∷ []) (c ∷ d ∷ []) (x, (y, tt))
 
--- ---- arguments of a call whose body is put in
+-- ---- arguments of an inlined call
 
 abbrev pub each_given : {A : Type 0} → (Expr → A) → List (ℕ × Expr) → List (ℕ × A)
 each_given {A} f given = map (λ (g : ℕ × Expr). (g.0, f g.1)) given

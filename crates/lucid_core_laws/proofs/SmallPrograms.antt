@@ -92,7 +92,7 @@ flat_body = drop_value bump_put_in ∷ []
 abbrev in_flat : Place
 in_flat = record { scope = handler_scope (flat flat_body) (handler flat_body); known = 0 ∷ 1 ∷ []; flat = true }
 
--- A call of `bump` with its body put in: local 2 holds its parameter.
+-- An inlined call of `bump`: local 2 holds its parameter.
 flat_keeps : KeepsBlock in_flat None Never flat_body
 flat_keeps =
     let inside = behind in_flat (2 ∷ []) in

@@ -1,4 +1,4 @@
--- What each rule asks of a statement or a block, given that its parts keep it.
+-- Each rule for a statement or a block, given that its parts keep it.
 use Rattle.std.proofs.Common.{◌≡◌, ℕ, List, [], ◌∷◌, ◌++◌, Option, None, Some, Bool, true, false, not, ◌&&◌, ◌||◌, length, map, nat_eq, nat_le, refl, sym, ap, ◌∙◌, slice_get, option_to_list}
 use Rattle.std.specs.List.{list_all}
 use Rattle.std.specs.Option.{option_map, option_map_or, option_eq}
@@ -37,7 +37,7 @@ use Rattle.lucid_core_laws.specs.Place.{Place, behind}
 use Rattle.lucid_core_laws.specs.StmtNodes.{IsEvent, StmtNodes}
 use Rattle.lucid_core_laws.proofs.Parts.{both_lists, is_below, joined_parts, just, listed, of_both, same_width, same_widths}
 
--- What the rules make of a statement, by what they make of its parts.
+-- The results of the rules for a statement, by their results for its parts.
 abbrev AtStmt : Place → Answer → Ending → List ℕ → Stmt-F Expr Stmt Touch → Type 0
 AtStmt p a r k y = KeepsRules p a r k
     (names.stmt_step (map-Stmt Expr Stmt Touch Test Test Test expr_names stmt_names touch_names y))
@@ -179,7 +179,7 @@ operands_typed p None None [] (u ∷ us) h k = absurd k
 operands_typed p None (Some y) (v ∷ vs) us h k = absurd h
 operands_typed p (Some x) None vs (u ∷ us) h k = absurd k
 
--- What the rules make of an event, where each operand is what a rule makes of it.
+-- The results of the rules for an event, if each operand is the result of a rule for it.
 abbrev AtGen : Place → Answer → ℕ → List Expr → Option Expr → Option Expr → Bool → Type 0
 AtGen p a event cs delay to first = KeepsRules p a Never []
     (names.stmt_step (Stmt-F.Gen event (map expr_names cs) (option_map expr_names delay) (option_map expr_names to) first))

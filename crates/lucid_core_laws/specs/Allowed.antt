@@ -1,5 +1,5 @@
--- Which forms may stand in a program: in a core calls and groups, in a flat program calls with their bodies put in.
--- It is lucid_core's rule on syntax, of both at once.
+-- The forms of a program: in a core calls and groups, in a flat program inlined calls. It is lucid_core's rule on syntax, for both at
+-- once.
 use Rattle.std.specs.Prelude.{Bool, ◌&&◌, not}
 use Rattle.lucid_core.specs.declared.body.Expr.{Expr}
 use Rattle.lucid_core.specs.declared.body.Stmt.{Stmt}

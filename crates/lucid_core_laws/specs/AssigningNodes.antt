@@ -1,4 +1,4 @@
--- Which locals a block assigns, by its parts: what the rule asks that each local is assigned by some statement of its body.
+-- The locals that a block assigns, by its parts: for the rule that each local is assigned by some statement of its body.
 use Rattle.std.specs.Prelude.{◌≡◌, ℕ, List, ◌∷◌, true}
 use Rattle.lucid_core.specs.declared.body.Expr.{Expr}
 use Rattle.lucid_core.specs.declared.body.Stmt.{Stmt}

@@ -19,7 +19,7 @@ use Rattle.lucid_core.specs.Endings.{on_every_path}
 use Rattle.lucid_core_laws.specs.Keeps.{KeepsExpr, KeepsTouch, KeepsAll, KeepsBlock}
 use Rattle.lucid_core_laws.specs.Place.{Place, behind}
 
--- The arguments of a call with its body put in, each with the local of its width that is to hold it.
+-- The arguments of an inlined call, each with the local of its width that is to hold it.
 abbrev pub KeepsGiven : Place → List ℕ → List (ℕ × Expr) → Type 0
 KeepsGiven p [] [] = Unit {0}
 KeepsGiven p (w ∷ ws) (g ∷ given) = (slice_get p.scope.locals g.0 ≡ Some w) × KeepsExpr p (Some w) g.1 × KeepsGiven p ws given
@@ -42,6 +42,6 @@ pub record ExprNodes : Type 0 where
   -- a call in a core is given arrays and values of its function's widths
   pub call : (p : Place) (k : ℕ) (f : FunDef) (names : List ArrayName) (cs : List Expr) → p.flat ≡ false → slice_get p.scope.funs k ≡ Some f → all_typed (map cell_width names) p.scope ≡ Some f.arrays →
       KeepsAll p (take f.params f.locals) cs → KeepsExpr p f.answer (roll-Expr (Expr-F.Fun k names cs))
-  -- a call in a flat program has its body put in, which stands behind an assignment of its parameters
+  -- a call in a flat program is inlined, and its body follows an assignment of its parameters
   pub inlined : (p : Place) (ws : List ℕ) (given : List (ℕ × Expr)) (a : Answer) (r : Ending) (ss : List Stmt) → p.flat ≡ true → KeepsGiven p ws given →
       KeepsBlock (behind p (map (λ g. g.0) given)) a r ss → (is_some a ≡ true → on_every_path r ≡ true) → KeepsExpr p a (roll-Expr (Expr-F.Inlined given ss))

@@ -1,4 +1,5 @@
--- What calls with their bodies put in may name, part by part: for a body to which inlining adds locals, those of each call in a range of their own.
+-- The names that inlined calls may use, part by part: for a body to which inlining adds locals, those of each call in a range of their
+-- own.
 use Rattle.std.specs.Prelude.{◌≡◌, ◌<◌, ◌≤◌, ◌+◌, ℕ, List, [], ◌∷◌, ◌++◌, ◌⊎◌, true}
 use Rattle.lucid_core.specs.Numbers.{are_in}
 use Rattle.lucid_core.specs.Uses.{Inlining, Uses, all_keep_to_themselves, assigning, inlining, named, times_in}

@@ -1,4 +1,4 @@
--- What the rules of a valid program ask of a part of a body, at its place.
+-- The rules of a valid program for a part of a body, at its place.
 use Rattle.std.specs.Prelude.{◌≡◌, ℕ, List, [], ◌∷◌, Option, None, Some, Bool, true, false, map, nat_eq}
 use Rattle.std.specs.List.{list_all}
 use Rattle.std.specs.Option.{option_eq}
@@ -19,7 +19,7 @@ use Rattle.lucid_core.specs.Endings.{on_some_path, on_every_path}
 use Rattle.lucid_core.specs.Few.{expr_few, stmt_few, touch_few}
 use Rattle.lucid_core_laws.specs.Place.{Place}
 
--- Of what each rule makes of an expression or a call of an array that gives this.
+-- The result of each rule for an expression or a call of an array with this answer.
 pub record Keeps (p : Place) (a : Answer) (names : Test) (answer : Typed Answer) (returns : Returns) (flow : Flow) (few limits : Bool) (texts : Printed) (allowed : Bool) : Type 0 where
   pub named : names p.scope ≡ true
   pub typed : answer p.scope ≡ Some a
@@ -46,7 +46,8 @@ abbrev pub MayKeep : Place → Option Expr → Type 0
 MayKeep p None = Unit {0}
 MayKeep p (Some c) = (w : ℕ) × KeepsExpr p (Some w) c
 
--- Of what each rule makes of a statement whose returns give this, which returns on these paths and assigns these locals for what follows it.
+-- The result of each rule for a statement whose returns have this answer, which returns on these paths and assigns these locals for the
+-- rest.
 pub record KeepsRules (p : Place) (a : Answer) (r : Ending) (k : List ℕ) (names : Test) (answers : Typed (List Answer)) (returns : Returns) (flow : Flow) (few limits : Bool) (texts : Printed) (allowed : Bool) : Type 0 where
   pub named : names p.scope ≡ true
   pub given : List Answer

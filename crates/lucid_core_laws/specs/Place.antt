@@ -1,8 +1,8 @@
--- Where a part of a body stands.
+-- The position of a part of a body.
 use Rattle.std.specs.Prelude.{ℕ, List, ◌++◌, Bool}
 use Rattle.lucid_core.specs.Scope.{Scope}
 
--- What the part may name, the locals that are assigned there, and whether it is a flat program's.
+-- The names that the part may use, the locals that are assigned there, and whether it is in a flat program.
 pub record Place : Type 0 where
   pub scope : Scope
   pub known : List ℕ

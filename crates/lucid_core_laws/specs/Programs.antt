@@ -1,4 +1,4 @@
--- A program whose bodies keep the rules, and what else makes it valid.
+-- A program whose bodies keep the rules, and the other rules of a valid program.
 use Rattle.std.specs.Prelude.{◌≡◌, ℕ, List, [], ◌∷◌, ◌++◌, Some, None, Bool, true, false, is_some, length, nat_eq, nat_le, slice_get, take}
 use Rattle.std.specs.List.{list_all, starts_with}
 use Rattle.lucid_core.specs.declared.defs.EventDef.{EventDef}

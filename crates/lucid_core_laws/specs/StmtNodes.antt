@@ -24,14 +24,14 @@ pub record StmtNodes : Type 0 where
   pub choose : (p : Place) (a : Answer) (r q : Ending) (c : Expr) (ss ts : List Stmt) → KeepsExpr p (Some 1) c → KeepsBlock p a r ss → KeepsBlock p a q ts → KeepsStmt p a (of_either r q) [] (roll-Stmt (Stmt-F.If c ss ts))
   pub generate : (p : Place) (a : Answer) (event : ℕ) (ws : List ℕ) (cs : List Expr) (delay to : Option Expr) (delay_first : Bool) → IsEvent p event ws → KeepsAll p ws cs → MayKeep p delay → MayKeep p to →
       KeepsStmt p a Never [] (roll-Stmt (Stmt-F.Gen event cs delay to delay_first))
-  -- groups stand in a core alone
+  -- only a core has groups
   pub to_each : (p : Place) (a : Answer) (event : ℕ) (ws : List ℕ) (cs : List Expr) (delay : Option Expr) (members : List ℕ) → p.flat ≡ false → IsEvent p event ws → are_members members ≡ true → KeepsAll p ws cs → MayKeep p delay →
       KeepsStmt p a Never [] (roll-Stmt (Stmt-F.Multi event cs delay members))
   pub say : (p : Place) (a : Answer) (form : ℕ) (text : List ℕ) (ws : List ℕ) (cs : List Expr) → slice_get p.scope.forms form ≡ Some text → length cs ≡ holes_of text → KeepsAll p ws cs →
       KeepsStmt p a Never [] (roll-Stmt (Stmt-F.Say form cs))
   pub return_nothing : (p : Place) → KeepsStmt p None Always [] (roll-Stmt (Stmt-F.Return None))
   pub return_value : (p : Place) (w : ℕ) (c : Expr) → KeepsExpr p (Some w) c → KeepsStmt p (Some w) Always [] (roll-Stmt (Stmt-F.Return (Some c)))
-  -- a block of nothing, of a statement that doesn't return before others, and of one that stands last
+  -- a block of nothing, of a statement that doesn't return before others, and of one that is last
   pub empty : (p : Place) (a : Answer) → KeepsBlock p a Never []
   pub first : (p : Place) (a : Answer) (r : Ending) (k : List ℕ) (x : Stmt) (xs : List Stmt) → KeepsStmt p a Never k x → KeepsBlock (behind p k) a r xs → KeepsBlock p a r (x ∷ xs)
   pub last : (p : Place) (a : Answer) (r : Ending) (k : List ℕ) (x : Stmt) → KeepsStmt p a r k x → KeepsBlock p a r (x ∷ [])

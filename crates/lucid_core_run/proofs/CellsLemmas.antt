@@ -7,12 +7,12 @@ use Rattle.lucid_core_run.specs.declared.run.Write.{Write}
 use Rattle.lucid_base.specs.Cells.{row_of, place_of, cell_at, with_cell}
 use Rattle.lucid_core_run.specs.Running.{rewound}
 
--- A row once its place holds again what it held.
+-- A row once its place has its old value again.
 row_back : (row : List ℕ) (i v : ℕ) → slice_set (slice_set row (place_of row i) v) (place_of (slice_set row (place_of row i) v) i) (slice_index row (place_of row i)) ≡ row
 row_back row i v =
     rw (length-set row (i % length row) v, set-set row (i % length row) v (slice_index row (i % length row))) (set-get_or row (i % length row) 0)
 
--- The cells once a cell holds again what it held.
+-- The cells once a cell has its old value again.
 pub with_cell-undo : (cells : List (List ℕ)) (a i v : ℕ) → with_cell (with_cell cells a i v) a i (cell_at cells a i) ≡ cells
 with_cell-undo cells a i v =
     elim (cases_lt a (length cells)) [

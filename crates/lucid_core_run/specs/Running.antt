@@ -17,7 +17,7 @@ use Rattle.lucid_base.specs.Cells.{with_cell}
 use Rattle.lucid_core.specs.Meaning.{funs_of, generated}
 use Rattle.lucid_core.specs.Values.{numbers}
 
--- The out that a draft stands for.
+-- The out of a draft.
 abbrev pub out_of : Draft → Out
 out_of (Gen event args delay to) = generated event args delay to
 out_of (Say form args) = out.Say form (numbers args)

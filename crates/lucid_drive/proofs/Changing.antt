@@ -1,4 +1,4 @@
--- What the moves of a pipe answer tells how it changed.
+-- The answers of moves of a pipe determine how it changed.
 use Rattle.std.proofs.Common.{◌≡◌, ℕ, ◌+◌, ◌<◌, ◌↔◌, Option, None, Some, Result, Ok, Err, true, false, inl, inr, length, is_some, IfOk, IfSome, IsSome, OnOk, OnErr, refl, sym, ap, subst}
 use Rattle.std.specs.Result.{is_err}
 use Rattle.lucid_base.specs.declared.event.Event.{Event}
@@ -22,7 +22,7 @@ not_some (Some x) nay = absurd (nay refl)
 is_some_of : (o : Option Packet) (x : Packet) → o ≡ Some x → IsSome o
 is_some_of o x e = ap (λ (q : Option Packet). is_some q) e
 
--- ---- what is known of a move from a slot that isn't the last, as of a move out of which nothing came
+-- ---- facts of a move from a slot that isn't the last, as of a move out of which nothing came
 
 pub as_go : {X : Type 0} (r : Result (Unit {0}) Stuck) (e : Stuck) → (r ≡ Err e) ↔ X → (nothing_left r ≡ Err e) ↔ X
 as_go (Ok u) e is = (λ same. absurd (out same), λ x. absurd (none (is.1 x)))
@@ -107,6 +107,6 @@ enter_changes pipe new n event tick me (Ok u) busy kept came some = inr (record 
     ok_err : false ≡ true → ⊥
     ok_err e = cc
 
--- An answer of a move is told by what happened.
+-- The outcome determines the answer of a move.
 pub changed : (pipe new : PipeParts) (a b : Option ℕ) → a ≡ b → Changes pipe a new → Changes pipe b new
 changed pipe new a b same c = subst (λ (o : Option ℕ). Changes pipe o new) same c

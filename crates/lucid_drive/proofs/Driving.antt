@@ -1,4 +1,4 @@
--- Rows of any kind that are driven: each move of a row is a move of the drive, what leaves and what cells hold.
+-- Rows of any kind that are driven: each move of a row is a move of the drive; the leaving packets and the cells.
 use Rattle.std.proofs.Common.{◌≡◌, ℕ, zero, suc, ◌+◌, ◌<◌, ◌≤◌, List, [], ◌∷◌, ◌++◌, Option, None, Some, Bool, true, ◌&&◌, fold, get_or, length, map, nat_lt, slice_get, slice_index, slice_set, take, is_some, refl, sym, ◌∙◌, ap, subst, add-one, length-set, arith}
 use Rattle.std.proofs.lemmas.Bool.Decides.{nat_tests}
 use Rattle.std.proofs.lemmas.List.{length-map}
@@ -94,7 +94,7 @@ module _ {C P : Type 0} where
       (es : List Entry) (n : ℕ) → AllByRecursion Fits (take n es) → (core.after parts es n ≡ view (after step cells (map packet (take n es)))) × Good (after step cells (map packet (take n es)))
   after_is parts step cells view packet sent Good Fits law es n all = folded parts step cells view packet sent Good Fits law (take n es) _ cells (sym law.start) law.good all
 
-  -- a packet stands before a stage exactly where the progress says so
+  -- a packet is in front of a stage exactly if the progress says so
   pub taken_is : (d : Drive) (step : Steps C P) (cells : List C) (packet : Entry → P) (p : Progress) (rows : List (Row C P)) (k : ℕ) (e : Row C P) → IsDriven d step cells packet p rows → k < length rows →
       is_some (get_or rows k e).slot ≡ is_taken p k
   taken_is d step cells packet p rows k e is lt =
@@ -133,7 +133,7 @@ module _ {C P : Type 0} where
         (enters_picture step cells (map packet (take p.entered (entries d.scene))) p.passed rows a (packet e) is.picture free);
   }
 
-  -- what leaves sends what the event sends that entered as the number that left before
+  -- the packet that leaves sends the outs of the event that entered as the number that left before
   pub left_sends : (d : Drive) (step : Steps C P) (cells : List C) (view : List C → List (List ℕ)) (packet : Entry → P) (sent : P → Gone) (Good : List C → Type 0) (Fits : Entry → Type 0) → DoSteps d.parts step cells view packet sent Good Fits →
       (p : Progress) (rows : List (Row C P)) (k : ℕ) (a : C) (x : P) (e : Entry) → AllByRecursion Fits (take p.entered (entries d.scene)) → IsDriven d step cells packet p rows → get_or rows k (row a None) ≡ row a (Some x) → suc k ≡ length rows →
       slice_index p.passed k < p.entered → e ≡ get_or (entries d.scene) (slice_index p.passed k) e → sent (step k a x).1 ≡ record { entry = e; outs = core.outs d.parts (entries d.scene) (slice_index p.passed k) }

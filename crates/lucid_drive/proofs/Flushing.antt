@@ -1,4 +1,4 @@
--- The packets in flight move to their ends, the oldest first: what is left to be written, and how far they have still to go.
+-- The packets in flight move to their ends, the oldest first: the remaining text, and the remaining moves.
 use Rattle.std.proofs.Common.{◌≡◌, ℕ, zero, suc, ◌+◌, ◌-◌, ◌<◌, ◌≤◌, List, [], ◌∷◌, ◌++◌, Option, None, Some, Bool, true, if◌then◌else◌, is_some, length, nat_lt, slice_get, slice_index, slice_set, sym, ◌∙◌, ap, subst, length-set, ⊎_elim, arith}
 use Rattle.std.proofs.lemmas.Bool.{and_parts, cases_lt, eq-eqb, ne_eqb}
 use Rattle.std.proofs.lemmas.Bool.Decides.{nat_tests}
@@ -14,7 +14,7 @@ use Rattle.lucid_drive.specs.Drive.{Drive, Progress, block_of, came, flight_text
 use Rattle.lucid_drive.specs.Standing.{IsAt, drive_of}
 use Rattle.lucid_drive.proofs.Standing.{one_more_came}
 
--- ---- what is left to be written
+-- ---- the remaining text
 
 piece_first : (piece : ℕ → List ℕ) (i n : ℕ) → i < n → pieces piece i (n - i) ≡ piece i ++ pieces piece (i + 1) (n - (i + 1))
 piece_first piece i n lt = ap (pieces piece i) more

@@ -25,7 +25,7 @@ use Rattle.lucid_drive.proofs.States.{new_stands}
 take_whole : (d : Drive) (count : ℕ) → count ≡ length d.scene.steps → take count d.scene.steps ≡ d.scene.steps
 take_whole d count all = ap (λ (n : ℕ). take n d.scene.steps) all ∙ take-length d.scene.steps
 
--- A fresh pipe stands at a new state.
+-- A fresh pipe is at a new state.
 pub fresh_stands : (parts : CoreParts) (scene : Scene) (pipe : PipeParts) (state : DriveState) → IsScene parts scene → StandsFor pipe.placed.code parts → pipe.placed.code.arrays ≡ parts.arrays → pipe ≡ empty_pipe pipe.placed →
     state ≡ record { done = 0; flushed = 0; entered = 0; failed = false } → StandsAfter parts scene state 0 pipe
 fresh_stands parts scene pipe state kept stands_for arrays fresh new =
@@ -52,8 +52,8 @@ pub last_cells_are : (parts : CoreParts) (scene : Scene) (cells : List (List ℕ
     cells ≡ after parts (entries scene) (after_steps d).entered
 last_cells_are parts scene cells entered d_rest d is came same = is ∙ ap (after parts (entries scene)) (came ∙ ap (λ (e : Drive). (after_steps e).entered) same)
 
--- A text that ends as a drive does, in three parts, each of which may be cut: the first, the blocks in flight, and what comes last. What a
--- call writes is told by its own pipe, of the same code.
+-- A text that ends as a drive does, in three parts, each of which may be cut: the first, the blocks in flight, and the last part. The
+-- text of a call is determined by its own pipe, of the same code.
 module _ {T : Type 0} {written : T → Option (List ℕ)} {faults : T → ℕ} (d d_rest d_end : Drive) (whole first : List ℕ) (entered : ℕ) (same_rest : d_rest ≡ d) (same_end : d_end ≡ d) (joined : whole ≡ first ++ end_text d (after_steps d)) (old mid late new : T) where
   pub steps_cut : PutsPart written faults old new first → PutsPart written faults old new whole
   steps_cut cut = PutsPart-at (end_text d (after_steps d)) Leaves-whole cut joined

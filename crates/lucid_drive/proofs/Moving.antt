@@ -62,7 +62,7 @@ module _ {A : Type 0} where
   get_or_same (x ∷ xs) zero d e lt = refl
   get_or_same (x ∷ xs) (suc k) d e lt = get_or_same xs k d e (omega (arith, lt))
 
--- What is told of what left.
+-- The record of a packet that left.
 abbrev pub passed_of : Entry → List Out → Passed
 passed_of e outs = record { event = e.event; now = e.now; me = e.me; outs = outs }
 
@@ -113,7 +113,7 @@ module _ (parts : CoreParts) (scene : Scene) (p : Progress) (pipe : PipeParts) (
           (sym (goes_last st k rows (mine k) x (here_row k (Some x) full).0 end))
           (leaves_driven (drive_of parts pipe scene) st (first_cells pipe.placed) (packet_of pipe.placed) p rows k (mine k) x is.driven (here_row k (Some x) full).0 end)
 
-  -- What comes out is the event that entered as the number that left before, and what it sends out when all run whole.
+  -- The packet that comes out is the event that entered as the number that left before, with its outs when all run whole.
   pub record Left (k : ℕ) (x : Packet) : Type 0 where
     pub entry : Entry
     pub is_entry : slice_get (entries scene) (slice_index p.passed k) ≡ Some entry
@@ -140,7 +140,7 @@ module _ (parts : CoreParts) (scene : Scene) (p : Progress) (pipe : PipeParts) (
             ∙ ap (λ (g : Gone). Some (passed_of g.entry g.outs)) sends;
       }
 
-  -- What doesn't come out.
+  -- A packet that doesn't come out.
   pub stays_in : (k : ℕ) (x : Packet) → k + 1 < length pipe.slots → comes_out pipe k x ≡ None
   stays_in k x lt = ap (λ (b : Bool). if b then None else Some (told (left_by (executed pipe k x) x))) (lt-ltb (k + 1) (length pipe.slots) lt)
 

@@ -1,4 +1,4 @@
--- The loops of a whole drive: what is done, and what is left.
+-- The loops of a whole drive: the done part, and the rest.
 use Rattle.std.proofs.Common.{◌≡◌, ℕ, zero, suc, ◌+◌, ◌-◌, ◌<◌, ◌≤◌, List, [], ◌∷◌, ◌++◌, Option, None, Some, drop, get_or, length, take, refl, sym, ◌∙◌, ap, subst, add-one, drop-cons, drop_of_length-le, arith}
 use Rattle.std.proofs.Math.Seq.{take-length}
 use Rattle.lucid_conf.specs.declared.scene.Scene.{Scene}
@@ -54,7 +54,7 @@ module _ (d : Drive) (xs : List Step) (n : ℕ) (inside : n < length xs) (within
   next : progress_at d (n + 1) 0 ≡ (does d (progress_at d n 0) s).progress
   next = next_is d n s within this
 
-  -- What is left begins with what the next step writes, and with its sight.
+  -- The rest begins with the text of the next step, and with its sight.
   pub text_next : text_from d (progress_at d n 0) (drop n xs) ≡ (step_at d n).text ++ text_from d (progress_at d (n + 1) 0) (drop (n + 1) xs)
   text_next =
       ap (text_from d (progress_at d n 0)) cut
@@ -66,7 +66,7 @@ module _ (d : Drive) (xs : List Step) (n : ℕ) (inside : n < length xs) (within
       ap (sights_from d (progress_at d n 0)) cut
       ∙ sym (ap (λ (p : Progress). sight_at d p ∷ sights_from d p (drop (n + 1) xs)) next)
 
--- So many of the first `count` steps are done.
+-- This many of the first `count` steps are done.
 pub record Stepping {T : Type 0} (written : T → Option (List ℕ)) (faults : T → ℕ) (old now : T) (shown seen : Option (List Sight)) (parts : CoreParts) (scene : Scene) (start pipe : PipeParts) (state : DriveState) (count n : ℕ) : Type 0 where
   pub same : pipe.placed ≡ start.placed
   pub done : state.done ≡ n
@@ -98,7 +98,7 @@ module _ {T : Type 0} {written : T → Option (List ℕ)} {faults : T → ℕ} (
   there : n < length scene.steps
   there = omega (arith, lt, within)
 
-  -- What the step writes.
+  -- The text of the step.
   pub step_text : (step_at (drive_of parts pipe scene) state.done).text ≡ (step_at (drive_of parts start scene) n).text
   step_text = ap (λ (e : Drive). (step_at e state.done).text) (drive_same parts scene pipe start so.same) ∙ ap (λ (m : ℕ). (step_at (drive_of parts start scene) m).text) so.done
 
@@ -179,7 +179,7 @@ module _ {T : Type 0} {written : T → Option (List ℕ)} {faults : T → ℕ} (
   stands : IsAt parts scene here pipe
   stands = subst (λ (p : Progress). IsAt parts scene p pipe) here_is so.at.is
 
-  -- What a move of the oldest writes.
+  -- The text of a move of the oldest.
   pub flush_text : (flush_at (drive_of parts pipe scene) state.done so.moves).text ≡ (flush_at (drive_of parts start scene) (length scene.steps) so.moves).text
   flush_text = ap (λ (e : Drive). (flush_at e state.done so.moves).text) (drive_same parts scene pipe start so.same) ∙ ap (λ (n : ℕ). (flush_at (drive_of parts start scene) n so.moves).text) so.done
 

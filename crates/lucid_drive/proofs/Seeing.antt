@@ -1,4 +1,4 @@
--- What a watch is shown of a pipe that stands where a drive is.
+-- The sights of a pipe at the state of a drive.
 use Rattle.std.proofs.Common.{◌≡◌, ℕ, suc, ◌+◌, List, [], ◌∷◌, ◌++◌, Option, None, Some, Bool, if◌then◌else◌, is_some, length, replicate, slice_get, slice_index, take, refl, sym, ◌∙◌, ap, ap₂, subst, append_assoc, append-nil, arith}
 use Rattle.std.proofs.Math.Seq.{take-append_seam}
 use Rattle.std.specs.Option.{option_and_then, option_map_or}
@@ -100,7 +100,7 @@ rows_are d p (a ∷ arrays) (r ∷ cells) g long stands idle =
         ∙ ap (row_of (core.after d.parts (entries d.scene) (slice_index p.passed k))) none
         ∙ sym (ap (λ (o : Option ℕ). option_map_or (λ k. row_of (core.after d.parts (entries d.scene) (slice_index p.passed k)) g) o (replicate a.size 0)) e)
 
--- What is seen of the pipe.
+-- The sight of the pipe.
 pub sight_is : (parts : CoreParts) (scene : Scene) (p : Progress) (pipe : PipeParts) → IsAt parts scene p pipe → CellsStayFit parts → Laws pipe → sight_of 0 pipe ≡ sight_at (drive_of parts pipe scene) p
 sight_is parts scene p pipe is stay laws = ap₂ (λ (l : List ℕ) (c : List (List ℕ)). record { switch = 0; places = l; cells = c }) places cells
   where

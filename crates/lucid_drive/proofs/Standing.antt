@@ -1,4 +1,4 @@
--- A pipe that is driven, over its own slots and cells: a pass is the program's step, and what is seen of the pipe.
+-- A pipe that is driven, over its own slots and cells: a pass is the program's step, and the sights of the pipe.
 use Rattle.std.proofs.Common.{◌≡◌, ℕ, zero, suc, ◌<◌, ◌≤◌, List, [], ◌∷◌, Option, None, Some, Bool, true, false, ◌&&◌, IsTrue, get_or, length, map, nat_lt, replicate, slice_get, slice_index, take, is_some, refl, sym, ◌∙◌, ap, ap₂, subst, ⊎_elim, arith}
 use Rattle.std.proofs.lemmas.Bool.{and_parts, cases_lt, le-ltb}
 use Rattle.std.proofs.lemmas.Bool.Decides.{nat_tests}
@@ -38,7 +38,7 @@ use Rattle.lucid_pipe_laws.proofs.LooksLaw.{no_more}
 use Rattle.lucid_pipe.proofs.Beside.{same_cells}
 use Rattle.lucid_pipe.proofs.ByArray.{owns_at}
 
--- What every pipe keeps.
+-- The invariant of every pipe.
 pub record Laws (pipe : PipeParts) : Type 0 where
   pub rows : MovesAsRows pipe.placed
   pub pass : (cells : Cells) (now me : ℕ) (event : Event) → IsInput pipe.placed.code me event → pass pipe.placed.code pipe.placed.stages cells now me event ≡ run_code pipe.placed.code cells now me event
@@ -129,7 +129,7 @@ do_steps parts pipe stay laws stands_for arrays = record {
         rest : (g : ℕ) → stage_of placed.stages g ≡ None → row_of m.cells g ≡ row_of zeros g
         rest g is = laws.rows.idle good.all (packet_of placed e) g is ∙ good.rest g is
 
--- ---- what is seen of the pipe
+-- ---- the sights of the pipe
 
 rows_long : (stages : List StageCode) (slots : List (Option Packet)) (cells : Cells) → length slots ≡ length stages → length (rows_of stages slots cells) ≡ length stages
 rows_long [] slots cells long = refl
@@ -171,7 +171,7 @@ module _ (parts : CoreParts) (scene : Scene) (p : Progress) (pipe : PipeParts) (
   at : (k : ℕ) → k < length stages → get_or (pipe_rows pipe) k none_row ≡ row (own (get_or stages k no_stage) pipe.cells) (get_or pipe.slots k None)
   at k lt = (row_at stages pipe.slots pipe.cells k (get_or stages k no_stage) (get_or pipe.slots k None) none_row (slice_get-get_or stages k no_stage lt) (slice_get-get_or pipe.slots k None (subst (λ (n : ℕ). k < n) (sym is.long) lt))).1
 
-  -- a packet stands before a stage exactly where the progress says so
+  -- a packet is in front of a stage exactly if the progress says so
   pub taken : (k : ℕ) → is_some (packet_at pipe k) ≡ is_taken p k
   taken k = ⊎_elim inside past (cases_lt k (length stages))
     where
@@ -201,7 +201,7 @@ module _ (parts : CoreParts) (scene : Scene) (p : Progress) (pipe : PipeParts) (
   few_came zero = omega arith
   few_came (suc k) = few_passed k
 
-  -- where a packet stands, fewer passed than entered
+  -- if a packet is there, fewer passed than entered
   pub one_more_came : (k : ℕ) → is_taken p k ≡ true → slice_index p.passed k < p.entered
   one_more_came k is = omega (arith, few_came k, below_true (slice_index p.passed k) (came p k) (and_parts (nat_lt k (length p.passed)) (nat_lt (slice_index p.passed k) (came p k)) is).1)
 
@@ -212,7 +212,7 @@ module _ (parts : CoreParts) (scene : Scene) (p : Progress) (pipe : PipeParts) (
     so_far n le = after_is parts step (first_cells pipe.placed) (by_array pipe.placed.code.arrays stages) (packet_of pipe.placed) gone_of (IsGood pipe.placed parts) (Fits parts) (do_steps parts pipe stay laws is.stands_for is.arrays)
         (entries scene) n (subst (AllByRecursion (Fits parts)) (take_take n p.entered (entries scene) le) (all_take (Fits parts) n (take p.entered (entries scene)) is.fit))
 
-    -- cells that are `all` after so many, by stage and by array
+    -- cells that are `all` after this many, by stage and by array
     all_is : (n : ℕ) (le : n ≤ p.entered) → core.after parts (entries scene) n ≡ (so_far n le).1.all
     all_is n le = let f = so_far n le in f.0 ∙ ap (by_array pipe.placed.code.arrays stages) f.1.parted ∙ laws.rows.view f.1.all f.1.long f.1.rest
 

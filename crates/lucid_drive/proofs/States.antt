@@ -82,7 +82,7 @@ last_same f g zero same = refl
 last_same f g (suc n) same =
     ap (λ (b : Bool). if b then Some n else last_below f n) (same n) ∙ ap (λ (o : Option ℕ). if g n then Some n else o) (last_same f g n same)
 
--- What is found passes the test, and none behind it does.
+-- The found number passes the test, and no later one does.
 pub record LastBelow (test : ℕ → Bool) (n k : ℕ) : Type 0 where
   pub here : test k ≡ true
   pub within : k < n
@@ -201,7 +201,7 @@ module _ (parts : CoreParts) (scene : Scene) (old : DriveState) (moves : ℕ) (b
   abbrev p : Progress
   p = progress_at d old.done moves
 
-  -- What the oldest packet writes and where it moves.
+  -- The text of the oldest packet's move, and its new place.
   module _ (found : oldest p ≡ Some k) (did : Did parts scene p.entered (goes d p k) h after) where
     pub flushed_text : happened_block parts h ≡ (flush_at d old.done moves).text
     flushed_text = did.block ∙ ap (λ (q : Done). q.block) (goes_is parts scene p before at.is k found) ∙ sym (ap (λ (o : Option ℕ). (flushes_at d p o).text) found)

@@ -1,4 +1,4 @@
--- What the moves of a pipe answer is what the steps of the drive do.
+-- The answers of the moves of a pipe are the outcomes of the steps of the drive.
 use Rattle.std.proofs.Common.{◌≡◌, ℕ, zero, suc, ◌+◌, ◌<◌, ◌≤◌, ◌↔◌, List, [], ◌∷◌, ◌++◌, Option, None, Some, Result, Ok, Err, Bool, true, false, not, if◌then◌else◌, IfOk, IfSome, IsSome, IsTrue, OnOk, OnErr, All, codes, get_or, length, map, slice_get, slice_index, is_some, refl, sym, ◌∙◌, ap, subst, ⊎_elim, arith}
 use Rattle.std.proofs.lemmas.Bool.{cases_lt, le-leb, lt-leb, eq-eqb, ne_eqb}
 use Rattle.std.proofs.lemmas.List.{length-map}
@@ -36,7 +36,7 @@ use Rattle.lucid_drive.proofs.Moving.{enters_at, leaves_at, moves_at, passed_of,
 use Rattle.lucid_drive.proofs.Standing.{Laws, passed_many, stands_in, taken}
 
 module _ (parts : CoreParts) (scene : Scene) (p : Progress) (pipe : PipeParts) (k : ℕ) where
-  -- what a step says where it moves or doesn't
+  -- the outcome of a step that moves or doesn't
   empty_is : is_taken p k ≡ false → goes (drive_of parts pipe scene) p k ≡ stays (line (codes "empty ") k) p
   empty_is e = ap (λ (b : Bool). if not b then stays (line (codes "empty ") k) p else if is_taken p (k + 1) then stays (line (codes "ahead ") k) p
       else record { text = line (codes "go ") k ++ left_text (drive_of parts pipe scene) p k; block = left_text (drive_of parts pipe scene) p k; progress = moved p k; stage = Some k }) e
@@ -129,7 +129,7 @@ module _ (parts : CoreParts) (scene : Scene) (p : Progress) (pipe new : PipePart
             within : k < length pipe.slots
             within = Rattle.std.proofs.lemmas.Option.slice_get_within pipe.slots k (Some x) (Rattle.lucid_pipe.proofs.Settles.there_full pipe.slots k x here)
 
-  -- what `go` answers
+  -- the answer of `go`
   pub did_go : (r : Result (Option Passed) Stuck) → (r ≡ Err stuck.Empty) ↔ (packet_at pipe k ≡ None) → (r ≡ Err stuck.Ahead) ↔ (IsSome (packet_at pipe k) × IsSome (packet_at pipe (k + 1))) → OnErr r (new ≡ pipe) →
       OnOk r (IfSome (packet_at pipe k) (λ x. new ≡ gone pipe k x)) → IfOk r (λ out. IfSome (packet_at pipe k) (λ x. out ≡ comes_out pipe k x)) →
       Did parts scene p.entered (goes (drive_of parts pipe scene) p k) (happened_of k r) new
@@ -151,7 +151,7 @@ module _ (parts : CoreParts) (scene : Scene) (p : Progress) (pipe new : PipePart
       ok_ahead : ◌≡◌ {A = Result (Option Passed) Stuck} (Ok out_of_it) (Err stuck.Ahead) → ⊥
       ok_ahead e = cc
 
-  -- what it answers where nothing can leave
+  -- its answer if nothing can leave
   pub did_within : (r : Result (Unit {0}) Stuck) → (r ≡ Err stuck.Empty) ↔ (packet_at pipe k ≡ None) → (r ≡ Err stuck.Ahead) ↔ (IsSome (packet_at pipe k) × IsSome (packet_at pipe (k + 1))) → OnErr r (new ≡ pipe) →
       OnOk r (IfSome (packet_at pipe k) (λ x. (new ≡ gone pipe k x) × (comes_out pipe k x ≡ None))) →
       Did parts scene p.entered (goes (drive_of parts pipe scene) p k) (happened_within k r) new

@@ -1,4 +1,4 @@
--- What a call of a drive makes of its pipe.
+-- The effect of a call of a drive on its pipe.
 use Rattle.std.specs.Prelude.{◌≡◌, ℕ, ◌+◌, ◌<◌, Option, None, Some, ◌⊎◌, length}
 use Rattle.lucid_base.specs.declared.event.Event.{Event}
 use Rattle.lucid_pipe.specs.Packets.{Packet}

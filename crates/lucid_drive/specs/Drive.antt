@@ -13,7 +13,7 @@ use Rattle.lucid_log.specs.Cells.{cells_text}
 use Rattle.lucid_tables.specs.Placed.{stage_of}
 use Rattle.lucid_tables.specs.declared.stage.StageCode.{StageCode}
 
--- What is driven: a program, the stages of its pipeline, of which only where the arrays stand is asked, and a scenario.
+-- The inputs of a drive: a program, the stages of its pipeline, of which only the positions of the arrays matter, and a scenario.
 pub record Drive : Type 0 where
   pub parts : CoreParts
   pub stages : List StageCode
@@ -32,7 +32,7 @@ abbrev pub came : Progress → ℕ → ℕ
 came p zero = p.entered
 came p (suc k) = slice_index p.passed k
 
--- A packet stands before stage k exactly where one more came than passed.
+-- A packet is in front of stage k exactly if one more came than passed.
 abbrev pub is_taken : Progress → ℕ → Bool
 is_taken p k = nat_lt k (length p.passed) && nat_lt (slice_index p.passed k) (came p k)
 
@@ -47,7 +47,7 @@ block_of d j = option_map_or (λ (e : Entry). block_text d.parts e.now e.me e.ev
 abbrev pub line : List ℕ → ℕ → List ℕ
 line word n = word ++ decimal n ++ codes "\n"
 
--- What a step writes, the block in it where a packet left, how far the drive is then, and the stage that a packet passed by it.
+-- The outcome of a step: its text, the block in it if a packet left, the progress after it, and the stage that a packet passed by it.
 pub record Done : Type 0 where
   pub text : List ℕ
   pub block : List ℕ
@@ -63,7 +63,7 @@ enters d p =
     else if is_taken p 0 then stays (codes "busy\n") p
     else record { text = line (codes "enter ") p.entered; block = []; progress = record { entered = p.entered + 1; passed = p.passed }; stage = None }
 
--- What the move of the packet before stage k writes behind its line: its block, where it leaves.
+-- The text of a move of the packet in front of stage k after its line: its block, if it leaves.
 abbrev pub left_text : Drive → Progress → ℕ → List ℕ
 left_text d p k = if nat_eq (k + 1) (length p.passed) then block_of d (slice_index p.passed k) else []
 
@@ -76,7 +76,7 @@ goes d p k =
     else if is_taken p (k + 1) then stays (line (codes "ahead ") k) p
     else record { text = line (codes "go ") k ++ left_text d p k; block = left_text d p k; progress = moved p k; stage = Some k }
 
--- An array that stands in stage k is that after as many events as passed the stage; one that stands in no stage holds 0.
+-- An array in stage k has the value after as many events as passed the stage; one that is in no stage holds 0.
 abbrev pub value_of : Drive → Progress → ℕ → ℕ → ℕ
 value_of d p array cell = option_map_or (λ k. cell_at (after d.parts (entries d.scene) (slice_index p.passed k)) array cell) (stage_of d.stages array) 0
 
@@ -89,7 +89,7 @@ does d p Enter = enters d p
 does d p (Go k) = goes d p k
 does d p (Look array cell) = stays (look_text d p array cell) p
 
--- The progress after the first steps, and what each of them writes.
+-- The progress after the first steps, and the text of each of them.
 abbrev pub progress_from : Drive → Progress → List Step → Progress
 progress_from d p [] = p
 progress_from d p (s ∷ steps) = progress_from d (does d p s).progress steps
@@ -111,7 +111,7 @@ pieces piece from (suc count) = piece from ++ pieces piece (from + 1) count
 abbrev pub ending_text : ℕ → ℕ → List ℕ
 ending_text entered left = codes "entered " ++ decimal entered ++ codes " left " ++ decimal left ++ codes "\n"
 
--- The cells that aren't 0 once so many events ran whole, and the ending.
+-- The cells that aren't 0 after this many events ran whole, and the ending.
 abbrev pub last_text : Drive → ℕ → List ℕ
 last_text d n = cells_text 0 d.parts.arrays (after d.parts (entries d.scene) n) ++ ending_text n (length d.scene.events - n)
 
@@ -119,7 +119,7 @@ last_text d n = cells_text 0 d.parts.arrays (after d.parts (entries d.scene) n) 
 abbrev pub flight_text : Drive → Progress → List ℕ
 flight_text d p = pieces (block_of d) (left p) (p.entered - left p)
 
--- They, and what comes last.
+-- They, followed by the last text.
 abbrev pub end_text : Drive → Progress → List ℕ
 end_text d p = flight_text d p ++ last_text d p.entered
 

@@ -7,7 +7,7 @@ abbrev pub last_below : (ℕ → Bool) → ℕ → Option ℕ
 last_below test zero = None
 last_below test (suc n) = if test n then Some n else last_below test n
 
--- Where the oldest packet stands.
+-- The position of the oldest packet.
 abbrev pub oldest : Progress → Option ℕ
 oldest p = last_below (is_taken p) (length p.passed)
 
@@ -20,7 +20,7 @@ flushes_at d p (Some k) = record { text = left_text d p k; block = left_text d p
 abbrev pub flushes : Drive → Progress → Done
 flushes d p = flushes_at d p (oldest p)
 
--- The progress after so many moves of the oldest packet.
+-- The progress after this many moves of the oldest packet.
 abbrev pub flushed_by : Drive → Progress → ℕ → Progress
 flushed_by d p zero = p
 flushed_by d p (suc n) = (flushes d (flushed_by d p n)).progress

@@ -1,4 +1,4 @@
--- What a step of a drive did, and what it writes.
+-- The outcome of a step of a drive, and its text.
 use Rattle.std.specs.Prelude.{◌≡◌, ℕ, ◌+◌, ◌%◌, ◌<◌, length, List, [], ◌++◌, Option, None, Some, Result, Ok, Err, IsTrue, codes, decimal, slice_get}
 use Rattle.std.specs.List.{All}
 use Rattle.std.specs.Option.{option_map_or}
@@ -23,7 +23,7 @@ happened_of k (Err stuck.Ahead) = Ahead k
 happened_of k (Ok None) = Went k
 happened_of k (Ok (Some passed)) = Left k passed
 
--- What a move answers where no packet can leave.
+-- The result of a move if no packet can leave.
 abbrev pub nothing_left : Result (Unit {0}) Stuck → Result (Option Passed) Stuck
 nothing_left (Ok u) = Ok None
 nothing_left (Err e) = Err e
@@ -52,7 +52,7 @@ happened_text parts (Went k) = line (codes "go ") k
 happened_text parts (Left k passed) = line (codes "go ") k ++ passed_text parts passed
 happened_text parts (Looked array cell value) = option_map_or (λ (a : ArrayDef). looked_text a cell value) (slice_get parts.arrays array) []
 
--- What left fits the program.
+-- The packet that left fits the program.
 pub record PassedFits (parts : CoreParts) (p : Passed) : Type 0 where
   pub event : IsTrue (event_fits parts p.event)
   pub outs : All (λ out. IsTrue (out_fits parts out)) p.outs
@@ -62,7 +62,7 @@ FitsTo parts (Left k passed) = PassedFits parts passed
 FitsTo parts (Looked array cell value) = array < length parts.arrays
 FitsTo parts _ = Unit {0}
 
--- Of it the block of what left.
+-- The block in it, of the packet that left.
 abbrev pub happened_block : CoreParts → Happened → List ℕ
 happened_block parts (Left k passed) = passed_text parts passed
 happened_block parts _ = []
@@ -73,12 +73,13 @@ happened_at (Went k) = Some k
 happened_at (Left k passed) = Some k
 happened_at _ = None
 
--- How many events entered then, of so many before.
+-- The number of events that entered after this outcome, given the number before.
 abbrev pub entered_after : ℕ → Happened → ℕ
 entered_after n (Entered number) = n + 1
 entered_after n _ = n
 
--- Of a drive in which n events had entered, the step did just this: what happened is its text, and the pipe stands where the drive is then.
+-- In a drive in which n events had entered, the step had just this outcome: the outcome is its text, and the pipe is at the state of the
+-- drive after it.
 pub record Did (parts : CoreParts) (scene : Scene) (n : ℕ) (done : Done) (h : Happened) (pipe : PipeParts) : Type 0 where
   pub text : happened_text parts h ≡ done.text
   pub block : happened_block parts h ≡ done.block

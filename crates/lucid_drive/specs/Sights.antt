@@ -1,4 +1,4 @@
--- What a watch is shown of a drive, by what handlers that run whole make of the cells.
+-- The sights of a drive, by the cells that handlers that run whole leave.
 use Rattle.std.specs.Prelude.{◌≡◌, ℕ, zero, suc, List, [], ◌∷◌, ◌++◌, Option, None, Some, if◌then◌else◌, length, replicate, slice_index, take}
 use Rattle.std.specs.Option.{option_map_or}
 use Rattle.lucid_base.specs.Cells.{row_of}
@@ -9,12 +9,12 @@ use Rattle.lucid_pipe.specs.declared.sight.Sight.{Sight}
 use Rattle.lucid_tables.specs.Placed.{stage_of}
 use Rattle.lucid_drive.specs.Drive.{Drive, Progress, begun, does, entries, is_taken}
 
--- Of so many slots from k on those that are taken, the last first.
+-- The taken slots among these from k on, the last first.
 abbrev pub places_from : Progress → ℕ → ℕ → List ℕ
 places_from p k zero = []
 places_from p k (suc count) = places_from p (suc k) count ++ (if is_taken p k then k ∷ [] else [])
 
--- The cells of an array that stands in stage k are those after as many events as passed the stage; one that stands in no stage holds 0.
+-- The cells of an array in stage k are those after as many events as passed the stage; one that is in no stage holds 0.
 abbrev pub row_at : Drive → Progress → ℕ → ArrayDef → List ℕ
 row_at d p array a = option_map_or (λ k. row_of (after d.parts (entries d.scene) (slice_index p.passed k)) array) (stage_of d.stages array) (replicate a.size 0)
 
@@ -39,7 +39,7 @@ sights_to d count = sights_from d (begun d) (take count d.scene.steps)
 abbrev pub sights : Drive → List Sight
 sights d = sights_from d (begun d) d.scene.steps
 
--- Where the sights are told then, they were told before, and these were appended.
+-- If the sights are specified after, they were before, and these were appended.
 abbrev pub ShowsAll : Option (List Sight) → Option (List Sight) → List Sight → Type 0
 ShowsAll old None sights = Unit {0}
 ShowsAll None (Some now) sights = ⊥

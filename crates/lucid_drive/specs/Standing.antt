@@ -1,4 +1,5 @@
--- A pipe that stands where a drive is: its rows are those of an empty one after what entered and what passed each stage.
+-- A pipe at the state of a drive: its rows are those of an empty one after the events that entered and the packets that passed each
+-- stage.
 use Rattle.std.specs.Prelude.{◌≡◌, ℕ, ◌<◌, ◌^◌, List, None, IsTrue, length, take}
 use Rattle.std.specs.List.{AllByRecursion}
 use Rattle.lucid_base.specs.Cells.{row_of, zero_cells}
@@ -26,7 +27,7 @@ packet_of placed e = entering placed.code e.event e.now e.me
 abbrev pub gone_of : Packet → Gone
 gone_of p = record { entry = record { now = p.now; me = p.me; event = p.event }; outs = sent_by p.outs }
 
--- The cells by stage are those of cells that fit the program, and an array that stands in no stage holds 0.
+-- The cells by stage are those of cells that fit the program, and an array that is in no stage holds 0.
 pub record IsGood (placed : PlacedParts) (parts : CoreParts) (cs : List Cells) : Type 0 where
   pub all : Cells
   pub fit : IsTrue (cells_fit parts all)
@@ -34,7 +35,7 @@ pub record IsGood (placed : PlacedParts) (parts : CoreParts) (cs : List Cells) :
   pub long : length all ≡ length placed.code.arrays
   pub rest : (g : ℕ) → stage_of placed.stages g ≡ None → row_of all g ≡ row_of (zero_cells placed.code.arrays) g
 
--- What is asked of an event that enters.
+-- The condition on an event that enters.
 pub record Fits (parts : CoreParts) (e : Entry) : Type 0 where
   pub event : IsTrue (event_fits parts e.event)
   pub id : e.event.id < 2 ^ 32
@@ -44,7 +45,7 @@ pub record Fits (parts : CoreParts) (e : Entry) : Type 0 where
 abbrev pub drive_of : CoreParts → PipeParts → Scene → Drive
 drive_of parts pipe scene = record { parts = parts; stages = pipe.placed.stages; scene = scene }
 
--- The pipe's code stands for the program, and the pipe is what the events that entered and the packets that passed make of an empty one.
+-- The pipe's code represents the program, and the pipe is an empty one after the events that entered and the packets that passed.
 pub record IsAt (parts : CoreParts) (scene : Scene) (p : Progress) (pipe : PipeParts) : Type 0 where
   pub stands_for : StandsFor pipe.placed.code parts
   pub arrays : pipe.placed.code.arrays ≡ parts.arrays

@@ -12,19 +12,19 @@ use Rattle.lucid_drive.specs.Flush.{flushed_by, flushes}
 use Rattle.lucid_drive.specs.Standing.{IsAt, drive_of}
 use Rattle.lucid_drive.specs.declared.state.DriveState.{DriveState}
 
--- The progress that the first `done` steps give, and then so many moves of the oldest packet.
+-- The progress after the first `done` steps and then this many moves of the oldest packet.
 abbrev pub progress_at : Drive → ℕ → ℕ → Progress
 progress_at d done moves = flushed_by d (progress_from d (begun d) (take done d.scene.steps)) moves
 
--- What the first steps write.
+-- The text of the first steps.
 abbrev pub text_to : Drive → ℕ → List ℕ
 text_to d count = text_from d (begun d) (take count d.scene.steps)
 
--- What the step of this number does after those before it.
+-- The outcome of the step of this number after those before it.
 abbrev pub step_at : Drive → ℕ → Done
 step_at d number = option_map_or (does d (progress_at d number 0)) (slice_get d.scene.steps number) (stays [] (progress_at d number 0))
 
--- What the next move of the oldest packet does.
+-- The outcome of the next move of the oldest packet.
 abbrev pub flush_at : Drive → ℕ → ℕ → Done
 flush_at d done moves = flushes d (progress_at d done moves)
 
@@ -37,8 +37,8 @@ abbrev pub moves_after : Option ℕ → ℕ → ℕ
 moves_after None moves = moves
 moves_after (Some k) moves = suc moves
 
--- The pipe stands where the steps that are done and so many moves of the oldest packet bring it. The oldest moves only once all steps are
--- done, and no call failed.
+-- The pipe is as the done steps and this many moves of the oldest packet make it. The oldest moves only after all steps, and no call
+-- failed.
 pub record StandsAfter (parts : CoreParts) (scene : Scene) (s : DriveState) (moves : ℕ) (pipe : PipeParts) : Type 0 where
   pub kept : IsScene parts scene
   pub sound : s.failed ≡ false
@@ -48,7 +48,7 @@ pub record StandsAfter (parts : CoreParts) (scene : Scene) (s : DriveState) (mov
   pub entered : s.entered ≡ (progress_at (drive_of parts pipe scene) s.done moves).entered
   pub is : IsAt parts scene (progress_at (drive_of parts pipe scene) s.done moves) pipe
 
--- The pipe stands at the state, for some number of moves.
+-- The pipe is at the state, for some number of moves.
 pub record StandsAt (parts : CoreParts) (scene : Scene) (s : DriveState) (pipe : PipeParts) : Type 0 where
   pub moves : ℕ
   pub after : StandsAfter parts scene s moves pipe
@@ -57,7 +57,7 @@ pub record StandsAt (parts : CoreParts) (scene : Scene) (s : DriveState) (pipe :
 abbrev pub IsEmpty : PipeParts → Type 0
 IsEmpty pipe = (k : ℕ) → packet_at pipe k ≡ None
 
--- A pipe without packets in which all cells are 0 stands at a new state, where its code stands for the program and has its arrays.
+-- A pipe without packets in which all cells are 0 is at a new state, if its code represents the program and has its arrays.
 abbrev pub NewStands : Type 0
 NewStands =
     (parts : CoreParts) (scene : Scene) (placed : PlacedParts) → IsScene parts scene → StandsFor placed.code parts → placed.code.arrays ≡ parts.arrays →

@@ -1,4 +1,4 @@
--- What a walk finds in each form that has several parts, by what it finds in the parts.
+-- The finding of a walk for each form with several parts, by its findings for the parts.
 use Rattle.std.proofs.Common.{◌≡◌, ℕ, List, map, Bool, Option, None, Some, option_map, refl, ap, sym, ◌∙◌}
 use Rattle.lucid_base.specs.declared.array.ArrayName.{ArrayName}
 use Rattle.lucid_base.specs.declared.ops.BinOp.{BinOp}

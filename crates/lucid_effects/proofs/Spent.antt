@@ -1,4 +1,4 @@
--- What the checks of all functions, or handlers, take together.
+-- The steps of the checks of all functions, or handlers, together.
 use Rattle.std.proofs.Common.{◌≡◌, ℕ, zero, suc, ◌+◌, ◌*◌, ◌≤◌, List, [], ◌∷◌, Some, length, map, take, slice_get, refl, sym, ap, subst, ◌∙◌, arith}
 use Rattle.std.proofs.Math.Nat.{mul-le-mul_left}
 use Rattle.lucid_core.specs.declared.body.Stmt.{Stmt}
@@ -25,7 +25,7 @@ module _ {A : Type 0} (f : A → ℕ) where
   total_least (x ∷ xs) zero = omega arith
   total_least (x ∷ xs) (suc i) = let rest = total_least xs i in omega (arith, rest)
 
--- One more body, of so many nodes.
+-- One more body, of this many nodes.
 spent : (k start old new before nodes after : ℕ) → old ≤ start + before * k → new ≤ old + nodes * k → after ≡ before + nodes → new ≤ start + after * k
 spent k start old new before nodes after h one is =
     let both : (before + nodes) * k ≡ before * k + nodes * k = omega arith in

@@ -26,7 +26,7 @@ abbrev pub comes_first : Option Refused → ℕ → Bool
 comes_first None decl = true
 comes_first (Some r) decl = nat_lt decl r.decl
 
--- The first so far, and what is found of a declaration that would be the first.
+-- The first so far, and the finding for a declaration that would be the first.
 abbrev pub kept : Option Refused → ℕ → Option (Vec ArrayName) → Option Refused
 kept first decl None = first
 kept first decl (Some cycle) = Some (record { decl = decl; cycle = cycle })

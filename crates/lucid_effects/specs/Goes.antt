@@ -7,7 +7,7 @@ use Rattle.lucid_effects_spec.specs.Schemes.{Walked}
 abbrev pub walked : Scheme → ℕ → Walked
 walked s steps = record { needs = s.needs; ends = s.ends; steps = steps }
 
--- It finds what the walk finds, in its steps, unless memory ran out.
+-- It finds the result of the walk, in its steps, unless memory ran out.
 abbrev pub Goes : {A : Type 0} → (Walked → Walked) → Scheme → ℕ → Scheme → ℕ → Result A Memory → Type 0
 Goes walk old before new after (Ok x) = walked new after ≡ walk (walked old before)
 Goes walk old before new after (Err e) = Unit {0}

@@ -9,7 +9,7 @@ use Rattle.lucid_effects_spec.specs.declared.scheme.Scheme.{Scheme}
 use Rattle.lucid_effects_spec.specs.SchemeLaws.{steps_a_node}
 use Rattle.lucid_effects_spec.specs.Schemes.{schemes_of}
 
--- Of the functions of any valid program of so many arrays.
+-- For the functions of any valid program with this many arrays.
 abbrev pub FunsTake : ℕ → List FunDef → ℕ → ℕ → Type 0
 FunsTake arrays funs old new = (parts : CoreParts) → IsSound parts → parts.funs ≡ funs → length parts.arrays ≡ arrays →
     new ≤ old + fun_nodes funs * steps_a_node arrays

@@ -1,4 +1,4 @@
--- Names, places and pairs as numbers, so that those of so many arrays can be counted.
+-- Names, places and pairs as numbers, so that those of a number of arrays can be counted.
 use Rattle.std.proofs.Common.{◌≡◌, ℕ, ◌+◌, ◌*◌, ◌<◌, ◌≤◌, Bool, true, false, nat_eq, refl, ap, arith}
 use Rattle.std.proofs.lemmas.Bool.Decides.{nat_tests}
 use Rattle.std.proofs.Math.Nat.{mul-le-mul_left}
@@ -9,7 +9,7 @@ use Rattle.lucid_constraints.specs.declared.pair.Atom.TheVariants.{Start, After}
 use Rattle.lucid_constraints.specs.declared.pair.Pair.{Pair}
 use Rattle.lucid_constraints.specs.Same.{same_name, same_atom, same_pair}
 
--- Of n declared arrays and 8 array parameters; the number n stands for array 0 where none is declared.
+-- Of n declared arrays and 8 array parameters; the number n means array 0 if none is declared.
 abbrev pub NameIn : ℕ → ArrayName → Type 0
 NameIn n (Global a) = a ≤ n
 NameIn n (Param i) = i < 8

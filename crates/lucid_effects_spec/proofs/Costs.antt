@@ -1,4 +1,4 @@
--- A walk takes few steps: no more than a fixed number for each node, since places and pairs of so many arrays are few.
+-- A walk takes few steps: no more than a fixed number for each node, since places and pairs of the arrays are few.
 use Rattle.std.proofs.Common.{◌≡◌, ℕ, zero, suc, ◌+◌, ◌*◌, ◌≤◌, Bool, true, List, [], ◌∷◌, ◌++◌, map, fold, length, slice_get, slice_index_or, subst, ◌&&◌, nat_le, take, arith}
 use Rattle.std.specs.List.{list_all}
 use Rattle.std.proofs.lemmas.Bool.{and_parts, leb-true, ltb-true}
@@ -85,7 +85,7 @@ module _ (n : ℕ) (names : List ArrayName) (named : Each (NameIn n) names) wher
 mul_more : (a b k : ℕ) → (a + b) * k ≡ a * k + b * k
 mul_more a b k = omega arith
 
--- Behind these schemes the walk keeps what is good, and takes at most so many steps.
+-- After these schemes the walk keeps good states good, and takes at most this many steps.
 abbrev Costs : ℕ → List Scheme → Advance → ℕ → Type 0
 Costs n fs f most = (w : Walked) → Good n w → Good n (f fs w) × ((f fs w).steps ≤ w.steps + most)
 
@@ -206,7 +206,7 @@ funs_in parts before done (f ∷ fs) (suc i) known named few =
     each_push [] s h last = (last, tt)
     each_push (x ∷ ss) s h last = (h.0, each_push ss s h.1 last)
 
--- What the rules say of the names in bodies, and of the array parameters.
+-- The rules for the names in bodies, and for the array parameters.
 names_of : (parts : CoreParts) → IsSound parts → (funs_pass (fun_named parts) [] parts.funs ≡ true) × (list_all (λ (g : HandlerDef). each (map stmt_names g.body) (handler_scope parts g)) parts.handlers ≡ true)
 names_of parts sound = and_parts _ _ (and_parts _ _ sound.names).0
 

@@ -1,4 +1,4 @@
--- What is found doesn't turn on the steps counted before.
+-- The finding doesn't depend on the steps counted before.
 use Rattle.std.proofs.Common.{◌≡◌, ℕ, List, [], Option, None, Some, slice_get, refl, ap, ap₂, map}
 use Rattle.lucid_base.specs.declared.array.ArrayName.{ArrayName}
 use Rattle.lucid_core.specs.declared.body.Stmt.{Stmt}
@@ -10,7 +10,7 @@ use Rattle.lucid_effects_spec.proofs.Walks.{bodies_relate}
 use Rattle.lucid_effects_spec.specs.declared.scheme.Scheme.{Scheme}
 use Rattle.lucid_effects_spec.specs.Schemes.{Advance, Walked, begun, body_found, either, finds, scheme, scheme_of, through, visit}
 
--- Two that ask the same and stand at the same places.
+-- Two with the same constraints and places.
 abbrev Alike : Walked → Walked → Type 0
 Alike u v = (u.needs ≡ v.needs) × (u.ends ≡ v.ends)
 

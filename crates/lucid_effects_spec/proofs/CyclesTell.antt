@@ -1,4 +1,4 @@
--- What a cycle of a scheme's pairs tells of its body, and what it tells that there is none.
+-- The meaning of a cycle of a scheme's pairs for its body, and that of its absence.
 use Rattle.std.proofs.Common.{ℕ, List, [], ◌∷◌, refl, subst, inl, inr, slice_index_or}
 use Rattle.std.specs.Prelude.{Any}
 use Rattle.lucid_base.specs.declared.array.ArrayName.{ArrayName}

@@ -11,7 +11,7 @@ use Rattle.lucid_effects_spec.specs.declared.scheme.Scheme.{Scheme}
 use Rattle.lucid_effects_spec.specs.SchemeExamples.{SchemeExamples}
 use Rattle.lucid_effects_spec.specs.Schemes.{Advance, Walked, expr_found, finds, stmt_found, touch_found}
 
--- What a walk finds in a part of a body, by what it finds in its parts.
+-- The finding of a walk for a part of a body, by its findings for the parts.
 expr_is : (y : Expr-F Expr Stmt Touch) (fs : List Scheme) (w : Walked) → expr_found (roll-Expr y) fs w ≡ expr_step finds (map-Expr Expr Stmt Touch Advance Advance Advance expr_found stmt_found touch_found y) fs w
 expr_is y fs w = ap (λ (f : Advance). f fs w) (fold-roll-Expr Advance Advance Advance (expr_step finds) (stmt_step finds) (touch_step finds) y)
 

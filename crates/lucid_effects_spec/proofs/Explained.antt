@@ -95,7 +95,7 @@ then_then : (ps qs rs : List Path) → each_then (each_then ps qs) rs ≡ each_t
 then_then [] qs rs = refl
 then_then (p ∷ ps) qs rs = then_append (map (λ q. p ++ q) qs) (each_then ps qs) rs ∙ ap₂ (λ (xs ys : List Path). xs ++ ys) (then_map p qs rs) (then_then ps qs rs)
 
--- ---- what ends and pairs stand for
+-- ---- the meaning of ends and pairs
 
 abbrev pub Into : List Path → List Path → Type 0
 Into ps qs = (r : Path) → Member r ps → Member r qs
@@ -141,14 +141,14 @@ calls_before x y q r h = record {
 calls_after : (x y : ArrayName) (p q : Path) → CallsThen x y q → CallsThen x y (p ++ q)
 calls_after x y p q h = record { before = p ++ h.before; between = h.between; after = h.after; is = ap (λ (r : Path). p ++ r) h.is ∙ sym (append_assoc p h.before (x ∷ (h.between ++ y ∷ h.after))) }
 
--- What a path calls, it calls however it goes on.
+-- The calls of a path are calls of each of its continuations.
 asked_later : (ps qs : List Path) → SomePath qs → (y : ArrayName) (a : Atom) → AskedAt y a ps → AskedAt y a (each_then ps qs)
 asked_later ps qs some y Start h = (h.0 ++ some.0, in_then (y ∷ h.0) some.0 ps qs h.1 some.1)
 asked_later ps qs some y (After x) h = (h.0 ++ some.0, in_then h.0 some.0 ps qs h.1 some.1, calls_before x y h.0 some.0 h.2)
 
 -- ---- the law
 
--- A walk's ends are ends of paths, and what it adds is called for by one.
+-- A walk's ends are ends of paths, and one of the paths needs each pair that it adds.
 pub record Finds (walk : Walked → Walked) (qs : List Path) : Type 0 where
   pub some : SomePath qs
   pub ends : (ps : List Path) (w : Walked) → SomePath ps → EndsOf ps w.ends → EndsOf (each_then ps qs) (walk w).ends
@@ -163,7 +163,7 @@ pub record Explained (f : Scheme) (qs : List Path) : Type 0 where
 abbrev pub Explains : List Scheme → List (List Path) → Advance → Paths → Type 0
 Explains fs gs act paths = Finds (act fs) (paths gs)
 
--- What a walk finds where it adds nothing.
+-- The finding of a walk that adds nothing.
 silent : Finds (λ w. w) ([] ∷ [])
 silent = record {
   some = ([], inl refl);

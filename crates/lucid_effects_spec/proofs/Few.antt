@@ -53,7 +53,7 @@ below m (x ∷ xs) h q is = of (nat_eq q x) refl is (below m xs h.1 q)
 few : (m : ℕ) (xs : List ℕ) → Distinct xs → Each (λ x. x < m) xs → length xs ≤ m
 few m xs d h = length-le_from_distinct_below xs m (apart xs d) (below m xs h)
 
--- ---- lists that grow by `joined`, told apart by a number for each item
+-- ---- lists that grow by `joined`, with a number for each item
 
 distinct-push : (x : ℕ) (xs : List ℕ) → Distinct xs → ¬ Member x xs → Distinct (xs ++ x ∷ [])
 distinct-push x [] d none = ((λ h. h), tt)

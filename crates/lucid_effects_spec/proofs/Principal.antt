@@ -1,4 +1,4 @@
--- A walk asks for what a derivation asks for, and stands where it ends.
+-- A walk has the constraints of a derivation, and its places are the ends of that.
 use Rattle.std.proofs.Common.{◌≡◌, ℕ, zero, suc, ◌+◌, max, Bool, true, false, if◌then◌else◌, ◌&&◌, nat_le, List, [], ◌∷◌, ◌++◌, map, fold, Option, None, Some, option_and_then, refl, sym, ◌∙◌, ap, arith}
 use Rattle.lucid_base.specs.declared.array.ArrayName.{ArrayName}
 use Rattle.lucid_core.specs.declared.body.Stmt.{Stmt}
@@ -35,7 +35,7 @@ passed : (b l : Bool) (g a : ℕ) → l ≡ nat_le g a → (if b && l then Some 
 passed true l g a e = let m : max (a + 1) 0 ≡ a + 1 = omega arith in ap (λ (t : Bool). if t then Some (max (a + 1) 0) else None) e ∙ ap (λ k. if nat_le g a then Some k else None) m
 passed false l g a e = refl
 
--- The second branch's needs stand on the first's.
+-- The second branch's needs come after the first's.
 larger_of : (a l r : Bool) (gw gl gr : ℕ) (F G : ℕ → Option ℕ) → (if l then Some gl else None) ≡ option_and_then F (if a then Some gw else None) → (if r then Some gr else None) ≡ option_and_then G (if l then Some gw else None) →
     (if r then Some (max gl gr) else None) ≡ option_and_then (λ c. option_and_then (λ d. option_and_then (λ e. Some (max d e)) (G c)) (F c)) (if a then Some gw else None)
 larger_of true true true gw gl gr F G h k = rw (sym h) (rw (sym k) refl)
@@ -46,7 +46,7 @@ larger_of false true r gw gl gr F G h k = cc
 larger_of false false true gw gl gr F G h k = cc
 larger_of false false false gw gl gr F G h k = refl
 
--- The callee's numbering is the caller's at what its names are to the caller.
+-- The callee's numbering is the caller's at the caller's form of its names.
 called : (b : Bool) (g : ℕ) (holds : Bool) (end : ℕ) (f : ℕ → Option ℕ) → (if holds then Some end else None) ≡ f g → (if b && holds then Some end else None) ≡ option_and_then f (if b then Some g else None)
 called true g holds end f e = e
 called false g holds end f e = refl

@@ -17,7 +17,7 @@ use Rattle.lucid_effects_spec.proofs.Members.{contains, of_map}
 use Rattle.lucid_effects_spec.proofs.OwnNumbers.{by_own_numbers}
 use Rattle.lucid_effects_spec.proofs.Touched.{runs_along}
 
--- What rises along a path from a place stands behind it, and rises itself.
+-- A path that rises from a place is after it, and rises itself.
 none_before : (c : ℕ) (p : Path) → RisesAlong own_numbers c p → (j e : ℕ) → j < length (map own_numbers p) → c ≤ slice_index_or (map own_numbers p) j e
 none_before c [] h j e k = absurd (omega arith)
 none_before c (x ∷ p) h zero e k = h.0

@@ -28,14 +28,14 @@ use Rattle.lucid_effects_spec.proofs.Members.{in_map, in_then, of_map}
 use Rattle.lucid_core.proofs.Pairwise.{Pairwise, one_more}
 use Rattle.lucid_core.specs.Values.{nothing, numbers, unary, binary, comparison, hashed, memop}
 
--- The paths as runs call them, where these arrays stand for the array parameters.
+-- The paths as runs call them, given the arrays passed for the array parameters.
 abbrev pub as_called : List ℕ → List Path → List (List ℕ)
 as_called arrays ps = map (map (array_of arrays)) ps
 
 abbrev FunFollows : Fun → List Path → Type 0
 FunFollows f qs = (arrays : List ℕ) (vs : List Bits) (s : State) → Member (f arrays vs s).calls (as_called arrays qs)
 
--- What an act calls is one of its part's paths.
+-- The calls of an act are one of its part's paths.
 abbrev Follows : {A : Type 0} → Computation A → Paths → Type 0
 Follows act f = (p : Frame) (fs : List (List Path)) → Pairwise FunFollows p.funs fs → (s : State) → Member (act p s).calls (as_called p.arrays (f fs))
 
@@ -86,7 +86,7 @@ given_array arrays [] i = refl
 given_array arrays (x ∷ xs) zero = refl
 given_array arrays (x ∷ xs) (suc i) = given_array arrays xs i
 
--- The callee's array parameters stand for the arrays of its arguments.
+-- The callee's array parameters denote the arrays of its arguments.
 named_there : (arrays : List ℕ) (names : List ArrayName) (y : ArrayName) → array_of arrays (name_at names y) ≡ array_of (map (array_of arrays) names) y
 named_there arrays names (Global a) = refl
 named_there arrays names (Param i) = given_array arrays names i

@@ -1,4 +1,4 @@
--- What a derivation under one numbering tells of another: by induction on the tree, for any relation of places that calls keep.
+-- The meaning of a derivation under one numbering for another: by induction on the tree, for any relation of places that calls keep.
 use Rattle.std.proofs.Common.{◌≡◌, ℕ, zero, suc, ◌+◌, ◌<◌, ◌≤◌, max, List, [], ◌∷◌, ◌++◌, Bool, true, false, if◌then◌else◌, Option, None, Some, length, map, fold, refl, ap, subst, ◌∙◌, option_and_then, nat_le, slice_get, slice_index_or}
 use Rattle.std.specs.List.{list_all}
 use Rattle.std.specs.Option.{option_map_or}
@@ -23,7 +23,7 @@ Transfers R f g = (c d : ℕ) → R c d → (e : ℕ) → f c ≡ Some e → (z 
 abbrev pub CallTransfers : (ℕ → ℕ → Type 0) → ℕ → ℕ → Type 0
 CallTransfers R n m = (c d : ℕ) → R c d → c ≤ n → (d ≤ m) × R (n + 1) (m + 1)
 
--- So do those of the declared arrays, of so many array parameters, and of array 0, which a missing argument stands for.
+-- So do those of the declared arrays, of this many array parameters, and of array 0, which replaces a missing argument.
 pub record Related (R : ℕ → ℕ → Type 0) (arrays params : ℕ) (N M : Numbering) : Type 0 where
   pub first : CallTransfers R (N (Global 0)) (M (Global 0))
   pub declared : (i : ℕ) → i < arrays → CallTransfers R (N (Global i)) (M (Global i))

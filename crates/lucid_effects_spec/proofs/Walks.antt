@@ -1,4 +1,4 @@
--- Two walks over one body: what holds between what they make of each form holds between what they make of the whole.
+-- Two walks over one body: a relation between their results for each form holds between their results for the whole.
 use Rattle.std.proofs.Common.{◌≡◌, ℕ, List, [], ◌∷◌, Bool, true, false, Option, None, Some, map, option_map, refl, sym, ap, ap₂, subst}
 use Rattle.lucid_base.specs.declared.array.ArrayName.{ArrayName}
 use Rattle.lucid_core.specs.declared.body.Expr.{Expr}

@@ -1,4 +1,4 @@
--- A walk over a body whose names are there: what holds of what it makes of each form holds of what it makes of the whole.
+-- A walk over a body whose names exist: a fact of its results for each form holds for its result for the whole.
 use Rattle.std.proofs.Common.{◌≡◌, ℕ, List, [], ◌∷◌, ◌++◌, Bool, true, false, ◌&&◌, Option, None, Some, length, map, sym, subst, option_map, option_to_list, nat_lt}
 use Rattle.std.specs.List.{list_all}
 use Rattle.std.proofs.lemmas.Bool.{and_parts}

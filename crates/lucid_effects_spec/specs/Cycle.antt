@@ -1,4 +1,4 @@
--- Which array is needed before which, and what a cycle of arrays is.
+-- The order in which arrays are needed, and cycles of arrays.
 use Rattle.std.specs.Prelude.{ℕ, ◌≡◌, ◌⊎◌, List, ◌∷◌, ◌++◌, Any}
 use Rattle.lucid_base.specs.declared.array.ArrayName.{ArrayName}
 use Rattle.lucid_constraints.specs.Cycle as c
@@ -16,6 +16,6 @@ pub record CallsThen (x y : ArrayName) (path : Path) : Type 0 where
 abbrev pub NeededBefore : ℕ → List Path → ArrayName → ArrayName → Type 0
 NeededBefore arrays ps x y = Any (CallsThen x y) ps ⊎ Earlier arrays x y
 
--- A cycle of what is needed before what.
+-- A cycle of the order in which arrays are needed.
 abbrev pub IsCycle : ℕ → List Path → ArrayName → List ArrayName → Type 0
 IsCycle arrays ps first others = c.IsCycle (NeededBefore arrays ps) first others

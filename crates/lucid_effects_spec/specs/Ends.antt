@@ -17,7 +17,7 @@ Numbering = ArrayName → ℕ
 abbrev pub FunEnd : Type 0
 FunEnd = Numbering → ℕ → Option ℕ
 
--- Where a part of a body ends, from what the functions before it do, the numbering and the place where it begins.
+-- The end of a part of a body, from the ends of the functions before it, the numbering and the place where it begins.
 abbrev pub End : Type 0
 End = List FunEnd → Numbering → ℕ → Option ℕ
 

@@ -7,8 +7,8 @@ use Rattle.lucid_core.specs.declared.body.Touch.{Touch}
 use Rattle.lucid_core.specs.declared.body.Expr.TheOpen.{Expr-F, Stmt-F, Touch-F}
 use Rattle.lucid_core.specs.declared.body.Expr.TheFolds.{fold-Expr, fold-Stmt, fold-Touch}
 
--- What a walk makes of what calls no array, of one part after another, of the two branches of an if, of a call of an array,
--- of a call of function k that is given these arrays, and of any other node of the tree, once its parts are known.
+-- The results of a walk for a form that calls no array, for one part after another, for the two branches of an if, for a call of an
+-- array, for a call of function k with these arrays, and for any other node of the tree, once its parts are known.
 pub record Walk (A : Type 0) : Type 0 where
   pub nothing : A
   pub in_turn : A → A → A

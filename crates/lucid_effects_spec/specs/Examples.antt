@@ -109,7 +109,7 @@ pub record PathExamples : Type 0 where
   pub begins_with_the_earliest : ¬ IsCycle 2 (paths funs (in_turn second first)) second (first ∷ [])
   pub none_in_order : ¬ IsCycle 2 (paths funs (in_turn first second)) first (second ∷ [])
 
--- What is said of whole programs.
+-- Examples of whole programs.
 pub record ProgramExamples : Type 0 where
   pub accepted : IsAccepted small
   pub refused : IsFirstRefused (program bumps (in_turn second first)) 5 first (second ∷ [])

@@ -1,4 +1,4 @@
--- What the order of arrays promises of a program.
+-- The laws of the order of arrays for a program.
 use Rattle.std.specs.Prelude.{◌≡◌, ◌<◌, ◌↔◌, ℕ, ◌+◌, ◌≤◌, List, [], ◌∷◌, Some, All, AllPairs, Any, Contains, length, map, slice_get}
 use Rattle.lucid_base.specs.declared.array.ArrayName.{ArrayName}
 use Rattle.lucid_base.specs.declared.array.ArrayName.TheVariants.{Global, Param}
@@ -27,7 +27,7 @@ abbrev pub OwnNumbersDecide : CoreParts → Type 0
 OwnNumbersDecide parts = (k : ℕ) (h : HandlerDef) → slice_get parts.handlers k ≡ Some h →
     InOrder (length parts.arrays) parts.funs h.body ↔ ((end : ℕ) × Derives parts.funs own_numbers 0 h.body end)
 
--- The same numbers at the declared arrays, at so many array parameters, and at array 0, which a missing argument stands for.
+-- The same numbers at the declared arrays, at this many array parameters, and at array 0, which replaces a missing argument.
 pub record Agree (arrays params : ℕ) (N M : Numbering) : Type 0 where
   pub first : N (Global 0) ≡ M (Global 0)
   pub declared : (i : ℕ) → i < arrays → N (Global i) ≡ M (Global i)
@@ -61,7 +61,7 @@ EndsAreGreatest = (funs : List FunDef) (body : List Stmt) (N : Numbering) (c end
 abbrev pub CyclesRefuse : Type 0
 CyclesRefuse = (arrays : ℕ) (funs : List FunDef) (body : List Stmt) (first : ArrayName) (others : List ArrayName) → IsCycle arrays (paths funs body) first others → ¬ InOrder arrays funs body
 
--- What an event calls is one of the paths of its handler.
+-- The calls of an event are one of the paths of its handler.
 abbrev pub TouchesFollowPaths : Type 0
 TouchesFollowPaths = (parts : CoreParts) (cells : List (List ℕ)) (now me : ℕ) (event : Event) (h : HandlerDef) → handler_of parts event.id ≡ Some h →
     Contains (map (map (array_of [])) (paths parts.funs h.body)) (touches parts cells now me event)

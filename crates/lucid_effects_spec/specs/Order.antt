@@ -7,7 +7,7 @@ use Rattle.lucid_core.specs.declared.defs.HandlerDef.{HandlerDef}
 use Rattle.lucid_core.specs.Parts.{CoreParts}
 use Rattle.lucid_effects_spec.specs.Ends.{Numbering, Derives}
 
--- Behind these functions, some numbering that rises along so many declared arrays derives the body from place 0.
+-- After these functions, some numbering that rises along the declared arrays derives the body from place 0.
 pub record InOrder (arrays : ℕ) (funs : List FunDef) (body : List Stmt) : Type 0 where
   pub numbering : Numbering
   pub rises : Rises arrays numbering

@@ -1,4 +1,4 @@
--- The paths of a body: for each choice of a branch at each if, with the bodies of functions put in, the arrays that it calls.
+-- The paths of a body: for each choice of a branch at each if, with the bodies of functions inlined, the arrays that it calls.
 use Rattle.std.specs.Prelude.{ℕ, List, [], ◌∷◌, ◌++◌, map, fold, slice_index_or}
 use Rattle.lucid_base.specs.Arrays.{name_at}
 use Rattle.lucid_base.specs.declared.array.ArrayName.{ArrayName}

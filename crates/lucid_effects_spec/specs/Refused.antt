@@ -1,4 +1,4 @@
--- What a refusal tells.
+-- The meaning of a refusal.
 use Rattle.std.specs.Prelude.{ℕ, ◌<◌, ◌≡◌, List, All, Contains, length}
 use Rattle.lucid_base.specs.declared.array.ArrayName.{ArrayName}
 use Rattle.lucid_core.specs.Parts.{CoreParts}

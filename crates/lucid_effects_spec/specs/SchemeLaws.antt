@@ -1,4 +1,4 @@
--- What this crate promises of its definitions.
+-- The laws of this crate's definitions of schemes.
 use Rattle.std.specs.Prelude.{◌≡◌, ℕ, ◌+◌, ◌*◌, ◌≤◌, List, Some, length, slice_get, take}
 use Rattle.lucid_base.specs.declared.array.ArrayName.{ArrayName}
 use Rattle.lucid_core.specs.declared.body.Stmt.{Stmt}
@@ -26,11 +26,12 @@ CyclesTell = (arrays : ℕ) (funs : List FunDef) (body : List Stmt) →
     × ((first : ArrayName) (others : List ArrayName) →
     c.IsCycle (Needed arrays (scheme_of (schemes_of funs) body).needs) first others → IsCycle arrays (paths funs body) first others)
 
--- How many steps a node may take, where so many arrays are declared.
+-- The most steps for a node, if this many arrays are declared.
 abbrev pub steps_a_node : ℕ → ℕ
 steps_a_node arrays = 2 * ((arrays + 9) * (arrays + 9))
 
--- The walk along the body of a declaration, behind these functions, takes at most so many steps for each node, the declaration among them.
+-- The walk along the body of a declaration, after these functions, takes at most this many steps for each node, the declaration among
+-- them.
 abbrev pub TakesFewSteps : ℕ → List FunDef → List Stmt → Type 0
 TakesFewSteps arrays funs body = (steps : ℕ) →
     (body_found body (schemes_of funs) (begun steps)).steps ≤ steps + (1 + body_walk size body) * steps_a_node arrays

@@ -1,4 +1,4 @@
--- How schemes are found: one walk along a body carries what is asked, where it stands, and the steps taken.
+-- How schemes are found: one walk along a body carries the constraints, the places where it is, and the steps taken.
 use Rattle.std.specs.Prelude.{ℕ, ◌+◌, List, [], ◌∷◌, ◌++◌, map, fold, slice_get, length, Option, None, Some}
 use Rattle.lucid_base.specs.declared.array.ArrayName.{ArrayName}
 use Rattle.lucid_core.specs.declared.body.Expr.{Expr}
@@ -15,13 +15,13 @@ use Rattle.lucid_constraints.specs.Substitution.{pair, needs_from, ends_from}
 use Rattle.lucid_effects_spec.specs.Evaluation.{Walk, body_walk, expr_walk, sequence, stmt_walk, touch_walk}
 use Rattle.lucid_effects_spec.specs.declared.scheme.Scheme.{Scheme}
 
--- What is found so far: the pairs that must hold, the places where the walk stands, and the steps taken.
+-- The findings so far: the pairs that must hold, the current places of the walk, and the steps taken.
 pub record Walked : Type 0 where
   pub needs : List Pair
   pub ends : List Atom
   pub steps : ℕ
 
--- What a part of a body makes of it, from the schemes of the functions before.
+-- The effect of a part of a body on them, from the schemes of the functions before.
 abbrev pub Advance : Type 0
 Advance = List Scheme → Walked → Walked
 
@@ -33,18 +33,18 @@ add_all ps w = record w { needs = join_all same_pair w.needs ps; steps = w.steps
 abbrev pub visit : Walked → Walked
 visit w = record w { steps = w.steps + 1 }
 
--- All places come before the array, and the walk then stands behind it.
+-- All places come before the array, and the walk is then after it.
 abbrev pub passes : ArrayName → Advance
 passes a = λ fs w. record (add_all (map (pair a) w.ends) (visit w)) { ends = After a ∷ [] }
 
--- Both branches begin where the walk stands, and it then stands at the ends of both.
+-- Both branches begin at the current places of the walk, and it is then at the ends of both.
 abbrev pub either : Advance → Advance → Advance
 either f g = λ fs w.
     let left = f fs w in
     let right = g fs (record left { ends = w.ends }) in
     record right { ends = join_all same_atom left.ends right.ends }
 
--- A function's scheme, with the caller's arrays and places put in. Each of its pairs is a step.
+-- A function's scheme in the caller's arrays and places. Each of its pairs is a step.
 abbrev pub through : Option Scheme → List ArrayName → Walked → Walked
 through None names w = w
 through (Some f) names w = record w { needs = join_all same_pair w.needs (needs_from names w.ends [] f.needs); ends = ends_from names w.ends [] f.ends; steps = w.steps + length f.needs }

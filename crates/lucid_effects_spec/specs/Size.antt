@@ -27,7 +27,7 @@ handler_nodes handlers = total (map (λ h. 1 + body_walk size h.body) handlers)
 abbrev pub nodes : CoreParts → ℕ
 nodes parts = fun_nodes parts.funs + handler_nodes parts.handlers
 
--- In a flat program only statements and calls with their bodies put in count.
+-- In a flat program only statements and inlined calls count.
 abbrev pub flat_expr : Expr-F ℕ ℕ ℕ → ℕ
 flat_expr (Expr-F.Inlined given ss) = 1 + total (expr_children (Expr-F.Inlined given ss))
 flat_expr e = total (expr_children e)
@@ -41,6 +41,6 @@ stmt_step s = 1 + total (stmt_children s)
 abbrev pub flat_stmt_size : Stmt → ℕ
 flat_stmt_size = fold-Stmt ℕ ℕ ℕ flat_expr stmt_step flat_touch
 
--- The size of a flat program: the statements of its handlers and their calls with bodies put in, those within such bodies too.
+-- The size of a flat program: the statements of its handlers and their inlined calls, also those within inlined bodies.
 abbrev pub flat_size : CoreParts → ℕ
 flat_size parts = total (map (λ h. total (map flat_stmt_size h.body)) parts.handlers)

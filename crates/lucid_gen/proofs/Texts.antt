@@ -17,7 +17,7 @@ join_more [] text some = absurd (omega arith)
 join_more (x ∷ []) text some = refl
 join_more (x ∷ y ∷ ys) text some = ap (λ t. x ++ 44 ∷ t) (join_more (y ∷ ys) text (omega arith)) ∙ sym (append_assoc x (44 ∷ join_with_byte 44 (y ∷ ys)) (44 ∷ text))
 
--- what is drawn once more
+-- one more draw
 times_more : {A : Type 0} (draw : ℕ → Draw A) (s n : ℕ)
     → times (n + 1) draw s ≡ record { gives = (times n draw s).gives ++ (draw n (times n draw s).after).gives ∷ []; after = (draw n (times n draw s).after).after }
 unfolding times

@@ -1,4 +1,5 @@
--- What is drawn for a program and for a scenario, in the order in which it is printed, and a choice before what depends on it.
+-- The random choices for a program and for a scenario, in the order in which they are printed, and a choice before those that depend on
+-- it.
 use Rattle.std.specs.Prelude.{ℕ, ◌+◌, nat_eq, if◌then◌else◌}
 use Rattle.lucid_gen.specs.Draws.{Draw, below, give, ◌>>=◌}
 use Rattle.lucid_gen.specs.declared.choices.Call.{Call}
@@ -10,7 +11,7 @@ use Rattle.lucid_gen.specs.declared.choices.Entry.{Entry}
 abbrev pub size : Draw ℕ
 size = do less ← below 64; give (1 + less)
 
--- what a handler does with an array, by a number below 4; an update has a bound of its own
+-- a handler's use of an array, by a number below 4; an update has a bound of its own
 abbrev pub call_by : ℕ → Draw Call
 call_by choice =
     if nat_eq choice 0 then give Nothing

@@ -1,4 +1,4 @@
--- The text of the limits: those of a large target, whatever the seed.
+-- The text of the limits: those of a large target, for any seed.
 use Rattle.std.specs.Prelude.{ℕ, List, codes}
 
 abbrev pub limits_text : List ℕ

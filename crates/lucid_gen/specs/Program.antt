@@ -19,7 +19,7 @@ event_line j = codes "event e" ++ decimal j ++ codes "(int i, int v);\n"
 abbrev pub handler_line : ℕ → List ℕ
 handler_line j = codes "handle e" ++ decimal j ++ codes "(int i, int v) {\n"
 
--- what is done with array q
+-- the line for a use of array q
 abbrev pub call_line : ℕ → Call → List ℕ
 call_line q Nothing = []
 call_line q Get = codes "  v = Array.getm(a" ++ decimal q ++ codes ", i, plus, v);\n"
@@ -42,7 +42,7 @@ eight draw = do texts ← times 8 draw; give (concat texts)
 abbrev pub array : ℕ → Draw (List ℕ)
 array j = do s ← size; give (array_line j s)
 
--- what a handler does with array q
+-- a handler's use of array q
 abbrev pub step : ℕ → Draw (List ℕ)
 step q = do c ← call; give (call_line q c)
 

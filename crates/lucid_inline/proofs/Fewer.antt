@@ -1,4 +1,4 @@
--- Parts of what has few locals have few: what each call of the code needs, from what its caller was given.
+-- Parts of a body with few locals have few: the conditions of each call of the code, from those of its caller.
 use Rattle.std.proofs.Common.{◌≡◌, ℕ, zero, suc, ◌+◌, ◌<◌, ◌≤◌, List, [], ◌∷◌, ◌++◌, Bool, true, false, ◌&&◌, drop, Option, None, Some, length, map, take, refl, sym, ap, subst, ◌∙◌, arith, append-nil, length-append, nat_lt, slice_get, slice_index_or, option_map, option_to_list}
 use Rattle.std.specs.List.{enumerate_from, list_all}
 use Rattle.std.proofs.lemmas.Bool.{and_from, and_parts, ltb-true}
@@ -111,7 +111,7 @@ each-length : (es : List Expr) (p : Site) (ws : List ℕ) → length (f.each (ma
 each-length [] p ws = refl
 each-length (x ∷ es) p ws = ap suc (each-length es p (flat_expr x p ws).locals)
 
--- Arguments that locals hold are named, and so many locals are there.
+-- Arguments in locals are named, and this many locals exist.
 abbrev given_names : Scope → ℕ → List Expr → Bool
 given_names scope b xs = list_all (λ (g : ℕ × Test). nat_lt g.0 (length scope.locals) && g.1 scope) (map (λ (g : ℕ × Expr). (g.0, expr_names g.1)) (enumerate_from b xs))
 
@@ -127,7 +127,7 @@ given_named : (scope : Scope) (b : ℕ) (xs : List Expr) → given_names scope b
 given_named scope b [] h = refl
 given_named scope b (x ∷ xs) h = let both = and_parts _ _ h in and_from _ _ (and_parts _ _ both.0).1 (given_named scope (b + 1) xs both.1)
 
--- What is left of a list from the place of one of its elements.
+-- The rest of a list from the position of one of its elements.
 pub drop_one : {A : Type 0} (xs : List A) (i : ℕ) (x : A) → i < length xs → x ≡ slice_index_or xs i x → (rest : List A) × (drop i xs ≡ x ∷ rest)
 drop_one [] i x l is = absurd (omega (arith, l))
 drop_one {A = A} (y ∷ ys) zero x l is = (ys, ap (λ (q : A). q ∷ ys) (sym is))
@@ -226,7 +226,7 @@ module _ (site : code.Site) where
   pub touch_set : (t : Touch) (ws mid after : List ℕ) → mid ≡ (flat_expr (out-Touch t).index p ws).locals → after ≡ (flat_expr (out-Touch t).get_arg p mid).locals → FewTouch (flat_touch t p ws) → FewExpr (flat_expr (out-Touch t).set_arg p after)
   touch_set t ws mid after l m few = rw (m, l) (few_part (omega arith) (λ scope h. (touch_parts (tests_of t ws) scope h).2) (opened_touch p t ws few))
 
-  -- One of the expressions of a list, behind what those before it became.
+  -- One of the expressions of a list, after the flat forms of those before it.
   pub exprs_one : (es left tl : List Expr) (x : Expr) (xs : List Expr) (ws mid : List ℕ) → left ≡ x ∷ tl → xs ++ (f.each (map flat_expr left) p mid).value ≡ (f.each (map flat_expr es) p ws).value →
       (f.each (map flat_expr left) p mid).locals ≡ (f.each (map flat_expr es) p ws).locals → FewExprs (f.each (map flat_expr es) p ws) → FewExpr (flat_expr x p mid)
   exprs_one es left tl x xs ws mid is v l few =
@@ -278,7 +278,7 @@ module _ (site : code.Site) where
       let right = f.block (map flat_stmt ts) p left.locals in
       rw (m, l) (few_part (omega arith) (λ scope h. (branches left.value right.value scope (expr_names test.value scope) h).1) (opened_stmt p (Stmt-F.If x ss ts) (s.If x ss ts) (s.rolls-If x ss ts) ws few))
 
-  -- What an event is sent with.
+  -- The operands of a sent event.
   abbrev sent_of : ℕ → List Expr → Option Expr → Option Expr → Bool → Flatten (List Step)
   sent_of event xs d u b = λ q us.
       let args = f.each (map flat_expr xs) q us in
@@ -325,7 +325,7 @@ module _ (site : code.Site) where
       let given = f.both b (operand d) (operand u) p args.locals in
       rw l (few_part (omega arith) (λ scope h. (sent_names event args.value given.value.0 given.value.1 b scope (and_parts _ _ h).0).1) (opened_gen event xs d u b ws few))
 
-  -- Groups: what is held is named, and there is room for it.
+  -- Groups: the values in locals are named, and there is room for them.
   held_names : (event b m : ℕ) (delayed : Bool) (members : List ℕ) (scope : Scope) (i : ℕ) (xs : List Expr) →
       each (map stmt_names (map roll-Stmt (map (λ (g : ℕ × Expr). Stmt-F.Assign g.0 g.1) (enumerate_from i xs) ++ map (f.to_member event b m delayed) members))) scope ≡ true → each (map expr_names xs) scope ≡ true
   held_names event b m delayed members scope i [] h = refl
@@ -357,7 +357,7 @@ module _ (site : code.Site) where
   pub multi_args : (event : ℕ) (xs : List Expr) (members ws : List ℕ) → FewStmts (flat_stmt (s.Multi event xs None members) p ws) → FewExprs (f.each (map flat_expr xs) p ws)
   multi_args event xs members ws few = group_held event (length (map flat_expr xs)) false members (map flat_expr xs) ws (multi event xs members ws few)
 
-  -- The locals and arguments that a group's code is given: room for what is held, which is as much as there are arguments.
+  -- The locals and arguments of a group's code: room for the values, as many as there are arguments.
   pub multi_group : (event m : ℕ) (xs : List Expr) (members ws mid : List ℕ) (held : List Expr) → m ≡ length xs → held ≡ (f.each (map flat_expr xs) p ws).value → mid ≡ (f.each (map flat_expr xs) p ws).locals →
       FewStmts (flat_stmt (s.Multi event xs None members) p ws) → (length mid + length held ≤ most) × (m ≤ length held)
   multi_group event m xs members ws mid held many v l few =

@@ -1,4 +1,4 @@
--- The functions before a function, put in.
+-- The functions before a function, inlined.
 use Rattle.std.proofs.Common.{◌≡◌, ℕ, zero, suc, ◌+◌, List, [], ◌∷◌, ◌++◌, length, map, take, Option, None, Some, Ok, Err, refl, sym, ap, ap₂, subst, ◌∙◌, arith, append-nil, Bool, true, false}
 use Rattle.std.specs.Prelude.{slice_get, Result, IfOk, OnOk}
 use Rattle.std.specs.List.{enumerate_from}
@@ -36,7 +36,7 @@ pub put_locals : (fs before : List FunDef) (k : ℕ) (arrays : List ℕ) (args :
     after ≡ (put_in (slice_get (puts_of fs) k) arrays args ws).locals
 put_locals fs before k arrays args ws mid after b f body is at first grown body_is made = rw (puts_of-at fs k, is, ← at, ← first, ← grown, ← body_is) made
 
--- A call, by what its arguments became.
+-- A call, by the flat forms of its arguments.
 flat_of-fun : (k : ℕ) (names : List ArrayName) (xs : List Expr) → flat_expr (e.Fun k names xs) ≡ expr_step (Expr-F.Fun k names (map flat_expr xs))
 flat_of-fun k names xs = ap flat_expr (sym (e.rolls-Fun k names xs)) ∙ fold-roll-Expr (Flatten Expr) (Flatten (List Stmt)) (Flatten Touch) expr_step stmt_step touch_step (Expr-F.Fun k names xs)
 

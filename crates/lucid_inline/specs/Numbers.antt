@@ -1,4 +1,4 @@
--- Numbers of locals that have 32 bits: what is made has few locals, and names no others.
+-- Numbers of locals have 32 bits: an inlined body has few locals, and names no others.
 use Rattle.std.specs.Prelude.{◌≡◌, ℕ, ◌≤◌, List, ◌&&◌, Option, true, length, map, option_map, option_to_list}
 use Rattle.lucid_core.specs.declared.body.Expr.{Expr}
 use Rattle.lucid_core.specs.declared.body.Stmt.{Stmt}
@@ -11,7 +11,7 @@ use Rattle.lucid_inline_spec.specs.Flat.{Flattened}
 abbrev pub most : ℕ
 most = 4294967295
 
--- So large a flat form has at most so many locals.
+-- The most locals of a flat form of this size.
 abbrev pub most_size : ℕ
 most_size = 536870910
 

@@ -34,7 +34,7 @@ pub record IsTooLarge (core : CoreParts) (room handler n : ℕ) : Type 0 where
   pub size : n ≡ size_of core
   pub first : FirstPast largest (handler_sizes core) (Some handler)
 
--- Each refusal has its cause; want of memory has none.
+-- Each refusal has its cause; Memory has none.
 abbrev pub Refused : CoreParts → ℕ → InlineError → Type 0
 Refused core room (TooMany handler count) = IsTooLong core room handler count
 Refused core room (TooLarge handler size) = IsTooLarge core room handler size

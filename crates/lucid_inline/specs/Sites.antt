@@ -1,4 +1,4 @@
--- Where the code puts a body in, as the definition has it, and what a group becomes.
+-- The position of an inlined body in code, as the definition has it, and the statements of a group.
 use Rattle.std.specs.Prelude.{ℕ, List, Bool, Option, map}
 use Rattle.std.specs.List.{enumerate_from}
 use Rattle.lucid_core.specs.declared.body.Expr.{Expr}

@@ -1,4 +1,4 @@
--- What is found of the parts of a core is the length of its normal form and the size of its flat form, both capped.
+-- The findings for the parts of a core are the length of its normal form and the size of its flat form, both capped.
 use Rattle.std.proofs.Common.{◌≡◌, ◌⊎◌, inl, inr, ℕ, ◌+◌, ◌*◌, ◌-◌, ◌^◌, ◌<◌, length-append, min, List, [], ◌∷◌, ◌++◌, Bool, true, false, if◌then◌else◌, ◌&&◌, ◌||◌, Option, None, Some, fold, is_some, length, map, option_to_list, refl, sym, ap, ap₂, subst, ◌∙◌, arith, nat_eq, slice_index, slice_index_or, slice_set}
 use Rattle.std.specs.Prelude.{option_map}
 use Rattle.std.proofs.lemmas.Bool.{and_parts, cases_eq, eq-eqb, ne_eqb}
@@ -92,7 +92,7 @@ plus_some m n p q = ap₂ counted (at m p) (at n q)
     at : (a b : ℕ) → min (capped a + b) (2 ^ 64 - 1) ≡ capped (a + b)
     at a b = omega arith
 
--- One part behind another, and so many more behind a part.
+-- One part after another, and more after a part.
 behind : {x y : Counts} (m n p q : ℕ) → x ≡ both m n → y ≡ both p q → plus x y ≡ both (m + p) (n + q)
 behind m n p q e f = ap₂ plus e f ∙ plus_both m n p q
 

@@ -1,4 +1,4 @@
--- What is found of a valid core is the length and the size of each handler, capped.
+-- The findings for a valid core are the length and the size of each handler, capped.
 use Rattle.std.proofs.Common.{◌≡◌, ◌⊎◌, inl, inr, ℕ, zero, suc, ◌<◌, List, [], ◌∷◌, ◌++◌, true, false, fold, length, map, refl, sym, ap, ap₂, ◌∙◌, arith, length-append, nat_lt, slice_index, slice_index_or}
 use Rattle.std.specs.List.{list_all}
 use Rattle.std.proofs.lemmas.Bool.{and_from, and_parts, cases_eq}
@@ -41,7 +41,7 @@ body_agrees funs lengths sizes known params n ss core =
     block_agrees ss (mapped ss core) (record { funs = funs; held = held_first params n }) (record { funs = lengths; locals = n; held = λ i. nat_lt i params }) sizes
     (record { funs = record { at = known.at }; locals = sym l; held = λ i h. held-at params n i (omega arith) })
 
--- What was found of a list are these lengths and sizes, capped.
+-- The findings for a list are these lengths and sizes, capped.
 record Listed (found : List Counts) (ns ms : List ℕ) : Type 0 where
   lengths : map (λ c. c.length) found ≡ map capped ns
   sizes : map (λ c. c.size) found ≡ map capped ms

@@ -26,7 +26,7 @@ rising_after k hs i h within is all =
     let at_least = leb-true k h.decl parts.0 in
     rising_from_less (h.decl + 1) (k + 1) _ (omega arith) parts.1
 
--- A sum with what one handler more counts.
+-- A sum with the counts of one more handler.
 pub one_handler_more : (count : Counts → ℕ) (f : HandlerDef → Counts) (hs : List HandlerDef) (i number : ℕ) (h : HandlerDef) (bound : ℕ) (s t : Sum) (c : Counts) → i < length hs → get_or hs i h ≡ h →
     number ≡ i → s.bound ≡ bound → c ≡ f h → ((ns : List ℕ) → length ns ≡ number → IsSum s.bound ns s → IsSum s.bound (ns ++ count c ∷ []) t) →
     IsSum bound (map count (map f (take i hs))) s → IsSum bound (map count (map f (take (i + 1) hs))) t

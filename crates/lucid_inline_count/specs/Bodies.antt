@@ -1,4 +1,4 @@
--- What is found of functions and handlers, in the order of their declarations.
+-- The findings for functions and handlers, in the order of their declarations.
 use Rattle.std.specs.Prelude.{ℕ, zero, suc, List, [], ◌∷◌, ◌++◌, Bool, fold, length, map, nat_lt}
 use Rattle.lucid_core.specs.declared.body.Stmt.{Stmt}
 use Rattle.lucid_core.specs.declared.defs.EventDef.{EventDef}

@@ -1,4 +1,4 @@
--- Flags that were set, and what they were before.
+-- Flags that were set, and their old values.
 use Rattle.std.specs.Prelude.{List, [], ◌∷◌, Bool, slice_set}
 use Rattle.lucid_inline_count.specs.declared.held.Note.{Note}
 

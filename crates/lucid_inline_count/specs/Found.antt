@@ -1,6 +1,6 @@
--- What is found of the parts of a core: sums stop at the last u64, what is held is a list of flags, and a statement names what it assigns.
--- A core has no call with its body put in, and there nothing is counted. What is found of a core are the length of its normal form and
--- the size of its flat form, both capped: that is what `count_core` promises, and these definitions are only the way there.
+-- The findings for the parts of a core: sums stop at the last u64, assigned locals are a list of flags, and a statement names the locals
+-- that it assigns. A core has no inlined call, and there nothing is counted. The findings for a core are the length of its normal form
+-- and the size of its flat form, both capped: these are the clause of `count_core`, and these definitions only lead to it.
 use Rattle.std.specs.Prelude.{ℕ, ◌*◌, List, [], ◌∷◌, ◌++◌, Option, None, Some, Bool, true, false, if◌then◌else◌, ◌&&◌, ◌||◌, fold, is_some, length}
 use Rattle.std.specs.Prelude.{slice_index_or, slice_set}
 use Rattle.std.specs.List.{flat_map, list_any}
@@ -15,17 +15,17 @@ use Rattle.lucid_inline_count.specs.declared.counts.Counts.{Counts}
 use Rattle.lucid_inline_count.specs.declared.body.Part.{Part}
 use Rattle.lucid_inline_count.specs.Counts.{capped, counted, counts_at, plus}
 
--- An expression: what it counts, given the functions before, and whether a condition that is this one needs a move.
+-- An expression: its counts, given the functions before, and whether a condition that is this one needs a move.
 pub record ExprTally : Type 0 where
   pub counts : List Counts → Counts
   pub needs_move : Bool
 
--- What the functions before count, and which locals are held.
+-- The counts of the functions before, and the assigned locals.
 pub record Round : Type 0 where
   pub funs : List Counts
   pub held : List Bool
 
--- A statement: what it counts, the local that it assigns for what follows in its block, all those that it assigns, and its returns.
+-- A statement: its counts, the local that it assigns for the rest of its block, all those that it assigns, and its returns.
 pub record Tally : Type 0 where
   pub counts : Round → Counts
   pub sets : Option ℕ
@@ -51,7 +51,7 @@ abbrev pub held_with : List Bool → Option ℕ → List Bool
 held_with held None = held
 held_with held (Some i) = slice_set held i true
 
--- A block in progress: what it counts so far, and which locals are held.
+-- A block in progress: its counts so far, and the assigned locals.
 pub record Running : Type 0 where
   pub counts : Counts
   pub held : List Bool
@@ -105,7 +105,7 @@ expr_step (Expr-F.Inlined given ss) = found true (λ funs. counted 0 0)
 abbrev pub touch_step : Touch-F ExprTally Tally ExprTally → ExprTally
 touch_step t = found false (λ funs. plus (plus (plus (t.index.counts funs) (t.get_arg.counts funs)) (t.set_arg.counts funs)) (counted 1 0))
 
--- What neither assigns nor returns.
+-- The tally of a form that neither assigns nor returns.
 abbrev pub plainly : (List Counts → Counts) → Tally
 plainly counts = record { counts = λ r. counts r.funs; sets = None; names = []; returns = false; value = false }
 
@@ -113,13 +113,13 @@ plainly counts = record { counts = λ r. counts r.funs; sets = None; names = [];
 abbrev pub condition : ExprTally → List Counts → Counts
 condition x funs = plus (x.counts funs) (counted (if x.needs_move then 1 else 0) 1)
 
--- With its branches, and what they join.
+-- The counts with its branches, and the joins after them.
 abbrev pub either : ExprTally → List Tally → List Tally → Round → Counts
 either x ss ts r =
     let joined = joins (any_returns ss || any_returns ts) (any_value ss && any_value ts) r.held (names_of ss ++ names_of ts) in
     plus (plus (plus (condition x r.funs) (block_counts ss r)) (block_counts ts r)) (counted joined 0)
 
--- So many statements of one op each.
+-- This many statements of one op each.
 abbrev pub ops : ℕ → Counts
 ops n = counted n n
 

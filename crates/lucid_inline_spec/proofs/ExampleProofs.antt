@@ -1,4 +1,4 @@
--- The worked examples of the flat form and of its counts, computed by what each part becomes at one site, and what it counts.
+-- The worked examples of the flat form and of its counts, computed by the flat form of each part at one site, and its counts.
 use Rattle.std.proofs.Common.{◌≡◌, ℕ, List, Option, refl, ap}
 use Rattle.lucid_core.specs.declared.body.Expr.{Expr}
 use Rattle.lucid_core.specs.declared.body.Stmt.{Stmt}

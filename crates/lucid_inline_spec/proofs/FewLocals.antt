@@ -37,9 +37,9 @@ use Rattle.lucid_inline_spec.proofs.Runs.{funs_fit, puts_from, rooms_from}
 use Rattle.lucid_inline_spec.proofs.Steps.{valid_fits}
 use Rattle.lucid_inline_spec.proofs.Times.{dropped_there, in-times, times-cons}
 
--- ---- numbers that all stand in a list are no more than it has
+-- ---- numbers that are all in a list are no more than it has
 
--- How often the m numbers from b on stand there, and whether x is one of them.
+-- How often the m numbers from b on occur there, and whether x is one of them.
 abbrev tally : ℕ → ℕ → List ℕ → ℕ
 tally zero b xs = 0
 tally (suc m) b xs = times_in xs b + tally m (b + 1) xs
@@ -101,7 +101,7 @@ few_own params locals known h = which (cases_lt (length locals) params)
         omega arith
     which (inl l) = omega arith
 
--- ---- what bodies assign, and the locals that are added
+-- ---- assigned locals of bodies, and the added locals
 
 abbrev all_assigned : List Uses → ℕ
 all_assigned us = length (all_uses us).assigns
@@ -118,7 +118,7 @@ assigned-one x = let e = assigned-cons x [] in omega arith
 assigned-two : (x y : Uses) → all_assigned (x ∷ y ∷ []) ≡ length x.assigns + length y.assigns
 assigned-two x y = let e1 = assigned-cons x (y ∷ []) in let e2 = assigned-one y in omega arith
 
--- What each function's body adds, with its own locals.
+-- The locals that each function's body adds, with its own.
 abbrev AllFew : List ℕ → List PutIn → Type 0
 AllFew [] [] = Unit {0}
 AllFew (c ∷ cs) (put ∷ puts) = ((arrays ws : List ℕ) → length (put arrays ws).locals ≤ length ws + 8 + 8 * c) × AllFew cs puts

@@ -48,7 +48,7 @@ member_out event vs ticks n = generated event vs ticks (At n)
 abbrev pub Sends : Effect → Frame → State → List Out → Type 0
 Sends f v q outs = f v q ≡ record { gives = tt; after = record q { outs = q.outs ++ outs }; calls = [] }
 
--- What is sent where arguments, delay and target are these runs.
+-- The outs if arguments, delay and target are these runs.
 abbrev sent_by : ℕ → Ran (List Bits) → (State → Ran ℕ) → (State → Ran Target) → Ran (Unit {0})
 sent_by event args delay to = let t = to args.after in let d = delay t.after in
     record { gives = tt; after = record d.after { outs = d.after.outs ++ generated event args.gives d.gives t.gives ∷ [] }; calls = args.calls ++ ((t.calls ++ (d.calls ++ [])) ++ []) }

@@ -1,4 +1,4 @@
--- What a part of a body becomes keeps the rules of a valid program where the part does: what it means, at a site.
+-- The flat form of a part of a body keeps the rules of a valid program if the part does: the meaning at a site.
 use Rattle.std.proofs.Common.{◌≡◌, ◌⊎◌, inl, inr, ℕ, zero, suc, ◌+◌, ◌<◌, ◌≤◌, List, [], ◌∷◌, ◌++◌, Bool, true, false, not, ◌||◌, is_some, Some, length, map, refl, sym, ap, subst, ◌∙◌, append-nil, nat_eq, slice_get, slice_index}
 use Rattle.std.specs.List.{list_all}
 use Rattle.std.specs.Option.{option_eq}
@@ -70,11 +70,11 @@ module _ (A : List ℕ) (Ev Fo : List (List ℕ)) where
   abbrev pub flat_place : List ℕ → List ℕ → Place
   flat_place W K = record { scope = record { arrays = A; params = []; locals = W; events = Ev; forms = Fo; funs = [] }; known = K; flat = true }
 
-  -- Arrays of these cell widths stand for array parameters.
+  -- Arrays of these cell widths are passed for array parameters.
   abbrev pub Stand : List ℕ → List ℕ → Type 0
   Stand params arrays = (i w : ℕ) → slice_get params i ≡ Some w → slice_get A (slice_index arrays i) ≡ Some w
 
-  -- A function's body put in keeps the rules.
+  -- A function's inlined body keeps the rules.
   pub record PutKeeps (d : FunDef) (put : PutIn) : Type 0 where
     pub params : d.params ≤ length d.locals
     pub begins : (arrays ws : List ℕ) → Begins (ws ++ d.locals) (put arrays ws).locals
@@ -101,7 +101,7 @@ module _ (A : List ℕ) (Ev Fo : List (List ℕ)) where
     pub here_later : (ws us : List ℕ) → Begins ws us → Here ws → Here us
     here_later ws us b h i w is = slice_begins ws us b (p.first + i) w (h i w is)
 
-    -- What is assigned in the body is assigned here.
+    -- The locals assigned in the body are assigned here.
     abbrev pub Knows : List ℕ → List ℕ → Type 0
     Knows known K = (i : ℕ) → is_in known i ≡ true → is_in K (p.first + i) ≡ true
 
@@ -116,7 +116,7 @@ module _ (A : List ℕ) (Ev Fo : List (List ℕ)) where
     array_stands (Global a) w h = h
     array_stands (Param i) w h = stand i w h
 
-    -- The rules but for widths, of a part of the body behind these assignments.
+    -- The rules except for widths, for a part of the body after these assignments.
     pub record Tested (known : List ℕ) (names : Test) (returns : Returns) (flow : Flow) (limits : Bool) (texts : Printed) (syntax : Bool) : Type 0 where
       pub named : names core_scope ≡ true
       pub last : returns.last ≡ true
@@ -158,7 +158,7 @@ module _ (A : List ℕ) (Ev Fo : List (List ℕ)) where
       pub filled : each_filled (map stmt_texts ss) Fo ≡ true
       pub formed : all_hold (map is_core_stmt ss) ≡ true
 
-    -- What a part becomes keeps the rules, whatever locals are added later and whatever else is assigned.
+    -- The flat form of a part keeps the rules, for any locals added later and any other assignments.
     pub record KeptExpr (known : List ℕ) (a : Answer) (t : Flatten Expr) : Type 0 where
       pub keeps : (ws : List ℕ) → Here ws → (W : List ℕ) → Begins (t p ws).locals W → (K : List ℕ) → Knows known K → KeepsExpr (flat_place W K) a (t p ws).value
       pub few : (ws : List ℕ) → expr_few (t p ws).value ≡ true
@@ -190,7 +190,7 @@ module _ (A : List ℕ) (Ev Fo : List (List ℕ)) where
       pub keeps : (ws : List ℕ) → Here ws → (W : List ℕ) → Begins (t p ws).locals W → (K : List ℕ) → Knows known K → KeepsBlock (flat_place W K) a ending (t p ws).value
       pub few : (ws : List ℕ) → all_hold (map stmt_few (t p ws).value) ≡ true
 
-    -- What becomes one statement, which assigns these.
+    -- A part that becomes one statement, which assigns these.
     pub alone : (known : List ℕ) (a : Answer) (t : Flatten (List Stmt)) (returns : Returns) (assigns : List ℕ) (r : Ending) → on_some_path r ≡ returns.some → on_every_path r ≡ returns.always →
         (k : List ℕ) → ((i : ℕ) → is_in assigns i ≡ true → is_in k (p.first + i) ≡ true) → (x : List ℕ → Stmt) → ((ws : List ℕ) → (t p ws).value ≡ x ws ∷ []) →
         ((ws : List ℕ) → Here ws → (W : List ℕ) → Begins (t p ws).locals W → (K : List ℕ) → Knows known K → KeepsStmt (flat_place W K) a r k (x ws)) → ((ws : List ℕ) → stmt_few (x ws) ≡ true) →

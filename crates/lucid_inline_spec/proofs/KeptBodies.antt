@@ -1,4 +1,4 @@
--- What the bodies of a valid core become keeps the rules: by induction on the trees, and then function after function.
+-- The flat forms of the bodies of a valid core keep the rules: by induction on the trees, and then function after function.
 use Rattle.std.proofs.Common.{◌≡◌, ℕ, ◌+◌, ◌≤◌, List, [], ◌∷◌, ◌++◌, Bool, true, false, not, ◌&&◌, ◌||◌, is_some, None, Some, length, map, take, refl, sym, ap, subst, ◌∙◌, arith, append-nil, append_assoc, nat_eq, nat_le, slice_get}
 use Rattle.std.specs.List.{list_all}
 use Rattle.std.specs.Option.{option_eq}

@@ -1,4 +1,4 @@
--- Each node of a body becomes what keeps the rules, if its parts do.
+-- The flat form of each node of a body keeps the rules, if its parts do.
 use Rattle.std.proofs.Common.{◌≡◌, ◌⊎◌, inl, inr, ℕ, zero, suc, ◌+◌, ◌<◌, List, [], ◌∷◌, ◌++◌, Bool, true, false, ◌&&◌, ◌||◌, if◌then◌else◌, is_some, unwrap_or, Option, None, Some, length, map, take, refl, sym, ap, ap₂, subst, ◌∙◌, arith, append-nil, append_assoc, length-append, nat_eq, nat_le, slice_get, option_map, option_to_list}
 use Rattle.std.specs.List.{list_all, enumerate_from}
 use Rattle.std.specs.Option.{option_eq, option_map_or}
@@ -175,7 +175,7 @@ module _ (A : List ℕ) (Ev Fo : List (List ℕ)) (p : Site) (P L : List ℕ) (F
   abbrev pub stmt_tree : Stmt-F E S T → Stmt-F Expr Stmt Touch
   stmt_tree = map-Stmt E S T Expr Stmt Touch (λ e. e.0) (λ e. e.0) (λ e. e.0)
 
-  -- What the rules make of a node, by what they make of its parts.
+  -- The results of the rules for a node, by their results for its parts.
   abbrev pub ExprAt : List ℕ → Expr-F Expr Stmt Touch → Type 0
   ExprAt known y = Tested known
       (names.expr_step (map-Expr Expr Stmt Touch Test Test Test expr_names stmt_names touch_names y))
@@ -244,7 +244,7 @@ module _ (A : List ℕ) (Ev Fo : List (List ℕ)) (p : Site) (P L : List ℕ) (F
   taken (suc n) (l ∷ ls) zero w h = h
   taken (suc n) (l ∷ ls) (suc i) w h = taken n ls i w h
 
-  -- A function's body put in, behind the arguments.
+  -- A function's inlined body, after the arguments.
   put_kept : (d : FunDef) (o : Option PutIn) (put : PutIn) → o ≡ Some put → PutKeeps A Ev Fo d put → (arrays : List ℕ) → Stand A Ev Fo d.arrays arrays → (args : List Expr) (ws W : List ℕ) → Begins (f.put_in o arrays args ws).locals W →
       (K : List ℕ) → KeepsAll (PlaceAt W K) (take d.params d.locals) args → length args ≡ length (take d.params d.locals) → KeepsExpr (PlaceAt W K) d.answer (roll-Expr (f.put_in o arrays args ws).value)
   put_kept d None put is one arrays fit args ws W begins K given count = absurd (cc)
@@ -355,7 +355,7 @@ module _ (A : List ℕ) (Ev Fo : List (List ℕ)) (p : Site) (P L : List ℕ) (F
 
   -- ---- a call of an array
 
-  -- What the widths of a call of an array say of its parts.
+  -- The meaning of the widths of a call of an array for its parts.
   pub record Touching (t : Touch-F (Typed Answer) (Typed (List Answer)) (Typed Answer)) (a : Answer) : Type 0 where
     pub width : ℕ
     pub cell : cell_width t.array s ≡ Some width
@@ -433,7 +433,7 @@ module _ (A : List ℕ) (Ev Fo : List (List ℕ)) (p : Site) (P L : List ℕ) (F
   abbrev More : List ℕ → List ℕ → Type 0
   More K K2 = (j : ℕ) → is_in K j ≡ true → is_in K2 j ≡ true
 
-  -- The locals that are added have the widths of what they hold.
+  -- The added locals have the widths of their values.
   widths_read : (ws K vs : List ℕ) (xs : List Expr) → KeepsAll (PlaceAt ws K) vs xs → map (f.width_in ws) xs ≡ vs
   widths_read ws K [] [] h = refl
   widths_read ws K (v ∷ vs) (x ∷ xs) h =
@@ -614,7 +614,7 @@ module _ (A : List ℕ) (Ev Fo : List (List ℕ)) (p : Site) (P L : List ℕ) (F
   split_tests known [] ds h = (tt, h)
   split_tests known (e ∷ es) ds h = let rest = split_tests known es ds h.1 in ((h.0, rest.0), rest.1)
 
-  -- What stands in an event: its arguments, its delay and its target.
+  -- The operands of an event: its arguments, its delay and its target.
   abbrev operands : Option E → Option E → List E
   operands d t = option_to_list d ++ option_to_list t
 

@@ -49,7 +49,7 @@ count_shift b n m f g h same none =
     let e : (b + n) + (m - (b + n)) ≡ m = omega arith in
     ap (λ (k : ℕ). count_below k g) (sym e) ∙ count_more (b + n) (m - (b + n)) g (λ k a c. none k (omega arith) (inr a)) ∙ count_up b n f g (λ k a. none k (omega arith) (inl a)) same
 
--- What stands around what follows these.
+-- The context of the parts after these.
 abbrev pub after_all : List Piece → Around → Around
 after_all [] a = a
 after_all (x ∷ xs) a = after_all xs (with_held a x.sets)
@@ -111,7 +111,7 @@ given_there xs b i = either (cases_lt i (length xs))
     either (inl h) = given_in xs b i h ∙ sym (lt-ltb i (length xs) h)
     either (inr h) = given_past xs b (b + i) (omega arith) ∙ sym (le-ltb i (length xs) h)
 
--- A body of n locals from `first` on, among N: what stands around it in the core and in the flat core.
+-- A body of n locals from `first` on, among N: its context in the core and in the flat core.
 pub record Near (N first n : ℕ) (counts : List ℕ) (next top : ℕ) (a b : Around) : Type 0 where
   pub funs : a.funs ≡ counts
   pub locals : a.locals ≡ n
@@ -119,7 +119,7 @@ pub record Near (N first n : ℕ) (counts : List ℕ) (next top : ℕ) (a b : Ar
   pub own : (i : ℕ) → i < n → b.held (first + i) ≡ a.held i
   pub rest : (k : ℕ) → next ≤ k → k < top → b.held k ≡ false
 
--- A function's body put in has the function's length.
+-- A function's inlined body has the function's length.
 pub record Counts (N count arity : ℕ) (put : PutIn) : Type 0 where
   pub own : ℕ
   pub room : arity ≤ own
@@ -192,7 +192,7 @@ module _ (N : ℕ) (p : Site) (counts rooms : List ℕ) (all : AllCounts N count
   block_piece : List Stmt → Around → ℕ
   block_piece ss = block_ops (pieces ss)
 
-  -- A block; what it sets is no matter to what stands round it.
+  -- A block; its assignments don't matter to its context.
   those : (es : List S) → r.each (map stmt_fit (stmts es)) n rooms ≡ true → (ws : List ℕ) → p.first + n ≤ length ws → (top : ℕ) → length (f.block (map flat_stmt (stmts es)) p ws).locals ≤ top →
       length (f.block (map flat_stmt (stmts es)) p ws).locals ≤ N → (a b : Around) → NearHere (length ws) top a b →
       block_ops (pieces (f.block (map flat_stmt (stmts es)) p ws).value) b ≡ block_ops (pieces (stmts es)) a
@@ -632,7 +632,7 @@ module _ (N : ℕ) (p : Site) (counts rooms : List ℕ) (all : AllCounts N count
   assigned_value [] b = refl
   assigned_value (x ∷ xs) b = assigned_value xs (b + 1)
 
-  -- Each argument as where it stands, since its calls stand before the new locals.
+  -- Each argument in its context, since its calls precede the new locals.
   assigned_long : (hs : List E) → r.each (map expr_fit (exprs hs)) n rooms ≡ true → (ws : List ℕ) → p.first + n ≤ length ws → (top b : ℕ) → length (f.each (map flat_expr (exprs hs)) p ws).locals ≤ top → top ≤ b →
       length (f.each (map flat_expr (exprs hs)) p ws).locals ≤ N → (a c : Around) → NearHere (length ws) top a c →
       block_ops (assigned b (f.each (map flat_expr (exprs hs)) p ws).value) c ≡ total_ops (map expr_measure (exprs hs)) a + length hs
@@ -680,7 +680,7 @@ module _ (N : ℕ) (p : Site) (counts rooms : List ℕ) (all : AllCounts N count
       let e5 = total-append (map expr_measure (f.locals_from b m)) [] a in
       omega arith
 
-  -- What a member does not.
+  -- The effects that a member lacks.
   pub record Quiet (x : Piece) : Type 0 where
     pub sets : (k : ℕ) → x.sets k ≡ false
     pub changes : (k : ℕ) → x.changes k ≡ false
@@ -727,7 +727,7 @@ module _ (N : ℕ) (p : Site) (counts rooms : List ℕ) (all : AllCounts N count
   each-length [] ws = refl
   each-length (h ∷ hs) ws = ap suc (each-length hs (flat_expr h.0 p ws).locals)
 
-  -- What a group of these arguments becomes.
+  -- The flat form of a group of these arguments.
   abbrev grouped : ℕ → ℕ → Bool → List ℕ → List (Flatten Expr) → Flatten (List (Stmt-F Expr Stmt Touch))
   grouped event m delayed members held = λ q ws. let first = f.each held q ws in record {
     value = assigns (length first.locals) first.value ++ map (f.to_member event (length first.locals) m delayed) members;

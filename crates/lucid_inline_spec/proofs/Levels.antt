@@ -1,4 +1,4 @@
--- Each node of a body runs as what it becomes, if its parts do.
+-- Each node of a body runs as its flat form, if its parts do.
 use Rattle.std.proofs.Common.{◌≡◌, ◌⊎◌, inl, inr, ℕ, zero, suc, ◌+◌, ◌<◌, ◌≤◌, nat_lt, length-append, List, [], ◌∷◌, ◌++◌, Bool, true, false, ◌&&◌, if◌then◌else◌, Option, None, Some, length, map, refl, sym, ap, ap₂, subst, ◌∙◌, arith, append-nil, nat_eq, slice_get, slice_set, option_map, option_to_list}
 use Rattle.std.specs.List.{list_all, enumerate_from}
 use Rattle.std.specs.Option.{option_map_or}
@@ -372,7 +372,7 @@ module _ (W : List ℕ) (now me : ℕ) (p : Site) (rooms : List ℕ) (fs : List 
         single (length third.locals) top q _ _ (record { gives = refl; calls = ap₂ (λ (x y : List ℕ). x ++ y) one.calls moved.calls; after = moved.after; beyond = λ k h. moved.beyond k h ∙ one.beyond k (omega arith) });
   }
 
-  -- What may be left out.
+  -- An optional operand.
   optional_sim : {B : Type 0} (absent : B) (given : ℕ → B) (o : Option E) → SimHere (λ (d : Option Expr). m.optional absent given (option_map value_of d)) (f.optional (option_map (λ (e : E). flat_expr e.0) o))
       (m.optional absent given (option_map (λ (e : E). value_of e.0) o)) (r.each (option_to_list (option_map (λ (e : E). expr_fit e.0) o)))
   optional_sim absent given None = record { grows = λ ws. begins_self ws; acts = λ fit ws bound begins top under s q same. record { gives = refl; calls = refl; after = same; beyond = λ k h. refl } }
@@ -382,7 +382,7 @@ module _ (W : List ℕ) (now me : ℕ) (p : Site) (rooms : List ℕ) (fs : List 
         record { gives = ap (λ (v : Bits). given v.value) one.gives; calls = ap (λ (c : List ℕ). c ++ []) one.calls; after = one.after; beyond = one.beyond };
   }
 
-  -- Two that may stand in either order.
+  -- Two in either order.
   both_sim : {A B C D : Type 0} (b : Bool) (flat1 : A → Computation B) (t : Flatten A) (c : Computation B) (fit1 : Fit) (flat2 : C → Computation D) (u : Flatten C) (d : Computation D) (fit2 : Fit) → SimHere flat1 t c fit1 → SimHere flat2 u d fit2 →
       SimHere (λ (x : A × C). both b (flat1 x.0) (flat2 x.1)) (f.both b t u) (both b c d) (λ k rs. fit1 k rs && fit2 k rs)
   both_sim {B = B} {D = D} true flat1 t c fit1 flat2 u d fit2 one two = record {
@@ -464,7 +464,7 @@ module _ (W : List ℕ) (now me : ℕ) (p : Site) (rooms : List ℕ) (fs : List 
       let first = (f.each held p ws).locals in
       begins_then ws first _ (subst (λ (x : List (Flatten Expr)). Begins ws (f.each x p ws).locals) e (each_grows (es ++ ds) ws)) (begins_append first _)
 
-  -- Something is assigned beyond what matters.
+  -- An assignment beyond the relevant locals.
   outside : (next top b : ℕ) (s q : State) (v : Bits) → p.first + n ≤ next → next ≤ top → top ≤ b → SameHere next top s q → SameHere next top s (record q { locals = slice_set q.locals b v })
   outside next top b s q v bound l h same = record {
     cells = same.cells;

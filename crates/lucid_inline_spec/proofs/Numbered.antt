@@ -1,4 +1,4 @@
--- Numbers that stand in a list, and the numbers that parts of a list get from some number on.
+-- Numbers in a list, and the numbers that parts of a list get from some number on.
 use Rattle.std.proofs.Common.{◌≡◌, ◌⊎◌, inl, inr, ℕ, zero, suc, ◌+◌, ◌<◌, ◌≤◌, List, [], ◌∷◌, ◌++◌, Bool, true, false, ◌||◌, Some, length, map, refl, sym, ap, subst, ◌∙◌, arith, nat_eq, slice_get}
 use Rattle.std.specs.List.{enumerate_from}
 use Rattle.std.proofs.lemmas.Bool.{eqb-true, eq-eqb, or_left, or_right}
@@ -35,7 +35,7 @@ number_within {A = A} (x ∷ xs) b i h = of (either_true _ _ h) (number_within x
     of (inl e) rest = let same = eqb-true i b e in (omega arith, omega arith)
     of (inr e) rest = let both = rest e in let l = both.0 in let u = both.1 in (omega arith, omega arith)
 
--- What stands at a place stands there in a longer list, and behind another list.
+-- An item at a position is there in a longer list, and after another list.
 pub slice_begins : (xs ys : List ℕ) → Begins xs ys → (i w : ℕ) → slice_get xs i ≡ Some w → slice_get ys i ≡ Some w
 slice_begins xs ys b i w h = subst (λ (zs : List ℕ). slice_get zs i ≡ Some w) (sym b.1) (left xs b.0 i h)
   where

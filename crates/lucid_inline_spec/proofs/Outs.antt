@@ -27,7 +27,7 @@ pub total-append : (xs ys : List Count) (fs : List ℕ) → total (xs ++ ys) fs 
 total-append [] ys fs = let z : 0 + total ys fs ≡ total ys fs = omega arith in sym z
 total-append (x ∷ xs) ys fs = let e = total-append xs ys fs in omega arith
 
--- What each function's body gives.
+-- The outs of each function's body.
 abbrev pub AllCount : List ℕ → List PutIn → Type 0
 AllCount [] [] = Unit {0}
 AllCount (c ∷ cs) (put ∷ puts) = ((arrays ws : List ℕ) → body_outs (put arrays ws).value [] ≡ c) × AllCount cs puts

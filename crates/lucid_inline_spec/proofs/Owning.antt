@@ -48,7 +48,7 @@ keep_parts : (lo hi : ℕ) (count : ℕ → ℕ) (is js : List Inlining) → All
 keep_parts lo hi count [] js h = (tt, h)
 keep_parts lo hi count (i ∷ is) js h = let rest = keep_parts lo hi count is js h.1 in ((h.0, rest.0), rest.1)
 
--- In a wider range, where what is counted there is the same.
+-- In a wider range, if the counts there are the same.
 keep_wider : (lo hi hi2 : ℕ) (count count2 : ℕ → ℕ) (is : List Inlining) → hi ≤ hi2 → ((a : ℕ) → lo ≤ a → a < hi → count2 a ≡ count a) → AllKeepToThemselves lo hi count is → AllKeepToThemselves lo hi2 count2 is
 keep_wider lo hi hi2 count count2 [] h e k = tt
 keep_wider lo hi hi2 count count2 (i ∷ is) h e k = (
@@ -168,7 +168,7 @@ pub members_read : (event b n hi : ℕ) (delayed : Bool) (members : List ℕ) �
 members_read event b n hi delayed [] h k = reads_none b hi
 members_read event b n hi delayed (m ∷ members) h k = reads_both b hi _ _ (member_reads event b n hi delayed m h k) (members_read event b n hi delayed members h k)
 
--- What holds the arguments, and what reads them.
+-- The locals of the arguments, and their readers.
 pub group_owns : (b n lo mid : ℕ) (xs : List Expr) (sent : Uses) → b + n ≤ lo → Owns b n lo mid (exprs_uses xs) → Reads mid (mid + length xs) sent → Owns b n lo (mid + length xs) (joined (uses_of_nodes (assigns mid xs)) sent)
 group_owns b n lo mid xs sent bound k r0 =
     let held = uses_of_nodes (assigns mid xs) in

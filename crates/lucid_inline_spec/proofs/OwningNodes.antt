@@ -26,7 +26,7 @@ use Rattle.lucid_inline_spec.proofs.Numbered.{numbers_of}
 use Rattle.lucid_inline_spec.proofs.Owning.{assigns, exprs_uses, expr_at, group_owns, held_assigns, joined-assoc, members_read, node_uses, owns_turned, stmts_at, uses_append, uses_of_nodes, uses_one}
 use Rattle.lucid_inline_spec.proofs.Times.{numbers_above, numbers_below, numbers_there, times-append, times-cons, times-none, times-one}
 
--- A function's body put in names and assigns its own locals and those behind them; its parameters are assigned by the call.
+-- A function's inlined body names and assigns its own locals and those after them; its parameters are assigned by the call.
 pub record PutOwns (arity : ℕ) (put : PutIn) : Type 0 where
   pub own : ℕ
   pub room : arity ≤ own
@@ -48,7 +48,7 @@ params_alone b [] = refl
 params_alone b (x ∷ xs) = ap (λ (q : List ℕ). b ∷ q) (params_alone (b + 1) xs)
 
 module _ (p : Site) (rooms : List ℕ) (all : AllOwn rooms p.funs) (grow : AllGrow p.funs) (n : ℕ) where
-  -- What a part becomes, put in at the locals from lo to hi; and what the part assigns, it assigns.
+  -- The flat form of a part, inlined at the locals from lo to hi; and it assigns the locals that the part assigns.
   pub record Owned (core flat : Uses) (lo hi : ℕ) : Type 0 where
     pub owns : Owns p.first n lo hi flat
     pub carries : (c : ℕ) → 0 < times_in core.assigns c → 0 < times_in flat.assigns (p.first + c)

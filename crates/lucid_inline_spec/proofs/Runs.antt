@@ -54,7 +54,7 @@ module _ (W : List ℕ) (now me : ℕ) (p : Site) (rooms : List ℕ) (fs : List 
   abbrev TouchHolds : Touch → Type 0
   TouchHolds e = Here touch_of (flat_touch e) (touch_of e) (touch_fit e)
 
-  -- What a node becomes is rolled up.
+  -- The flat form of a node is rolled up.
   rolled : {A B C : Type 0} (flat : A → Computation C) (whole : B → Computation C) (roll : A → B) (t : Flatten A) (c : Computation C) (fit : Fit) → ((x : A) → whole (roll x) ≡ flat x) → Here flat t c fit →
       Here whole (λ q ws. record { value = roll (t q ws).value; locals = (t q ws).locals }) c fit
   rolled {C = C} flat whole roll t c fit is one = record {
@@ -208,7 +208,7 @@ taken-length [] (a ∷ args) h = absurd (omega arith)
 taken-length (w ∷ ws) [] h = refl
 taken-length (w ∷ ws) (a ∷ args) h = ap suc (taken-length ws args (omega arith))
 
--- What a step is made of.
+-- The parts of a step.
 pub record RunsAlike (r q : Ran (Unit {0})) : Type 0 where
   pub cells : q.after.cells ≡ r.after.cells
   pub outs : q.after.outs ≡ r.after.outs
@@ -255,7 +255,7 @@ module _ (core : CoreParts) (cells : List (List ℕ)) (now me : ℕ) (args : Lis
       let did = body.acts fits h.locals (omega arith) (begins_self W) (length W) (omega arith) _ _ begins in
       record { cells = did.after.cells; outs = did.after.outs; calls = did.calls }
 
--- The flat form does what the core does, at each event with no more arguments than its handler has locals.
+-- The flat form has the effect of the core, at each event with no more arguments than its handler has locals.
 pub flat_runs : (core : CoreParts) → program_fits core ≡ true → (cells : List (List ℕ)) (now me : ℕ) (event : Event) → ((h : HandlerDef) → handler_of core event.id ≡ Some h → length event.args ≤ length h.locals) →
     RunsAlike (ran core cells now me event) (ran (f.flat_of core) cells now me event)
 flat_runs core fit cells now me event few = at (option_and_then (λ (e : EventDef). e.handler) (slice_get core.events event.id)) few

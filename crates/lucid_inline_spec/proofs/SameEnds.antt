@@ -94,7 +94,7 @@ members_stay fs N event b n delayed [] c = refl
 members_stay fs N event b n delayed (m ∷ ms) c = ap (option_and_then (walk.sequence o.ends (map stmt_meaning (map (f.to_member event b n delayed) ms)) fs N)) (member_stays fs N event b n delayed m c) ∙ members_stay fs N event b n delayed ms c
 
 module _ (N : Numbering) where
-  -- What a numbering of declared arrays gives the names of a body whose parameters stand for these arrays.
+  -- The numbering of a body's names from one of declared arrays, if its parameters denote these arrays.
   abbrev pub through : List ℕ → Numbering
   through arrays = λ y. N (Global (array_of arrays y))
 
@@ -105,7 +105,7 @@ module _ (N : Numbering) where
       at (Global a) = refl
       at (Param i) = ap (λ a. N (Global a)) (sym (given_array arrays names i))
 
-  -- Each function ends where what it becomes ends.
+  -- Each function ends where its flat form ends.
   abbrev pub AllPut : List PutIn → List FunEnd → Type 0
   AllPut [] [] = Unit {0}
   AllPut [] (g ∷ gs) = ⊥
@@ -346,7 +346,7 @@ module _ (N : Numbering) where
     stmt_level (Stmt-F.Return None) h ws c = refl
     stmt_level (Stmt-F.Return (Some e)) h ws c = alone (expr_end (flat_expr e.0 p ws).value [] N c) ∙ e.1 (and_parts _ _ h).0 ws c
 
-    -- What a node becomes is rolled up.
+    -- The flat form of a node is rolled up.
     along : {A : Type 0} (flat : A → End) (t u : Flatten A) (e g : End) (q s : Fit) → t ≡ u → e ≡ g → q ≡ s → Turns flat u g s → Turns flat t e q
     along flat t u e g q s a b c h = subst (λ (x : Flatten _). Turns flat x e q) (sym a) (subst (λ (x : End). Turns flat u x q) (sym b) (subst (λ (x : Fit). Turns flat u g x) (sym c) h))
 

@@ -86,7 +86,7 @@ module _ (W : List ℕ) (now me : ℕ) where
     rest = λ k l. same.rest k (omega arith);
   }
 
-  -- A function's body put in, run as the function.
+  -- A function's inlined body, run as the function.
   pub record Good (room : ℕ) (put : PutIn) (g : Fun) : Type 0 where
     pub grows : (arrays ws : List ℕ) → Begins ws (put arrays ws).locals
     pub runs : (arrays ws : List ℕ) (vs : List Bits) → length vs ≤ room → Begins (put arrays ws).locals W → (first n top : ℕ) (s q : State) → first + n ≤ length ws →
@@ -117,7 +117,7 @@ module _ (W : List ℕ) (now me : ℕ) where
   found (r ∷ rs) [] gs all k room h = absurd all
   found (r ∷ rs) (p ∷ ps) [] all k room h = absurd all
 
-  -- Whatever the number.
+  -- For any number.
   pub put_grows : (rs : List ℕ) (ps : List PutIn) (gs : List Fun) → AllGood rs ps gs → (k : ℕ) (arrays : List ℕ) (args : List Expr) (ws : List ℕ) →
       Begins ws (f.put_in (slice_get ps k) arrays args ws).locals
   put_grows [] [] [] all k arrays args ws = begins_self ws
@@ -141,7 +141,7 @@ module _ (W : List ℕ) (now me : ℕ) where
     abbrev pub core_frame : Frame
     core_frame = record { now = now; me = me; arrays = p.arrays; funs = fs }
 
-    -- A part t becomes flat, and what is made of it runs as the part does.
+    -- A part t becomes flat, and its flat form runs as the part does.
     pub record Sim {A B : Type 0} (flat : A → Computation B) (t : Flatten A) (c : Computation B) (fit : Fit) : Type 0 where
       pub grows : (ws : List ℕ) → Begins ws (t p ws).locals
       pub acts : fit n rooms ≡ true → (ws : List ℕ) → p.first + n ≤ length ws → Begins (t p ws).locals W → (top : ℕ) → length (t p ws).locals ≤ top →

@@ -40,7 +40,7 @@ sizes-append (x ∷ xs) ys = let e = sizes-append xs ys in omega arith
 abbrev sizes_of : List Stmt → ℕ
 sizes_of ss = z.total (map flat_stmt_size ss)
 
--- What each function's body is.
+-- The size of each function's body.
 abbrev pub AllSize : List ℕ → List PutIn → Type 0
 AllSize [] [] = Unit {0}
 AllSize (c ∷ cs) (put ∷ puts) = ((arrays ws : List ℕ) → sizes_of (put arrays ws).value ≡ c) × AllSize cs puts
@@ -239,7 +239,7 @@ module _ (p : Site) (counts : List ℕ) (all : AllSize counts p.funs) (n : ℕ) 
   each-length [] ws = refl
   each-length (h ∷ hs) ws = ap suc (each-length hs (flat_expr h.0 p ws).locals)
 
-  -- A group: what is held, and a statement for each argument and each member.
+  -- A group: its values, and a statement for each argument and each member.
   group_level : (event k : ℕ) (delayed : Bool) (members : List ℕ) (es ds : List E) (held : List (Flatten Expr)) → map flat_expr (exprs (es ++ ds)) ≡ held → (cs : List Count) → map expr_size (exprs (es ++ ds)) ≡ cs →
       r.each (map expr_fit (exprs es) ++ map expr_fit (exprs ds)) n rooms ≡ true → (ws : List ℕ) →
       (let first = f.each held p ws in z.total (map node_stmt (map (λ (g : ℕ × Expr). Stmt-F.Assign g.0 g.1) (enumerate_from (length first.locals) first.value) ++ map (to_member event (length first.locals) k delayed) members)) ≡

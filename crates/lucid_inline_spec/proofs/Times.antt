@@ -1,4 +1,4 @@
--- How often numbers stand in a list.
+-- How often numbers occur in a list.
 use Rattle.std.proofs.Common.{◌≡◌, ◌⊎◌, inl, inr, ℕ, zero, suc, ◌+◌, ◌<◌, ◌≤◌, List, [], ◌∷◌, ◌++◌, Bool, true, false, cond, drop, length, refl, ap, ◌∙◌, arith, nat_eq}
 use Rattle.std.proofs.lemmas.Bool.{and_from, and_parts, cases_Bool, cases_eq, eqb-false, eqb-true, eq-eqb, ne_eqb, or_left, or_right}
 use Rattle.std.proofs.lemmas.List.Sums.{sum_by-append, sum_by-cons}
@@ -18,7 +18,7 @@ times-none y ys x ne = times-cons y ys x ∙ ap (λ (b : Bool). cond b 1 0 + tim
 pub times-one : (y : ℕ) (ys : List ℕ) (x : ℕ) → x ≡ y → times_in (y ∷ ys) x ≡ 1 + times_in ys x
 times-one y ys x e = times-cons y ys x ∙ ap (λ (b : Bool). cond b 1 0 + times_in ys x) (eq-eqb x y e)
 
--- What is there at least once is in the list, and the other way round.
+-- A number that occurs at least once is in the list, and the converse.
 pub is_in-from : (xs : List ℕ) (x : ℕ) → 0 < times_in xs x → is_in xs x ≡ true
 is_in-from [] x h = absurd (omega arith)
 is_in-from (y ∷ ys) x h = either (cases_Bool (nat_eq x y)) (is_in-from ys x)

@@ -34,7 +34,7 @@ use Rattle.lucid_inline_spec.proofs.Runs.{funs_fit, puts_from, rooms_from}
 use Rattle.lucid_inline_spec.proofs.Steps.{starts-length, valid_fits}
 use Rattle.lucid_inline_spec.proofs.Times.{dropped_from, dropped_there, in-times, is_in-from}
 
--- ---- what functions and handlers assign
+-- ---- the assigned locals of functions and handlers
 
 own_more : (rs : List ℕ) (ps : List PutIn) (k : ℕ) (put : PutIn) → AllOwn rs ps → PutOwns k put → AllOwn (rs ++ k ∷ []) (ps ++ put ∷ [])
 own_more [] [] k put all one = (one, tt)
@@ -131,7 +131,7 @@ module _ (core : CoreParts) (valid : IsValid core) where
           own.carries i (in-times (body_uses h.body).assigns i (subst (λ (j : ℕ). is_in (body_uses h.body).assigns j ≡ true) z (dropped_there (params h) h.locals 0 (body_uses h.body).assigns rule i l q)))
       at rule own i l m (inr q) = own.owns.covers (0 + i) (omega arith) (omega arith)
 
-  -- Of all handlers, what is so of each.
+  -- For all handlers, a fact of each.
   each_handler : (test : HandlerDef → Bool) → ((k : ℕ) (h : HandlerDef) → slice_get core.handlers k ≡ Some h → test (flat h) ≡ true) → list_all test (map flat core.handlers) ≡ true
   each_handler test h = from core.handlers 0 h
     where

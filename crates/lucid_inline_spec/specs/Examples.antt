@@ -38,7 +38,7 @@ bottom = bump (return (Some (less (local 0) one)) ∷ [])
 abbrev pub above : ℕ → FunDef
 above k = bump (return (Some (less (call k (Param 0 ∷ []) (local 0 ∷ [])) (call k (Param 0 ∷ []) (local 0 ∷ [])))) ∷ [])
 
--- Three of them, one above the other; the handler sends out what the last gives.
+-- Three of them, one above the other; the handler sends the result of the last.
 abbrev pub tower : CoreParts
 tower = record small {
   funs = bottom ∷ above 0 ∷ above 1 ∷ [];
@@ -49,11 +49,11 @@ tower = record small {
 abbrev pub group : Stmt
 group = to_each_after 0 (local 0 ∷ bump_at (local 0) ∷ []) (Some one) (4 ∷ 2 ∷ [])
 
--- The body of `bump` put in at these two locals.
+-- The body of `bump`, inlined at these two locals.
 abbrev pub bump_in : ℕ → Expr → Expr
 bump_in b x = inlined ((b, x) ∷ []) (assign (b + 1) (update (Global 0) (local b) plus) ∷ return (Some (local (b + 1))) ∷ [])
 
--- The flat handler with this body, and so many more locals of 32 bits.
+-- The flat handler with this body, and additional locals of 32 bits.
 abbrev pub flat_with : List ℕ → List Stmt → CoreParts
 flat_with more ss = record small { funs = []; handlers = record (handler ss) { locals = 32 ∷ 32 ∷ 32 ∷ more } ∷ [] }
 
@@ -64,7 +64,7 @@ four_more = 32 ∷ 32 ∷ 32 ∷ 32 ∷ []
 abbrev pub sent : Expr → Expr → Stmt
 sent delay to = generate_with 0 (local 0 ∷ local 1 ∷ []) (Some delay) (Some to) false
 
--- What the group becomes for one member.
+-- The group's statement for one member.
 abbrev pub to_one : ℕ → Stmt
 to_one member = generate_with 0 (local 5 ∷ local 6 ∷ []) (Some (local 7)) (Some (number member)) false
 
@@ -75,7 +75,7 @@ pub record FlatExamples : Type 0 where
   -- a target before a delay, where it is evaluated first
   pub target_first : flat_of (doing (sent (bump_at (local 0)) (bump_at (local 1)) ∷ []))
       ≡ flat_with four_more (sent (bump_in 5 (local 0)) (bump_in 3 (local 1)) ∷ [])
-  -- a group numbers what it holds after its calls
+  -- a group numbers the locals of its values after those of its calls
   pub of_a_group : flat_of (doing (group ∷ []))
       ≡ flat_with (32 ∷ four_more) (assign 5 (local 0) ∷ assign 6 (bump_in 3 (local 0)) ∷ assign 7 one ∷ to_one 4 ∷ to_one 2 ∷ [])
 

@@ -1,5 +1,5 @@
--- The flat form of a program: each call of a function has its body put in, and each group its members. The locals that this adds get the
--- next numbers of the handler, in the order of evaluation.
+-- The flat form of a program: each call of a function is replaced by its body, and each group by its members. The locals that this adds
+-- get the next numbers of the handler, in the order of evaluation.
 use Rattle.std.specs.Prelude.{ℕ, zero, suc, ◌+◌, if◌then◌else◌, is_some, option_to_list, unwrap_or, List, [], ◌∷◌, ◌++◌, Option, None, Some, Bool}
 use Rattle.std.specs.Prelude.{true, false, length, map, fold, slice_get}
 use Rattle.std.specs.List.{enumerate_from}
@@ -18,22 +18,23 @@ use Rattle.lucid_core.specs.ExamplePrograms.{local}
 use Rattle.lucid_core.specs.Parts.{CoreParts}
 use Rattle.lucid_core.specs.Width.{expr_width}
 
--- What a part becomes, and the widths of the handler's locals behind it.
+-- The flat form of a part, and the widths of the handler's locals after it.
 pub record Flattened (A : Type 0) : Type 0 where
   pub value : A
   pub locals : List ℕ
 
--- What a function's body becomes, given the arrays that its array parameters stand for, and the widths of the handler's locals so far.
+-- The flat form of a function's body, given the arrays passed for its array parameters, and the widths of the handler's locals so far.
 abbrev pub PutIn : Type 0
 PutIn = List ℕ → List ℕ → Flattened (List Stmt)
 
--- Where a body is put in: the arrays that its array parameters stand for, the number of its first local, and the functions before it.
+-- The position of an inlined body: the arrays passed for its array parameters, the number of its first local, and the functions before
+-- it.
 pub record Site : Type 0 where
   pub arrays : List ℕ
   pub first : ℕ
   pub funs : List PutIn
 
--- What a part becomes at a site, behind these locals.
+-- The flat form of a part at a site, after these locals.
 abbrev pub Flatten : Type 0 → Type 0
 Flatten A = Site → List ℕ → Flattened A
 
@@ -68,7 +69,7 @@ put_in None arrays args ws = record { value = Expr-F.Inlined (enumerate_from (le
 put_in (Some f) arrays args ws =
     let body = f arrays ws in record { value = Expr-F.Inlined (enumerate_from (length ws) args) body.value; locals = body.locals }
 
--- A core has no call with its body put in.
+-- A core has no inlined call.
 abbrev pub expr_node : Expr-F (Flatten Expr) (Flatten (List Stmt)) (Flatten Touch) → Flatten (Expr-F Expr Stmt Touch)
 expr_node (Expr-F.Fixed n) = done (Expr-F.Fixed n)
 expr_node (Expr-F.Local i) = λ p. done (Expr-F.Local (p.first + i)) p
@@ -83,7 +84,7 @@ expr_node (Expr-F.Array t) = do a ← t; done (Expr-F.Array a)
 expr_node (Expr-F.Fun k names xs) = do args ← each xs; λ p ws. put_in (slice_get p.funs k) (map (array_of p.arrays) names) args ws
 expr_node (Expr-F.Inlined given ss) = done (Expr-F.Inlined [] [])
 
--- An array parameter becomes the array that it stands for.
+-- An array parameter becomes the array passed for it.
 abbrev pub touch_node : Touch-F (Flatten Expr) (Flatten (List Stmt)) (Flatten Touch) → Flatten (Touch-F Expr Stmt Touch)
 touch_node t = do
   i ← t.index
@@ -99,11 +100,11 @@ touch_node t = do
     answers = t.answers;
   }) p
 
--- The width of what a part gives, read where the handler has these locals. In a valid program it has one.
+-- The width of the value of a part, if the handler has these locals. In a valid program it has one.
 abbrev pub width_in : List ℕ → Expr → ℕ
 width_in ws x = unwrap_or (expr_width x ws []) 32
 
--- So many locals, from b on.
+-- This many locals, from b on.
 abbrev pub locals_from : ℕ → ℕ → List Expr
 locals_from b zero = []
 locals_from b (suc n) = local b ∷ locals_from (b + 1) n

@@ -1,4 +1,4 @@
--- What the flat form of a program promises.
+-- The laws of the flat form of a program.
 use Rattle.std.specs.Prelude.{◌≡◌, ◌↔◌, ℕ, ◌+◌, ◌*◌, ◌≤◌, List, [], Some, IsTrue, length, map, slice_get}
 use Rattle.lucid_base.specs.declared.event.Event.{Event}
 use Rattle.lucid_core.specs.declared.defs.HandlerDef.{HandlerDef}
@@ -9,8 +9,8 @@ use Rattle.lucid_effects_spec.specs.Order.{InOrder}
 use Rattle.lucid_inline_spec.specs.Counts.{body_size, flat_handler_size, fun_sizes, handler_lengths, handler_sizes}
 use Rattle.lucid_inline_spec.specs.Flat.{flat_handler, flat_of}
 
--- It does at each event that fits what the program does, and calls the same arrays in the same order. An event with more arguments than
--- its handler has parameters would reach into the locals that are added.
+-- At each event that fits it has the effect of the program, and calls the same arrays in the same order. An event with more arguments
+-- than its handler has parameters would reach into the added locals.
 pub record KeepsSteps (core : CoreParts) : Type 0 where
   pub step : (cells : List (List ℕ)) (now me : ℕ) (event : Event) → IsTrue (event_fits core event) →
       step (flat_of core) cells now me event ≡ step core cells now me event

@@ -1,4 +1,4 @@
--- What one fault more changes of files in memory: no name, no bytes, and the count of one name alone.
+-- The effect of one more fault on files in memory: no name, no bytes, and the count of one name alone.
 use Rattle.std.proofs.Common.{◌≡◌, ◌≢◌, ℕ, zero, suc, ◌+◌, ◌<◌, ◌≤◌, Bool, true, false, if◌then◌else◌, List, [], ◌∷◌, length, Option, None, Some, IsSome, refl, sym, ◌∙◌, ap, subst, arith}
 use Rattle.std.specs.Option.{option_map, option_map_or}
 use Rattle.std.specs.Str.{bytes_eq}
@@ -135,7 +135,7 @@ place_some s name told = some_of_map (bytes_at s.files) (place_of s.files name) 
 pub faults_other : (s t : MemFilesView) (place : Option ℕ) (name : List ℕ) → Blames s t place → place_of s.files name ≢ place → IsSome (bytes_of s name) → faults_of t name ≡ faults_of s name
 faults_other s t place name blames ne told = faults_of-blamed s t place name blames ∙ count_other s.files s.absent place (place_of s.files name) (place_some s name told) ne
 
--- two told names of one place are one
+-- two specified names of one place are one
 pub names_one : (files : List FileView) (a b : List ℕ) → IsSome (place_of files a) → place_of files a ≡ place_of files b → a ≡ b
 names_one files a b some same = at (place_of files a) refl some
   where

@@ -1,4 +1,4 @@
--- What `begin` and `read` of files in memory make of them, as the trait says it.
+-- The effects of `begin` and `read` on files in memory, as the trait has them.
 use Rattle.std.proofs.Common.{◌≡◌, ℕ, ◌+◌, ◌<◌, ◌≤◌, ◌++◌, List, [], length, take, drop, min, Option, None, Some, IsSome, refl, sym, ◌∙◌, ap, subst, arith, Result, Ok, Err, OnOk, OnErr, IfOk, drop-drop, take-append-drop, take_at, length-take-le, length-drop, drop_of_length-le}
 use Rattle.std.specs.Io.KnownBytes.{ReadConsumes}
 use Rattle.lucid_io.specs.Counts.{Rose, NoneFell, AllRose, OthersKept}
@@ -41,7 +41,7 @@ module _ {T E : Type 0} where
 failed_read : (s t : MemFilesView) → t ≡ after_failed_read s → Blames s t s.begun
 failed_read s t e = record { files = ap (λ (v : MemFilesView). v.files) e; absent = ap (λ (v : MemFilesView). v.absent) e }
 
--- the first n bytes of what is left stand in the front of the room, and the others are left
+-- the first n unread bytes are in the front of the buffer, and the others remain unread
 moved : (bytes room : List ℕ) (given n : ℕ) → n ≤ length (drop given bytes) → drop given bytes ≡ take n (take n (drop given bytes) ++ room) ++ drop (given + n) bytes
 moved bytes room given n le =
     let left = drop given bytes in
@@ -58,7 +58,7 @@ module _ {E : Type 0} where
   read_held (Ok n) s t ok err name = ap (λ (v : MemFilesView). bytes_of v name) ok
   read_held (Err x) s t ok err name = bytes_of-blamed s t s.begun (failed_read s t err).files name
 
-  -- a name has its place, and what is begun stays
+  -- a name has its place, and the begun file stays
   same_place : (r : Result ℕ E) (s t : MemFilesView) (name : List ℕ) → IfOk r (λ n. t ≡ after_read s n) → OnErr r (t ≡ after_failed_read s) → place_of t.files name ≡ place_of s.files name
   same_place (Ok n) s t name ok err = ap (λ (v : MemFilesView). place_of v.files name) ok
   same_place (Err x) s t name ok err = ap (λ (v : MemFilesView). place_of v.files name) err ∙ place_of-blamed_files s.files s.begun name

@@ -1,4 +1,4 @@
--- Lemmas on files in memory: what a raised count changes, and what the fields show.
+-- Lemmas on files in memory: the effect of a raised count, and the values of the fields.
 use Rattle.std.proofs.Common.{◌≡◌, ℕ, zero, suc, ◌<◌, ◌≤◌, List, [], ◌∷◌, length, get_or, map, set, Option, None, Some, refl, sym, ap, subst, arith}
 use Rattle.lucid_io.specs.Counts.{raised}
 use Rattle.lucid_io.specs.MemFiles.{FileView, bytes_at, raised_at, blamed_files}
@@ -25,7 +25,7 @@ pub bytes_at-blamed_files : (files : List FileView) (place : Option ℕ) (k : �
 bytes_at-blamed_files files None k = refl
 bytes_at-blamed_files files (Some i) k = bytes_at-raised_at files i k
 
--- what is begun stays there, and has given no more than it has
+-- the begun file stays there, and has given no more than it has
 pub IsThere-blamed_files : (files : List FileView) (place begun : Option ℕ) → IsThere files begun → IsThere (blamed_files files place) begun
 IsThere-blamed_files files place begun there i is = omega (arith, there i is, length-blamed_files files place)
 

@@ -12,7 +12,7 @@ AppendsProperPrefix-after : (a b c : Option (List ℕ)) (xs ys : List ℕ) → A
 AppendsProperPrefix-after a b c xs ys whole cut =
     (length xs + cut.0, omega (arith, cut.1, length-append xs ys), subst (Appends a c) (sym (take-append-add xs ys cut.0)) (Appends-trans a b c xs (take cut.0 ys) whole cut.2))
 
--- a piece that is cut is a text that is cut, whatever was to follow
+-- a piece that is cut is a text that is cut, for any continuation
 AppendsProperPrefix-before : (a b : Option (List ℕ)) (xs ys : List ℕ) → AppendsProperPrefix a b xs → AppendsProperPrefix a b (xs ++ ys)
 AppendsProperPrefix-before a b xs ys cut =
     let within : cut.0 < length xs = cut.1 in
@@ -46,7 +46,7 @@ pub PutsAll-last : {T : Type 0} {written : T → Option (List ℕ)} {faults : T 
     Leaves written faults old now whole left → PutsAll written faults now new piece → left ≡ piece → PutsAll written faults old new whole
 PutsAll-last {piece = piece} so_far puts last = Leaves-nothing (Leaves-after so_far puts (last ∙ sym (append-nil piece))) refl
 
--- the first piece that is cut cuts the whole, whatever was to follow
+-- the first piece that is cut cuts the whole, for any continuation
 pub PutsPart-at : {T : Type 0} {written : T → Option (List ℕ)} {faults : T → ℕ} {old now new : T} {whole left piece : List ℕ} (rest : List ℕ) →
     Leaves written faults old now whole left → PutsPart written faults now new piece → left ≡ piece ++ rest → PutsPart written faults old new whole
 PutsPart-at {T} {written} {faults} {old} {now} {new} {whole} {left} {piece} rest so_far cut first = record {
@@ -67,8 +67,8 @@ PutsPart-last {piece = piece} so_far cut last = PutsPart-at [] so_far cut (last 
 pub Leaves-empty : {T : Type 0} {written : T → Option (List ℕ)} {faults : T → ℕ} {sink : T} {waits : List ℕ} (whole : List ℕ) → waits ≡ [] → Leaves written faults sink sink whole (waits ++ whole)
 Leaves-empty {T} {written} {faults} {sink} {waits} whole none = subst (λ (l : List ℕ). Leaves written faults sink sink whole (l ++ whole)) (sym none) Leaves-whole
 
--- Of the whole text what waits in the room is left, and then `left`, which begins with a piece: once that piece is held,
--- what waits then is left, and then the rest.
+-- The buffered bytes of the whole text remain, and then `left`, which begins with a piece: once that piece is buffered, the buffered
+-- bytes remain, and then the rest.
 pub Leaves-held : {T : Type 0} {written : T → Option (List ℕ)} {faults : T → ℕ} {old now new : T} {whole left : List ℕ} (waits waits_now piece rest : List ℕ) →
     Leaves written faults old now whole (waits ++ left) → Leaves written faults now new (waits ++ piece) waits_now → left ≡ piece ++ rest →
     Leaves written faults old new whole (waits_now ++ rest)
@@ -99,7 +99,7 @@ pub PutsPart-held_last : {T : Type 0} {written : T → Option (List ℕ)} {fault
     Leaves written faults old now whole (waits ++ left) → PutsPart written faults now new (waits ++ piece) → left ≡ piece → PutsPart written faults old new whole
 PutsPart-held_last waits piece so_far cut last = PutsPart-held waits piece [] so_far cut (last ∙ sym (append-nil piece))
 
--- what holds anyhow holds at an error
+-- an unconditional fact holds at an error
 pub on_err : {T E P : Type 0} (r : Result T E) → P → OnErr r P
 on_err (Ok x) p = tt
 on_err (Err e) p = p

@@ -1,9 +1,9 @@
--- Counts of faults: one for a sink, one for each name of a file. They never fall, and stand still at the last u64.
+-- Counts of faults: one for a sink, one for each name of a file. They never fall, and stop at the last u64.
 use Rattle.std.specs.Prelude.{◌≡◌, ℕ, ◌≤◌, ◌==◌, max, Bool, List, Option, IsSome}
 use Rattle.std.specs.List.{list_any}
 use Rattle.lucid_base.specs.Saturating.{saturating_next}
 
--- the count rose: it is at least one more, or stands at the last u64
+-- the count rose: it is at least one more, or is at the last u64
 abbrev pub Rose : ℕ → ℕ → Type 0
 Rose before now = saturating_next before ≤ now
 
@@ -11,7 +11,7 @@ Rose before now = saturating_next before ≤ now
 abbrev pub NoneFell : (List ℕ → ℕ) → (List ℕ → ℕ) → Type 0
 NoneFell before now = (name : List ℕ) → before name ≤ now name
 
--- every name's count is what it was
+-- every name's count is unchanged
 abbrev pub SameCounts : (List ℕ → ℕ) → (List ℕ → ℕ) → Type 0
 SameCounts before now = (name : List ℕ) → now name ≡ before name
 
@@ -19,7 +19,7 @@ SameCounts before now = (name : List ℕ) → now name ≡ before name
 abbrev pub AllRose : (List ℕ → Type 0) → (List ℕ → ℕ) → (List ℕ → ℕ) → Type 0
 AllRose P before now = (name : List ℕ) → P name → Rose (before name) (now name)
 
--- the count is what it was of each name without P whose bytes are told
+-- the count is unchanged for each name without P whose bytes are specified
 abbrev pub OthersKept : (List ℕ → Type 0) → (List ℕ → Option (List ℕ)) → (List ℕ → ℕ) → (List ℕ → ℕ) → Type 0
 OthersKept P held before now = (name : List ℕ) → ¬ P name → IsSome (held name) → now name ≡ before name
 

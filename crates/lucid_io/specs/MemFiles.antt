@@ -1,4 +1,4 @@
--- Files that are kept in memory, and what each call of `begin` and `read` makes of them.
+-- Files in memory, and the effect of each call of `begin` and `read` on them.
 use Rattle.std.specs.Prelude.{◌≡◌, ℕ, ◌+◌, Bool, ◌||◌, if◌then◌else◌, zero, suc, List, [], ◌∷◌, drop, Option, None, Some, IsSome, is_none, slice_get}
 use Rattle.std.specs.Option.{option_map, option_map_or}
 use Rattle.std.specs.Str.{bytes_eq}

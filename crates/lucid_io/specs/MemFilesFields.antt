@@ -21,7 +21,7 @@ new_file file = record { name = string_bytes file.name; bytes = file.bytes.items
 abbrev pub new_files : List MemFile → List ℕ → MemFilesView
 new_files files fails = record { files = map new_file files; absent = 0; fails = fails; calls = 0; begun = None; given = 0; reads = 0 }
 
--- a file stands at this place, if it is one
+-- the place, if it is one, has a file
 abbrev pub IsThere : List FileView → Option ℕ → Type 0
 IsThere files place = ForSome place (λ i. i < length files)
 

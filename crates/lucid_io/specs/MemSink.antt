@@ -1,9 +1,8 @@
--- A sink that is kept in memory, and what each write makes of it.
+-- A sink in memory, and the effect of each write on it.
 use Rattle.std.specs.Prelude.{ℕ, ◌-◌, Bool, ◌||◌, ◌&&◌, nat_lt, nat_le, List, ◌++◌, length, take, min}
 use Rattle.lucid_io.specs.Counts.{raised, is_failing}
 
--- what was written; for how many bytes there is room in all; the numbers of the writes that fail, and of the next write;
--- how many writes failed
+-- the written bytes; the capacity in bytes; the numbers of the writes that fail, and of the next write; the number of failed writes
 pub record MemSinkView : Type 0 where
   pub bytes : List ℕ
   pub room : ℕ

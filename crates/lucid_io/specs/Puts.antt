@@ -1,4 +1,4 @@
--- What a call that puts a text makes of a sink. `written` and `faults` are those of the sink.
+-- The effect of a call that puts a text on a sink. `written` and `faults` are those of the sink.
 use Rattle.std.specs.Prelude.{◌≡◌, ℕ, ◌<◌, ◌≤◌, List, ◌++◌, Option, length, take}
 use Rattle.std.specs.Io.KnownBytes.{Appends}
 use Rattle.lucid_io.specs.Counts.{Rose}

@@ -1,4 +1,4 @@
--- What the counts refuse is refused.
+-- A refusal by the counts is a refusal.
 use Rattle.lucid_code.specs.Parts.{CodeParts}
 use Rattle.lucid_conf.specs.declared.limits.Limits.{Limits}
 use Rattle.lucid_layout.specs.declared.count_error.CountError.{CountError}

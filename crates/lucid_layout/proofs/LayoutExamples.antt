@@ -1,4 +1,4 @@
--- What stands in specs/Examples holds by computing.
+-- The examples of specs/Examples hold by computation.
 use Rattle.std.proofs.Common.{◌≡◌, ℕ, ◌<◌, ◌≤◌, inl, inr, [], true, false, refl, sym, ⊎_elim, arith}
 use Rattle.std.proofs.lemmas.Bool.{true≢false, cases_lt}
 use Rattle.lucid_merge.specs.Product.{product}

@@ -1,4 +1,4 @@
--- Layouts that are worked by hand: the order of nodes, first fit with its stages, and what each rule refuses.
+-- Layouts worked by hand: the order of nodes, first fit with its stages, and a refusal by each rule.
 use Rattle.std.specs.Prelude.{◌≡◌, ℕ, List, [], ◌∷◌, Some, None, true, false}
 use Rattle.lucid_base.specs.declared.array.ArrayDef.{ArrayDef}
 use Rattle.lucid_base.specs.declared.ops.CmpOp.TheVariants.{Eq}
@@ -22,9 +22,8 @@ use Rattle.lucid_layout.specs.Layout.{IsRefused, stages_of}
 use Rattle.lucid_code.specs.Nodes.{nodes}
 use Rattle.lucid_layout.specs.Nodes.{work_of, works}
 
--- An array is read in both branches of an if, and what was read is sent out:
--- handle e(int v) { int n = 0; if (v == 0) { n = Array.get(x, 0); } else { n = Array.get(x, 1); } generate out(n); }
--- Fields 0 to 3 are the inputs.
+-- An array is read in both branches of an if, and the value is sent out: handle e(int v) { int n = 0; if (v == 0) { n = Array.get(x, 0);
+-- } else { n = Array.get(x, 1); } generate out(n); } Fields 0 to 3 are the inputs.
 abbrev pub handler : List Literal
 handler = is 0 1 ∷ []
 
@@ -89,7 +88,7 @@ pub record NodeExamples : Type 0 where
   pub by_key : nodes (op [] 0 (act.Touch 1 (fixed 0) (same 32) (fixed 0) (same 32) (fixed 0) None) ∷ moved 1 3 4 ∷ op handler 0 (get 0 6) ∷ moved 0 3 5 ∷ [])
       ≡ Pure 3 ∷ Array 0 ∷ Pure 1 ∷ Array 1 ∷ []
   pub by_place : nodes (moved 0 3 5 ∷ moved 1 3 6 ∷ moved 0 3 4 ∷ []) ≡ Pure 0 ∷ Pure 2 ∷ Pure 1 ∷ []
-  -- an operation may follow one that stands behind it in the list and has a smaller key, but not one of its own key, nor one of a greater
+  -- an operation may follow one that is later in the list and has a smaller key, but not one of its own key, nor one of a greater
   pub smaller_key_later : nodes_follow_writes (moved 1 4 6 ∷ move 4 ∷ []) ≡ true
   pub same_key_later : nodes_follow_writes (moved 0 4 6 ∷ move 4 ∷ []) ≡ false
   pub greater_key : nodes_follow_writes (moved 1 3 4 ∷ moved 0 4 6 ∷ []) ≡ false
@@ -97,7 +96,7 @@ pub record NodeExamples : Type 0 where
 
 pub record LayoutExamples : Type 0 where
   pub valid : IsValid branches
-  -- the calls of the array are one node, behind what stands before the first call and before what stands behind it
+  -- the calls of the array are one node, after the operations before the first call and before those after it
   pub order : nodes branching ≡ Pure 0 ∷ Pure 1 ∷ Array 0 ∷ Pure 3 ∷ Pure 5 ∷ Pure 6 ∷ Pure 7 ∷ Pure 8 ∷ []
   pub calls : work_of branching (Array 0) ≡ record { ops = 2 ∷ 4 ∷ []; reads = 0 ∷ 5 ∷ 0 ∷ 5 ∷ []; writes = 6 ∷ 8 ∷ []; is_array = true }
   pub bits : bits_of branches ≡ 321

@@ -1,4 +1,4 @@
--- What is remembered of a table that refused a row, so that it isn't merged in vain again. Of the search alone.
+-- The refusals of a table that are remembered, so that no row is merged in vain again. Only the search uses them.
 use Rattle.std.specs.Prelude.{◌≡◌, ℕ, ◌<◌, List, [], ◌∷◌, length, map}
 use Rattle.std.specs.List.{filter, flat_map}
 use Rattle.lucid_code.specs.declared.op.Literal.{Literal}
@@ -7,7 +7,7 @@ use Rattle.lucid_tables.specs.Numbers.{is_in, rising}
 use Rattle.lucid_merge.specs.Product.{product}
 use Rattle.lucid_merge.specs.RowCounts.{patterns_of, SameFor, IsNew, CanMatch}
 
--- Any table of these patterns has more than so many rows with a row that could match, has these literals of the table's fields, and has
+-- Any table of these patterns has more than `rows` rows with a row that could match, has these literals of the table's fields, and has
 -- some literal of another field.
 abbrev pub Refuses : ℕ → List (List Literal) → List Literal → Type 0
 Refuses rows patterns literals =

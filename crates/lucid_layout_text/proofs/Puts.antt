@@ -1,4 +1,4 @@
--- What is left of a list's texts, one after another.
+-- The rest of a list's texts, one after another.
 use Rattle.std.proofs.Common.{◌≡◌, ◌≢◌, ℕ, ◌+◌, ◌<◌, ◌≤◌, List, [], ◌∷◌, ◌++◌, codes, length, get_or, drop, refl, sym, ap, ◌∙◌, drop-cons, drop_of_length-le, add-one}
 use Rattle.std.specs.List.{flat_map}
 use Rattle.lucid_base.specs.declared.array.ArrayDef.{ArrayDef}

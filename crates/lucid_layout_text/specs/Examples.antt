@@ -30,7 +30,7 @@ touch = record {
   ops = touching;
 }
 
--- An empty table, and one whose last operation stands in three rows.
+-- An empty table, and one whose last operation is in three rows.
 abbrev pub tables : List (List Row)
 tables = [] ∷ (row (is 0 1 ∷ []) (0 ∷ 2 ∷ []) ∷ row (is 0 2 ∷ []) (1 ∷ 2 ∷ []) ∷ row [] (2 ∷ []) ∷ []) ∷ []
 

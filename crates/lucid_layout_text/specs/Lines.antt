@@ -1,4 +1,4 @@
--- The text of lines that tell of tables, behind a line of counts.
+-- The text of lines about tables, after a line of counts.
 use Rattle.std.specs.Prelude.{ℕ, ◌<◌, List, [], ◌∷◌, ◌++◌, length, codes, decimal, slice_get}
 use Rattle.std.specs.List.{flat_map, All}
 use Rattle.std.specs.Option.{option_map_or}
@@ -32,10 +32,10 @@ line_head l =
 abbrev pub line_text : List ArrayDef → TableLine → List ℕ
 line_text arrays l = line_head l ++ (arrays_text arrays l.arrays ++ codes "\n")
 
--- Code of so many bits and nodes, with these lines.
+-- Code of this many bits and nodes, with these lines.
 abbrev pub text_of : CodeParts → ℕ → ℕ → List TableLine → List ℕ
 text_of code bits nodes lines = counts_text (length code.ops) bits nodes ++ flat_map (line_text code.arrays) lines
 
--- Every array of the lines is one of so many.
+-- Every array of the lines is one of `count`.
 abbrev pub ArraysAreThere : ℕ → List TableLine → Type 0
 ArraysAreThere count lines = All (λ (l : TableLine). All (λ g. g < count) l.arrays) lines

@@ -12,7 +12,7 @@ use Rattle.lucid_layout.specs.Nodes.{nodes}
 use Rattle.lucid_layout_text.specs.declared.table_line.TableLine.{TableLine}
 use Rattle.lucid_layout_text.specs.Lines.{text_of}
 
--- What is told of a table. An operation is counted once, however many rows name it.
+-- The line of a table. An operation is counted once, however many rows name it.
 abbrev pub line_of : List Op → ℕ → ℕ → Table → TableLine
 line_of ops stage number t = record {
   stage = stage;

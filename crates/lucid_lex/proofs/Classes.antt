@@ -1,4 +1,4 @@
--- What the first byte of a piece tells.
+-- The meaning of the first byte of a piece.
 use Rattle.std.proofs.Common.{◌≡◌, ℕ, Bool, true, false, cond, eqb, refl, subst, arith}
 use Rattle.std.specs.Char.{is_ascii_digit, is_digit}
 use Rattle.std.proofs.lemmas.Bool.{eqb-true}
@@ -63,6 +63,6 @@ class_of-letter b h =
     let no_digit : is_ascii_digit b ≡ false = grind (arith, nat_tests) in
     rw (no_blank, no_quote, no_slash, no_digit, h) refl
 
--- a name may go on with what it begins with
+-- a name may continue with any byte that it may begin with
 pub name_byte-from_start : (b : ℕ) → is_name_start b ≡ true → is_name_byte b ≡ true
 name_byte-from_start b h = grind (arith, nat_tests)

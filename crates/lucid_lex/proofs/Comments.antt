@@ -101,7 +101,7 @@ ends_by at a b bs end false test later h =
       unbroken = longer_unbroken a b bs found.body found.rest test found.whole found.unbroken;
     }
 
--- what is found is the first end
+-- the found end is the first
 pub ends_at : (at : ℕ) (xs : List ℕ) (end : ℕ) → end_of_block at xs ≡ Some end → EndsAt at xs end
 ends_at at [] end h = absurd (cc)
 ends_at at (a ∷ []) end h = absurd (cc)

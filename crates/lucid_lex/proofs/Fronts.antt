@@ -1,4 +1,4 @@
--- What it takes for a front of a text to be the piece that stands there.
+-- The conditions for a front of a text to be the piece there.
 use Rattle.std.proofs.Common.{◌≡◌, ℕ, ◌^◌, ◌<◌, ◌≤◌, Bool, true, false, cond, ltb, List, ◌++◌, length, take, drop, Option, Some, None, sym, ◌∙◌, ap, subst, arith, refl, take-append-drop, length-take-le}
 use Rattle.std.proofs.lemmas.Bool.Decides.{nat_tests}
 use Rattle.std.proofs.lemmas.List.{take_at}
@@ -18,7 +18,7 @@ pub record Begins (text : List ℕ) (f : Front) : Type 0 where
   pub within : f.len ≤ length text
   pub stands : Stands (cut f.len f.kind text) (drop f.len text)
 
--- what is found begins the text, and where nothing is found nothing does
+-- the found front begins the text, and if none is found none does
 abbrev pub IsFrontOf : List ℕ → Option Front → Type 0
 IsFrontOf text None = NothingBegins text
 IsFrontOf text (Some f) = Begins text f

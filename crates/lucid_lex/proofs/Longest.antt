@@ -56,21 +56,21 @@ name_begins b bs class =
 
 -- Texts
 
--- a text at the front: what it has between its quotes, and what is left after the first
+-- a text at the front: the bytes between its quotes, and the rest after the first
 quoted_rest : (bytes after body : List ℕ) (b : ℕ) (bs : List ℕ) → bytes ≡ 34 ∷ (body ++ 34 ∷ []) → bytes ++ after ≡ b ∷ bs → bs ≡ body ++ (34 ∷ after)
 quoted_rest bytes after body b bs is front =
     let whole : 34 ∷ ((body ++ 34 ∷ []) ++ after) ≡ b ∷ bs = ap (λ l. l ++ after) (sym is) ∙ front in
     let rest : (body ++ 34 ∷ []) ++ after ≡ bs = cc in
     sym rest ∙ append_assoc body (34 ∷ []) after
 
--- it ends at the first byte that can't stand in it
+-- it ends at the first byte that can't be in it
 quoted_len : (body after bs : List ℕ) → bs ≡ body ++ (34 ∷ after) → AllPass is_quotable body → prefix_len is_quotable bs ≡ length body
 quoted_len body after bs is passes = ap (prefix_len is_quotable) is ∙ run_stopped is_quotable body after 34 passes refl
 
 quoted_drop : (body after bs : List ℕ) → bs ≡ body ++ (34 ∷ after) → AllPass is_quotable body → drop (prefix_len is_quotable bs) bs ≡ 34 ∷ after
 quoted_drop body after bs is passes = ap (λ n. drop n bs) (quoted_len body after bs is passes) ∙ ap (drop (length body)) is ∙ drop_at body (34 ∷ after) (length body) refl
 
--- two quotes and what stands between
+-- two quotes and the bytes between
 quoted_take : (b : ℕ) (bs rest : List ℕ) (n : ℕ) → b ≡ 34 → n < length bs → drop n bs ≡ 34 ∷ rest → take (n + 2) (b ∷ bs) ≡ 34 ∷ (take n bs ++ 34 ∷ [])
 quoted_take b bs rest n quote within closed =
     let two : n + 2 ≡ suc (n + 1) = omega arith in
@@ -105,7 +105,7 @@ text_begins b bs class = text_by b bs (closes (drop (prefix_len is_quotable bs) 
 
 -- Comments
 
--- what is left of a text after a comment's first two bytes
+-- the rest of a text after a comment's first two bytes
 line_rest : (bytes after body : List ℕ) (b c : ℕ) (bs : List ℕ) → bytes ≡ codes "//" ++ body → bytes ++ after ≡ b ∷ c ∷ bs → (47 ≡ c) × (body ++ after ≡ bs)
 line_rest bytes after body b c bs is front =
     let whole : 47 ∷ 47 ∷ (body ++ after) ≡ b ∷ c ∷ bs = ap (λ l. l ++ after) (sym is) ∙ front in
@@ -219,7 +219,7 @@ digits_run base digits after text is passes = subst (λ l. length digits ≤ dig
 run_is_numeral : (base : ℕ) (text : List ℕ) → 0 < digits_len base text → IsNumeral base (take (digits_len base text) text) (number_of base (take (digits_len base text) text))
 run_is_numeral base text some = (omega (arith, length-prefix_len (λ c. is_digit c base) text), run_passes (λ c. is_digit c base) text, refl)
 
--- what is left behind `0x`
+-- the rest after `0x`
 x_rest : (bytes digits after text : List ℕ) → bytes ≡ codes "0x" ++ digits → bytes ++ after ≡ text → text ≡ 48 ∷ 120 ∷ (digits ++ after)
 x_rest bytes digits after text is front = sym (ap (λ l. l ++ after) (sym is) ∙ front)
 
@@ -308,7 +308,7 @@ in_class_begins Digit b bs class = numeral_begins b bs class
 in_class_begins Letter b bs class = name_begins b bs class
 in_class_begins Mark b bs class = sign_begins b bs class
 
--- what `front_of` finds is the longest piece at the front, and where it finds none nothing begins there
+-- `front_of` finds the longest piece at the front, and if it finds none there is none
 pub front_of-is : (text : List ℕ) → IsFrontOf text (front_of text)
 unfolding front_of
 front_of-is [] = no_piece [] (λ q after is front. let some = (has_shape q.bytes q.kind is).0 in omega (arith, length-append q.bytes after, ap length front))

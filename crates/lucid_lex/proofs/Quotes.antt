@@ -1,4 +1,4 @@
--- What stands between the quotes of a text.
+-- The bytes between the quotes of a text.
 use Rattle.std.proofs.Common.{◌≡◌, ℕ, ◌+◌, ◌-◌, ◌≤◌, List, [], ◌∷◌, ◌++◌, length, take, drop, refl, sym, ◌∙◌, ap, subst, arith, append_assoc, length-append, length-drop, length-take-le, take-append-drop}
 use Rattle.std.specs.Prelude.{slice_range}
 use Rattle.std.proofs.lemmas.List.{take_at, drop-drop}
@@ -17,7 +17,7 @@ between text start end body in_order within is =
     let count : end - 1 - (start + 1) ≡ length body = omega (arith, len) in
     ap (λ n. take n (drop (start + 1) text)) count ∙ ap (take (length body)) behind ∙ take_at body (34 ∷ tail) (length body) refl
 
--- the bytes between the first and the last of a text are what its quotes enclose
+-- the bytes between the first and the last of a text are those that its quotes enclose
 pub between_quotes : (text : List ℕ) (t : Token) → IsTokenOf text t → t.kind ≡ kinds.Text → IsQuoted (bytes_of text t) (slice_range text (t.span.start + 1) (t.span.end - 1))
 between_quotes text t stands kind =
     let written : IsToken (bytes_of text t) kinds.Text = subst (IsToken (bytes_of text t)) kind stands.written in

@@ -157,13 +157,13 @@ tokens_in done (p ∷ ps) rest text whole stand =
     (subst (λ l. IsPiece l p.kind) (sym bytes) stand.0.is_piece)
     (subst (λ n. All (IsTokenOf text) (tokens_from n ps)) place (tokens_in (done ++ p.bytes) ps rest text regrouped stand.1))
 
--- the tokens of a text stand in it
+-- the tokens of a text are in it
 pub tokens_stand : (text : List ℕ) (ts : List Token) → Reads text ts → All (IsTokenOf text) ts
 tokens_stand text ts reads = subst (All (IsTokenOf text)) (sym reads.tokens) (tokens_in [] reads.pieces [] text reads.whole reads.each_stands)
 
 -- From the place that is reached
 
--- what the function finds in the part of the text from there on
+-- the finding of the function in the part of the text from there on
 found_there : (text : List ℕ) (at : ℕ) (found : Option Front) → found ≡ front_of (slice_range text at (length text)) → IsFrontOf (drop at text) found
 found_there text at found is = subst (IsFrontOf (drop at text)) (sym (is ∙ ap front_of (take_rest text at))) (front_of-is (drop at text))
 

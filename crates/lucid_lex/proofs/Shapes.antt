@@ -1,4 +1,4 @@
--- What a piece may be, by the class of its first byte; so the bytes of a piece tell its kind.
+-- The kinds of a piece, by the class of its first byte; so the bytes of a piece determine its kind.
 use Rattle.std.proofs.Common.{◌≡◌, ◌≢◌, ℕ, ◌<◌, ◌⊎◌, true, List, [], ◌∷◌, ◌++◌, length, get_or, Option, Some, None, refl, sym, ◌∙◌, ap, subst, inl, inr, arith}
 use Rattle.std.specs.Prelude.{codes, option_map, unwrap_or}
 use Rattle.std.specs.List.{AllPass}
@@ -45,7 +45,7 @@ gap_shape bytes (inl h) = starting h.0 [] bytes None h.1 (in_class Blank (h.0 �
 gap_shape bytes (inr (inl h)) = starting 47 (47 ∷ h.0) bytes None h.1 (in_class Slash (47 ∷ 47 ∷ h.0) None (omega arith) refl (inl (h.0, refl, h.2), refl))
 gap_shape bytes (inr (inr h)) = starting 47 (42 ∷ (h.0 ++ codes "*/")) bytes None h.1 (in_class Slash (47 ∷ 42 ∷ (h.0 ++ codes "*/")) None (omega arith) refl (inr (h.0, refl, h.2), refl))
 
--- what is no reserved word is a name
+-- a word that isn't reserved is a name
 not_reserved : (o : Option Word) → ((w : Word) → o ≢ Some w) → unwrap_or (option_map (λ w. kinds.Word w) o) kinds.Name ≡ kinds.Name
 not_reserved None none = refl
 not_reserved (Some w) none = absurd (none w refl)
@@ -106,7 +106,7 @@ same_number bytes n m (inl h) (inr g) = absurd (no_x bytes g.0 h.1 g.1)
 same_number bytes n m (inr h) (inl g) = absurd (no_x bytes h.0 g.1 h.1)
 same_number bytes n m (inr h) (inr g) = let same : h.0 ≡ g.0 = cc in h.2.2 ∙ ap (number_of 16) same ∙ sym g.2.2
 
--- the bytes of a piece tell its kind
+-- the bytes of a piece determine its kind
 same_kind : (x : Class) (bytes : List ℕ) (k j : Option Kind) → Shape x bytes k → Shape x bytes j → k ≡ j
 same_kind Blank bytes k j h g = h.1 ∙ sym g.1
 same_kind Quote bytes k j h g = h.1 ∙ sym g.1

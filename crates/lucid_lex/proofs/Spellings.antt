@@ -21,7 +21,7 @@ found_at : {X : Type 0} (p : X → Bool) (y x : X) (ys : List X) (b : Bool) → 
 found_at p y x ys true test later h = let same : y ≡ x = cc in subst (λ z. p z ≡ true) same test
 found_at p y x ys false test later h = later h
 
--- what is found passes the test
+-- the found element passes the test
 found_passes : {X : Type 0} (p : X → Bool) (xs : List X) (x : X) → find p xs ≡ Some x → p x ≡ true
 found_passes p [] x h = absurd (cc)
 found_passes p (y ∷ ys) x h = found_at p y x ys (p y) refl (found_passes p ys x) h
@@ -104,7 +104,7 @@ no_longer text s t false test free here there = ⊎_elim
     (λ longer. omega (arith, longer))
     (order (length (sign_text s)) (length (sign_text t)))
 
--- some element has what each has
+-- a property of each element is one of some element
 both : {X : Type 0} (p q : X → Bool) (xs : List X) → list_any p xs ≡ true → list_all q xs ≡ true → (x : X) × (p x ≡ true) × (q x ≡ true)
 both p q [] some every = absurd (cc)
 both p q (x ∷ xs) some every =
@@ -144,12 +144,12 @@ finds_longer text (s ∷ ss) t ordered listed at_front =
     let parts = and_parts (list_all (λ u. not (starts_with nat_eq (sign_text u) (sign_text s))) ss) (none_begins_later ss) ordered in
     finds_longer_by text s ss t (starts_with nat_eq text (sign_text s)) refl ordered listed at_front (λ among. finds_longer text ss t parts.1 among at_front)
 
--- what is found stands at the front
+-- the found sign is at the front
 pub sign_at-some : (text : List ℕ) (s : Sign) → sign_at text ≡ Some s → text ≡ sign_text s ++ drop (length (sign_text s)) text
 unfolding sign_at
 sign_at-some text s h = (starts text s).0 (found_passes (λ t. starts_with nat_eq text (sign_text t)) SIGNS s h)
 
--- one that stands there is no longer than the one that is found
+-- a sign at the front is no longer than the found one
 pub sign_at-longest : (text after : List ℕ) (t : Sign) → sign_text t ++ after ≡ text → (s : Sign) × (sign_at text ≡ Some s) × (length (sign_text t) ≤ length (sign_text s))
 unfolding sign_at
 sign_at-longest text after t front =

@@ -17,11 +17,11 @@ is_name_start b = is_ascii_alphabetic b || b == 95
 abbrev pub is_name_byte : ℕ → Bool
 is_name_byte b = is_ascii_alphanumeric b || b == 95
 
--- what may stand between quotes: printable ASCII but for the quote (34) and the backslash (92)
+-- the bytes between quotes: printable ASCII except the quote (34) and the backslash (92)
 abbrev pub is_quotable : ℕ → Bool
 is_quotable b = is_in_range 0x20 0x7E b && (not (b == 34) && not (b == 92))
 
--- what a comment to the end of its line may have: all but the line feed (10)
+-- the bytes of a comment to the end of its line: all except the line feed (10)
 abbrev pub is_within_line : ℕ → Bool
 is_within_line b = not (b == 10)
 

@@ -62,13 +62,13 @@ abbrev pub Fits : Option Kind → Type 0
 Fits (Some (kinds.Number n)) = n < 2 ^ 64
 Fits _ = Unit {0}
 
--- bytes that are cut from a text, and what they are
+-- bytes cut from a text, and their kind
 pub record Piece : Type 0 where
   pub bytes : List ℕ
   pub kind : Option Kind
 
--- The piece stands before the rest: no longer front of what is left there is a piece. A number's digits are all taken
--- before its size is asked, so nothing stands where they write 2 ^ 64 or more.
+-- The piece is followed by the rest: no longer front of the remaining text is a piece. A number takes all its digits before its size is
+-- checked, so there is no piece if they write 2 ^ 64 or more.
 pub record Stands (p : Piece) (rest : List ℕ) : Type 0 where
   pub is_piece : IsPiece p.bytes p.kind
   pub longest : (q : Piece) (after : List ℕ) → IsPiece q.bytes q.kind → q.bytes ++ after ≡ p.bytes ++ rest → length q.bytes ≤ length p.bytes

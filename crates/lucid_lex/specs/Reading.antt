@@ -46,7 +46,7 @@ pub record StopsAt (text : List ℕ) (at : ℕ) : Type 0 where
 abbrev pub bytes_of : List ℕ → Token → List ℕ
 bytes_of text t = slice_range text t.span.start t.span.end
 
--- the token stands in the text
+-- the token is in the text
 pub record IsTokenOf (text : List ℕ) (t : Token) : Type 0 where
   pub in_order : t.span.start ≤ t.span.end
   pub within : t.span.end ≤ length text

@@ -30,7 +30,7 @@ word_text words.Match = codes "match"
 word_text words.With = codes "with"
 word_text words.Group = codes "group"
 
--- the reserved words of so many bytes
+-- the reserved words of this many bytes
 abbrev pub words_of : ℕ → List Word
 words_of n =
     if n == 2 then words.If ∷ []

@@ -90,7 +90,7 @@ holes_of-within text n some none = elim (cases_lt n (length text)) [ inl lt ↦ 
     contradiction : holes_of text ≡ 0 → ⊥
     contradiction is = omega (arith, some, is)
 
--- the first hole of what is left takes the next number
+-- the first hole of the rest takes the next number
 pub filled-next : (rest before after : List ℕ) (numbers : List ℕ) (i d : ℕ) → i < length numbers → holes_of before ≡ 0 → rest ≡ before ++ (37 ∷ 100 ∷ []) ++ after →
     filled rest (drop i numbers) ≡ (before ++ decimal (get_or numbers i d)) ++ filled after (drop (i + 1) numbers)
 filled-next rest before after numbers i d lt none parts =

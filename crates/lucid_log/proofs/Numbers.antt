@@ -13,7 +13,7 @@ pub numbers_text-first : (n : ℕ) (rest : List ℕ) → numbers_text (n ∷ res
 numbers_text-first n [] = sym (append-nil (decimal n))
 numbers_text-first n (m ∷ rest) = ap (λ (l : List ℕ). decimal n ++ (44 ∷ l)) (numbers_text-first m rest)
 
--- the first number, and what a slice pattern gives as the others
+-- the first number, and the others by a slice pattern
 pub numbers_text-rest : (numbers : List ℕ) → 0 < length numbers → numbers_text numbers ≡ decimal (get_or numbers 0 0) ++ after_commas (take (length numbers - 1) (drop 1 numbers))
 numbers_text-rest [] lt = absurd (omega (arith, lt))
 numbers_text-rest (n ∷ rest) lt =

@@ -1,4 +1,4 @@
--- The text of a block: the event, and what it sent out, a line each.
+-- The text of a block: the event, and its outs, a line each.
 use Rattle.std.specs.Prelude.{ℕ, ◌+◌, List, [], ◌∷◌, ◌++◌, Bool, if◌then◌else◌, nat_eq, codes, decimal, slice_get, unwrap_or}
 use Rattle.std.specs.Option.{option_map_or}
 use Rattle.std.specs.Int.{bit_at}

@@ -1,4 +1,4 @@
--- What is kept of the ending of a network's log.
+-- The kept part of the ending of a network's log.
 use Rattle.std.specs.Prelude.{◌≡◌, ℕ, ◌<◌, ◌^◌, List, [], ◌∷◌, ◌++◌, true, codes, decimal}
 use Rattle.lucid_log.specs.Ending.{ending_text}
 use Rattle.lucid_log_tally.specs.Line.{last_line, lines}

@@ -6,7 +6,7 @@ use Rattle.std.specs.List.{fold}
 abbrev pub kept_with : List ℕ → ℕ → List ℕ
 kept_with kept byte = if nat_lt (length kept) 83 then kept ++ byte ∷ [] else kept
 
--- what is kept of the last line so far, and whether that has ended
+-- the kept part of the last line so far, and whether that has ended
 pub record LineView : Type 0 where
   pub kept : List ℕ
   pub ended : Bool

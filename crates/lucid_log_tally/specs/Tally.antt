@@ -1,4 +1,4 @@
--- What a tally tells.
+-- The model of a tally.
 use Rattle.std.specs.Prelude.{ℕ, List, [], ◌∷◌, ◌++◌}
 
 -- all bytes that were written, and the count of faults

@@ -1,4 +1,4 @@
--- What is found is the shape, both ways.
+-- The found memop is the shape, both ways.
 use Rattle.std.proofs.Common.{◌≡◌, ℕ, List, [], ◌∷◌, Option, None, Some, Bool, true, false, if◌then◌else◌, nat_eq, option_map, refl, sym, ap, subst, ◌∙◌, ◌↔◌}
 use Rattle.std.proofs.lemmas.Bool.{eqb-true, eq-eqb}
 use Rattle.lucid_base.specs.declared.bits.Bits.{Bits}
@@ -20,7 +20,7 @@ use Rattle.lucid_memop.specs.Shape.{Operand, Side, Shaped, apart, is_allowed}
 use Rattle.lucid_memop.specs.Shape as rule
 use Rattle.lucid_memop.proofs.Parts.{bound, chosen, mapped, same_some}
 
--- From the shape to what is found.
+-- From the shape to the finding.
 
 operand : {w : ℕ} {x : Expr} {a : MemArg} → Operand w x a → operand_found w x ≡ Some a
 operand (rule.stored w) = ap (operand_form w) (e.outs-Local 0)
@@ -49,7 +49,7 @@ shape (rule.choice w op x y u v a b first second of and far taken other) =
     ∙ ap (choice_form w (s.Return (Some u) ∷ []) (s.Return (Some v) ∷ [])) (e.outs-Cmp op x y)
     ∙ rw (operands of and far, branch taken, branch other) refl
 
--- From what is found to the shape.
+-- From the finding to the shape.
 
 local_at : (w i : ℕ) (a : MemArg) (zero one : Bool) → nat_eq i 0 ≡ zero → nat_eq i 1 ≡ one → (if zero then Some Stored else (if one then Some Arg else None)) ≡ Some a →
     Operand w (e.Local i) a

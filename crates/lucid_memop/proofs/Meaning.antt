@@ -1,4 +1,4 @@
--- What a body of a memop's shape means.
+-- The meaning of a body of a memop's shape.
 use Rattle.std.proofs.Common.{◌≡◌, ℕ, ◌^◌, ◌%◌, List, [], ◌∷◌, Some, Bool, true, false, if◌then◌else◌, map, refl, sym, ap, subst, ◌∙◌}
 use Rattle.std.proofs.Math.Nat.{mod-eq_of_lt}
 use Rattle.lucid_base.specs.Bits.{bits_of}
@@ -105,7 +105,7 @@ branches : (u v : Expr) (f g : Bits) (b : Bool) (p : Frame) (s : State) → valu
 branches u v f g true p s is and = returned u f p s is
 branches u v f g false p s is and = returned v g p s and
 
--- What a call gives whose body ran so.
+-- The result of a call whose body ran so.
 abbrev ended : State → Ran (Unit {0}) → Ran Bits
 ended s ran = record { gives = ran.after.answer; after = record ran.after { locals = s.locals; answer = s.answer }; calls = ran.calls }
 

@@ -1,4 +1,4 @@
--- What an answer that is there says of its parts.
+-- The meaning of an answer for its parts.
 use Rattle.std.proofs.Common.{◌≡◌, Option, None, Some, Bool, true, false, if◌then◌else◌, option_map, refl}
 use Rattle.lucid_core.specs.Typing.{◌>>=◌}
 

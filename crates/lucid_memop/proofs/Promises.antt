@@ -1,4 +1,4 @@
--- What is found keeps what a memop promises.
+-- The found memop keeps the laws of a memop.
 use Rattle.std.proofs.Common.{◌≡◌, ℕ, List, Option, None, Some, IfSome, IsTrue, sym}
 use Rattle.lucid_base.specs.Memop.{memop_fits}
 use Rattle.lucid_base.specs.declared.memory_alu.MemAlu.{MemAlu}

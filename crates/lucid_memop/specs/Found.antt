@@ -38,7 +38,7 @@ abbrev pub return_form : ℕ → Stmt-F Expr Stmt Touch → Option MemSide
 return_form w (Stmt-F.Return (Some x)) = side_found w x
 return_form w _ = None
 
--- what a branch returns
+-- the result of a branch
 abbrev pub returned : ℕ → List Stmt → Option MemSide
 returned w (s ∷ []) = return_form w (out-Stmt s)
 returned w _ = None

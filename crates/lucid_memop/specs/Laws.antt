@@ -1,4 +1,4 @@
--- What a memop promises of the body that has its shape.
+-- The laws of a memop for the body that has its shape.
 use Rattle.std.specs.Prelude.{◌≡◌, ℕ, List, [], ◌∷◌, map}
 use Rattle.lucid_base.specs.Bits.{bits_of}
 use Rattle.lucid_base.specs.Memop.{memop_value}
@@ -7,7 +7,7 @@ use Rattle.lucid_core.specs.declared.body.Stmt.{Stmt}
 use Rattle.lucid_core.specs.Computations.{Frame, State, block, called, give}
 use Rattle.lucid_core.specs.Meaning.{effect_of}
 
--- The memop gives, of any stored number and argument, what the body gives that is called on them; and the body does nothing else.
+-- For any stored number and argument, the memop has the result of the body that is called on them; and the body has no other effect.
 abbrev pub MeansItsBody : ℕ → List Stmt → MemAlu → Type 0
 MeansItsBody w body m = (stored argument : ℕ) (p : Frame) (s : State) →
     called (bits_of w stored ∷ bits_of w argument ∷ []) (block (map effect_of body)) p s ≡ give (memop_value m stored argument) p s

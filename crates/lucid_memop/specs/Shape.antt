@@ -32,7 +32,7 @@ is_allowed SatAdd = false
 is_allowed SatSub = false
 is_allowed _ = true
 
--- What is returned is one operand, or an operation on two.
+-- The returned expression is one operand, or an operation on two.
 pub data Side : ℕ → Expr → MemSide → Type 0 where
   one : (w : ℕ) (x : Expr) (a : MemArg) → Operand w x a → Side w x (One a)
   two : (w : ℕ) (op : BinOp) (x y : Expr) (a b : MemArg) →

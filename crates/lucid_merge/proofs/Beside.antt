@@ -66,7 +66,7 @@ module _ (field rest : ℕ) where
       clash_turned a.pattern b.pattern
       ∙ ap (λ t. t || contradict a.pattern a.pattern || contradict b.pattern b.pattern) (contradicts a.pattern b.pattern h g)
 
-  -- those that may stand beside a row give all its pairs
+  -- the rows that are compatible with a row give all its pairs
   near_pairs : (a : Row) (rows : List Row) → list_any (asks field rest) a.pattern ≡ true → pairs_with a (filter (may_stand field rest) rows) ≡ pairs_with a rows
   near_pairs a [] h = refl
   near_pairs a (b ∷ rows) h = by (list_any (asks_other field rest) b.pattern) refl (near_pairs a rows h)

@@ -64,7 +64,7 @@ module _ (lone : List Literal) where
           let same : l ≡ m = some_same l m (sym left ∙ ap (λ k. slice_get lone (k % 1024)) (opposed_field l m o) ∙ right) in
           absurd (true≢false (sym o ∙ ap (opposed l) (sym same) ∙ self_unopposed l))
 
-  -- what one side finds, both find
+  -- a finding of one side is one of both
   from_one : (p q : List Literal) → list_any (opposes lone q) p ≡ true → contradict p q ≡ true
   from_one [] q h = absurd (true≢false (sym h))
   from_one (l ∷ p) q h = ⊎_elim

@@ -135,7 +135,7 @@ module _ (a : List Row) (r s : Row) (plain : contradict r.pattern r.pattern ≡ 
   length_twins (k ∷ ks) [] t = absurd t
   length_twins (k ∷ ks) (j ∷ js) t = ap suc (length_twins ks js t.1)
 
-  -- a row of the table with the row, and with what stands behind it in both
+  -- a row of the table with the row, and with the later rows in both
   with_row : (x : Row) (bs cs : List Row) → Old x.pattern → Twins (pairs_with x bs) (pairs_with x cs) → Twins (pairs_with x (r ∷ bs)) (pairs_with x (s ∷ cs))
   with_row x bs cs o t = by (clash x.pattern r.pattern) (clash x.pattern s.pattern) (clash_alike x.pattern o)
     where

@@ -1,4 +1,4 @@
--- What marks tell of rows: where none tells of a pattern's literals, it includes none of them.
+-- The meaning of marks for rows: a pattern without a mark for its literals includes none of them.
 use Rattle.std.proofs.Common.{◌≡◌, ℕ, zero, suc, List, [], ◌∷◌, ◌++◌, Bool, true, false, not, ◌&&◌, ◌||◌, ◌⊎◌, inl, Some, if◌then◌else◌, Result, Ok, Err, OnOk, OnErr, slice_get, refl, sym, ap, subst, ◌∙◌, ⊎_elim}
 use Rattle.std.specs.List.{list_all, list_any}
 use Rattle.std.proofs.lemmas.Bool.{and_parts, and_from, or_cases, or_left, or_right, true≢false, false_from_ne_true}
@@ -32,7 +32,7 @@ module _ (f g : Literal → Bool) (p q : List Literal) where
       (λ e. moves r (λ k n. inside k (or_right (is_same k l) (has r k) n)) (λ k n. keeps k (or_right (is_same k l) (has r k) n)) e)
       (or_cases (f l) (list_any f r) h)
 
--- ---- what the marks tell of one pattern, they tell of two that include it
+-- ---- the meaning of the marks for one pattern is that for two that include it
 
 module _ (marks : List ℕ) (p q r : List Literal) (inside : (l : Literal) → has r l ≡ true → (has p l ≡ true) ⊎ (has q l ≡ true)) where
   other_in : (l : Literal) → (has_other r l || has_other [] l) ≡ true → (has_other p l || has_other q l) ≡ true
@@ -54,7 +54,7 @@ module _ (marks : List ℕ) (p q r : List Literal) (inside : (l : Literal) → h
       (or_cases (list_any (tells marks r []) r) (list_any (tells marks r []) []) e)))
       (or_cases (is_marked marks 0) (list_any (tells marks r []) r || list_any (tells marks r []) []) h)
 
--- two patterns of which no mark tells include none of the rows
+-- two patterns without a mark include none of the rows
 pub none_covers : (marks : List ℕ) (p q : List Literal) (rows : List Row) → AreTold marks rows → may_cover marks p q ≡ false → list_any (λ (k : Row). includes (union p q) k.pattern) rows ≡ false
 none_covers marks p q [] told f = refl
 none_covers marks p q (r ∷ rows) told f =
@@ -94,7 +94,7 @@ more_told marks (x ∷ rows) r h t =
     let parts = and_parts (is_told marks x.pattern) (list_all (λ (r : Row). is_told marks r.pattern) rows) h in
     and_from (is_told marks x.pattern) (list_all (λ (r : Row). is_told marks r.pattern) (rows ++ r ∷ [])) parts.0 (more_told marks rows r parts.1 t)
 
--- what stands in a pattern it has
+-- a literal at a position of a pattern is in it
 has_at : (p : List Literal) (i : ℕ) (l : Literal) → slice_get p i ≡ Some l → has p l ≡ true
 has_at [] i l e = absurd (none-some l e)
 has_at (k ∷ p) zero l e = or_left (is_same l k) (has p l) (ap (is_same l) (same_Some k l e) ∙ same_refl l)

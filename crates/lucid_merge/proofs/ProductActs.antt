@@ -1,4 +1,4 @@
--- A product does what both its tables do.
+-- A product has the effect of both its tables.
 use Rattle.std.proofs.Common.{◌≡◌, ℕ, List, [], ◌∷◌, ◌++◌, Bool, true, false, ◌&&◌, ◌||◌, ◌⊎◌, inl, inr, if◌then◌else◌, refl, sym, ap, ap₂, ◌∙◌, ⊎_elim, append-nil, append_assoc}
 use Rattle.std.specs.List.{AllByRecursion, list_any, fold, flat_map}
 use Rattle.std.proofs.lemmas.Bool.{and_parts, and_from, or_cases, true≢false, false_from_ne_true, cond_both}
@@ -155,7 +155,7 @@ kept_act fields (r ∷ rows) kept =
     ∙ cond_both (list_any (λ (k : Row). includes r.pattern k.pattern) kept) kept (kept ++ r ∷ []) (λ u. acts fields (u ++ rows) ≡ acts fields (kept ++ r ∷ rows))
     (λ h. skip fields kept r rows h) (λ h. ap (acts fields) (append_assoc kept (r ∷ []) rows))
 
--- A product does what both tables do.
+-- A product has the effect of both tables.
 pub product_acts : (fields : Fields) (a b : List Row) → acts fields (product a b) ≡ acts fields a ++ acts fields b
 unfolding product
 product_acts fields a b = kept_act fields (pairs a b) [] ∙ pairs_act fields a b

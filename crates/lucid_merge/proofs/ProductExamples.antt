@@ -1,4 +1,4 @@
--- What stands in specs/Examples holds by computing.
+-- The examples of specs/Examples hold by computation.
 use Rattle.std.proofs.Common.{refl}
 use Rattle.lucid_merge.specs.Examples.{ProductExamples}
 

@@ -88,7 +88,7 @@ heard_at p q sign [] i s h n e = absurd (omega (arith, n))
 heard_at p q sign (x ∷ rows) zero s h n e = ap (is_heard p q sign) e ∙ (and_parts (is_heard p q sign x) (list_all (is_heard p q sign) rows) h).0
 heard_at p q sign (x ∷ rows) (suc i) s h n e = heard_at p q sign rows i s (and_parts (is_heard p q sign x) (list_all (is_heard p q sign) rows) h).1 (omega (arith, n)) e
 
--- a signature that has other bits tells that the row isn't included
+-- a signature with other bits means that the row isn't included
 pub unheard : (p q : List Literal) (sign : ℕ) (s : Signed) → is_heard p q sign s ≡ true → nat_eq (bit_or sign s.sign) sign ≡ false → covers p q s ≡ false
 unheard p q sign s h f = by (covers p q s) h
   where

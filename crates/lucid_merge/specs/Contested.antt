@@ -13,7 +13,7 @@ abbrev pub is_found : Literal → Option Literal → Bool
 is_found l None = false
 is_found l (Some m) = is_same l m
 
--- By any list of literals: at its field's place stands another.
+-- By any list of literals: its field's place has another one.
 abbrev pub is_contested : List Literal → Literal → Bool
 is_contested lone l = not (is_found l (slice_get lone (field_slot l)))
 

@@ -34,7 +34,7 @@ pub record ProductExamples : Type 0 where
   pub none : product [] [] ≡ []
   pub none_before : product [] second ≡ second
   pub none_behind : product second [] ≡ second
-  -- the defaults: each row of a table stands alone behind its pairs
+  -- the defaults: each row of a table alone comes after its pairs
   pub one_key : product (a_row 0 ∷ []) (a_row 1 ∷ []) ≡ row (is 0 1 ∷ []) (0 ∷ 1 ∷ []) ∷ []
   pub two_keys : product (a_row 0 ∷ []) (b_row 1 ∷ []) ≡ row (is 0 1 ∷ is 5 2 ∷ []) (0 ∷ 1 ∷ []) ∷ a_row 0 ∷ b_row 1 ∷ []
   -- two values for one field
@@ -46,7 +46,7 @@ pub record ProductExamples : Type 0 where
   pub asks_nothing : product (row [] (0 ∷ []) ∷ []) (a_row 1 ∷ []) ≡ row (is 0 1 ∷ []) (0 ∷ 1 ∷ []) ∷ row [] (0 ∷ []) ∷ []
   pub includes_earlier : product [] (a_row 0 ∷ both_row 1 ∷ []) ≡ a_row 0 ∷ []
   pub includes_later : product [] (both_row 1 ∷ a_row 0 ∷ []) ≡ both_row 1 ∷ a_row 0 ∷ []
-  -- equal rows, and a literal that stands twice
+  -- equal rows, and a literal that occurs twice
   pub equal_rows : product [] (a_row 0 ∷ a_row 1 ∷ []) ≡ a_row 0 ∷ []
   pub one_literal : union (is 0 1 ∷ is 5 2 ∷ is 0 1 ∷ []) (is 5 2 ∷ is 3 0 ∷ []) ≡ is 0 1 ∷ is 5 2 ∷ is 3 0 ∷ []
   -- an operation that never acts leaves no row that names it

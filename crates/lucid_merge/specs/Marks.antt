@@ -1,4 +1,4 @@
--- Marks that tell of the patterns of rows by their literals, so that most rows which a pattern doesn't include need no look.
+-- Marks of the patterns of rows by their literals, so that most rows which a pattern doesn't include need no comparison.
 use Rattle.std.specs.Prelude.{◌≡◌, ℕ, ◌+◌, ◌*◌, ◌%◌, List, [], Bool, true, not, ◌&&◌, ◌||◌, if◌then◌else◌, nat_eq, slice_index_or, bit_xor}
 use Rattle.std.specs.List.{list_all, list_any}
 use Rattle.lucid_code.specs.declared.op.Literal.{Literal}
@@ -25,7 +25,7 @@ has_other p l = list_any (λ m. not (is_same l m)) p
 abbrev pub own_slot : List Literal → Literal → ℕ
 own_slot p l = if has_other p l then long_slot l else slot l
 
--- The marks of a literal of two patterns tell that they may include a row's.
+-- The marks of a literal of two patterns allow that they include a row's.
 abbrev pub tells : List ℕ → List Literal → List Literal → Literal → Bool
 tells marks p q l = is_marked marks (slot l) || ((has_other p l || has_other q l) && is_marked marks (long_slot l))
 

@@ -26,7 +26,7 @@ union p q = fold with_literal (fold with_literal [] p) q
 abbrev pub pair : Row → Row → Row
 pair a b = record { pattern = union a.pattern b.pattern; ops = a.ops ++ b.ops }
 
--- What a table does where no row of it matches, as a last row.
+-- The effect of a table in which no row matches, as a last row.
 abbrev pub default : Row
 default = record { pattern = []; ops = [] }
 
@@ -34,7 +34,7 @@ default = record { pattern = []; ops = [] }
 abbrev pub clash : List Literal → List Literal → Bool
 clash p q = contradict p p || contradict p q || contradict q q
 
--- A row with each of these, but for the pairs that together ask for two values of one field.
+-- A row with each of these, except the pairs that together test one field for two values.
 abbrev pub pairs_with : Row → List Row → List Row
 pairs_with a [] = []
 pairs_with a (b ∷ rows) = if clash a.pattern b.pattern then pairs_with a rows else pair a b ∷ pairs_with a rows
@@ -44,7 +44,7 @@ abbrev pub pairs : List Row → List Row → List Row
 pairs [] bs = pairs_with default bs
 pairs (a ∷ rows) bs = pairs_with a (bs ++ default ∷ []) ++ pairs rows bs
 
--- All literals of the one pattern stand in the other.
+-- All literals of the one pattern are in the other.
 abbrev pub includes : List Literal → List Literal → Bool
 includes p q = list_all (has p) q
 
@@ -58,10 +58,10 @@ kept_of kept rows = fold keep kept rows
 unfoldable pub product : List Row → List Row → List Row
 product a b = kept_of [] (pairs a b)
 
--- These rows, where there are no more than so many.
+-- These rows, if there are no more than `rows`.
 abbrev pub few_rows : ℕ → List Row → Option (List Row)
 few_rows count rows = if nat_le (length rows) count then Some rows else None
 
--- The table of these rows, where there are no more than so many.
+-- The table of these rows, if there are no more than `rows`.
 abbrev pub within : ℕ → List Row → Option Table
 within count rows = option_map table (few_rows count rows)

@@ -1,4 +1,4 @@
--- What the number of rows of a product turns on, so that what a table refused once can be remembered.
+-- The inputs on which the number of rows of a product depends, so that a table's refusal can be remembered.
 use Rattle.std.specs.Prelude.{◌≡◌, List, [], ◌∷◌, Bool, true, false, map, length}
 use Rattle.lucid_code.specs.declared.op.Literal.{Literal}
 use Rattle.lucid_code.specs.Guards.{opposed, contradict}

@@ -1,4 +1,4 @@
--- Signatures: bits that tell of most rows that two patterns don't include theirs, so that these need no look.
+-- Signatures: bits that exclude, for most rows, that two patterns include theirs, so that these rows need no comparison.
 use Rattle.std.specs.Prelude.{◌≡◌, ℕ, List, Bool, true, not, ◌||◌, nat_eq, slice_index, bit_or, map}
 use Rattle.std.specs.List.{fold, list_all}
 use Rattle.lucid_code.specs.declared.op.Literal.{Literal}

@@ -1,4 +1,4 @@
--- Which rows of a table may stand beside a row that asks a field for a value, by the rest that the value leaves.
+-- The rows of a table that are compatible with a row that tests a field for a value, by the value's remainder.
 use Rattle.std.specs.Prelude.{◌≡◌, ◌≤◌, ◌%◌, ℕ, List, Bool, not, ◌&&◌, length, nat_eq, slice_get}
 use Rattle.std.specs.List.{list_any, filter, filter_map}
 use Rattle.lucid_code.specs.declared.op.Literal.{Literal}
@@ -19,6 +19,6 @@ may_stand field rest r = not (list_any (asks_other field rest) r.pattern)
 abbrev pub rows_at : List Row → List ℕ → List Row
 rows_at rows places = filter_map (slice_get rows) places
 
--- At the places stand those rows that may stand beside one that asks the field for a value with the rest.
+-- The positions are those of the rows that are compatible with a test of the field for a value with this remainder.
 abbrev pub IsNear : List Row → Near → Type 0
 IsNear rows n = (rows_at rows n.places ≡ filter (may_stand n.field n.rest) rows) × (length n.places ≤ length rows)

@@ -43,7 +43,7 @@ drained_placed : (net : Network) (placed : PlacedParts) (tick switch waiting : �
 drained_placed net placed tick switch waiting now p lt is here =
     ap (λ (q : PipeParts). q.placed) (subst (IsOf placed) (sym here) (all_get (IsOf placed) now.pipes switch p is.same (drained_within net placed tick switch waiting now lt is)))
 
--- what the turn of a switch with this pipe asks for, and what it makes
+-- the conditions and the results of the turn of a switch with this pipe
 pub record Drains (net : Network) (placed : PlacedParts) (tick switch waiting : ℕ) (now : Piped) (p : PipeParts) : Type 0 where
   pub is : left p.placed (rows_in p) ≡ leaving net net.limits.stages switch tick
   pub some : 0 < length (rows_in p)
@@ -54,7 +54,7 @@ pub record Drains (net : Network) (placed : PlacedParts) (tick switch waiting : 
   pub next : (q : PipeParts) (lost : ℕ) → IsOf placed q → (rows_in q) ≡ (advance (step_of p.placed) None (rows_in p)).0 → lost ≡ now.lost + losses_by net (left p.placed (rows_in p)) →
       IsDrained net placed tick (switch + 1) (record { pipes = set now.pipes switch q; pending = now.pending; entered = now.entered; lost = lost }) (waiting + length (made_by net (left p.placed (rows_in p))))
 
--- more waits than what is counted so far
+-- more events are queued than are counted so far
 total : (net : Network) (placed : PlacedParts) → IsReady net placed → length (ticks net net.scene.stop).pending ≤ 2 ^ 32 + 8 * 131072
 total net placed ready =
     let same : length (nth net (net.scene.stop * net.scene.switches + 0)).pending ≡ length (ticks net net.scene.stop).pending = ap (λ (w : State). length w.pending) (by_number net net.scene.stop 0 (omega arith)) in

@@ -1,4 +1,4 @@
--- The end of a network with pipes: their cells, and what they are at the start.
+-- The end of a network with pipes: their cells, at the end and at the start.
 use Rattle.std.proofs.Common.{◌≡◌, ℕ, zero, suc, ◌+◌, ◌-◌, ◌<◌, ◌≤◌, List, [], ◌∷◌, ◌++◌, length, get_or, map, drop, replicate, true, refl, sym, ◌∙◌, ap, subst, arith}
 use Rattle.std.proofs.lemmas.Bool.Decides.{nat_tests}
 use Rattle.std.proofs.lemmas.List.{length-map}
@@ -57,7 +57,7 @@ cells_back : (cs : List Cells) → map (λ (r : Row Cells Packet). r.cells) (emp
 cells_back [] = refl
 cells_back (c ∷ cs) = ap (λ (l : List Cells). c ∷ l) (cells_back cs)
 
--- what there is once all have left
+-- the state once all have left
 pub record Ended (net : Network) (now : Piped) (count : ℕ) : Type 0 where
   pub cells : map held now.pipes ≡ (ticks net net.scene.stop).cells
   pub entered : now.entered ≡ (ticks net net.scene.stop).entered
@@ -100,7 +100,7 @@ ended net placed now waiting ready is = record {
         (sym (map_get (λ (q : PipeParts). (rows_in q)) now.pipes k (pipe k) [] within (itself now.pipes k (new_pipe placed) within)) ∙ e.1)
         ∙ e.2
 
--- the text of the end, by what the pipes hold
+-- the text of the end, by the content of the pipes
 pub last_is : (net : Network) (now : Piped) (waiting : ℕ) → Ended net now waiting →
     last_text net net.limits.stages ≡ pieces (late_text net net.limits.stages) net.scene.stop net.limits.stages ++ (all_cells net.parts 0 (map held now.pipes) ++ ending_text now.entered now.lost waiting)
 last_is net now waiting e =

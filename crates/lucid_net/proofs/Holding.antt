@@ -1,4 +1,4 @@
--- A pipe between two ticks, by what the network whose events run whole does.
+-- A pipe between two ticks, by the network whose events run whole.
 use Rattle.std.proofs.Common.{◌≡◌, ℕ, zero, suc, ◌-◌, ◌<◌, ◌≤◌, ◌⊎◌, inl, inr, List, [], ◌∷◌, length, get_or, map, Option, None, Some, option_map, refl, sym, ◌∙◌, ap, subst, arith}
 use Rattle.std.proofs.lemmas.Bool.{cases_lt}
 use Rattle.std.proofs.lemmas.List.FromFn.{get_or-map-range_with_len, length-map-range_with_len}
@@ -74,7 +74,7 @@ module _ {C P : Type 0} where
       one : t - suc k ≡ suc t - suc (suc k)
       one = omega arith
 
--- ---- what is in flight
+-- ---- the packets in flight
 
 slots_of : (rows : Rows) → map (λ (slot : Option Packet). option_map entry_of slot) (map (λ (r : Row Cells Packet). r.slot) rows) ≡ map (λ (r : Row Cells Packet). option_map entry_of r.slot) rows
 slots_of [] = refl

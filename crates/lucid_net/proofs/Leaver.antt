@@ -1,4 +1,4 @@
--- What leaves a pipe, and what comes in.
+-- The packet that leaves a pipe, and the one that comes in.
 use Rattle.std.proofs.Common.{◌≡◌, ◌+◌, List, length, Option, None, Some, IfSome, Bool, true, sym, ◌∙◌, ap, subst}
 use Rattle.std.specs.List.{list_all}
 use Rattle.lucid_core.specs.Parts.{CoreParts}

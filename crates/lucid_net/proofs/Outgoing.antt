@@ -74,7 +74,7 @@ sends_all net run old queue n bits index le so =
     let mark : lost_marks net run index (drop index run.outs) ≡ 0 = ap (lost_marks net run index) none in
     (sym (ap (λ (l : List Out). put_all (pending_outs net run index l) queue) none) ∙ so.waits, omega (arith, so.count, count), omega (arith, so.marks, mark))
 
--- ---- told without waiting
+-- ---- logged without queueing
 
 pub record Tells (net : Network) (run : Run) (lost_count lost_bits made_count index : ℕ) : Type 0 where
   pub made : made_count + length (pending_outs net run index (drop index run.outs)) ≡ length (made net run)

@@ -1,4 +1,4 @@
--- The turn of a switch with a pipe, by what the network whose events run whole does.
+-- The turn of a switch with a pipe, by the network whose events run whole.
 use Rattle.std.proofs.Common.{◌≡◌, ℕ, zero, suc, ◌+◌, ◌-◌, ◌*◌, ◌^◌, ◌<◌, ◌≤◌, ◌⊎◌, inl, inr, List, [], ◌∷◌, length, get_or, set, map, Option, None, Some, IfSome, Result, Ok, Err, OnOk, true, refl, sym, ◌∙◌, ap, subst, add-one, arith}
 use Rattle.std.proofs.lemmas.Bool.{cases_lt}
 use Rattle.std.proofs.lemmas.Bool.Decides.{nat_tests}
@@ -59,7 +59,7 @@ module _ {A B : Type 0} where
   map_get f (y ∷ ys) zero x d lt is = ap f (sym is)
   map_get f (y ∷ ys) (suc k) x d lt is = map_get f ys k x d (omega (arith, lt)) is
 
--- ---- what a turn is given
+-- ---- the inputs of a turn
 
 -- the rows of the switch, as the definition has them
 abbrev pub RowsAre : Network → PlacedParts → ℕ → ℕ → Rows → Type 0
@@ -118,7 +118,7 @@ left_kept net placed tick switch now rows ready lt are is =
         subst (λ (t : ℕ). list_all (is_kept net.parts t r.switch 0) now.pending ≡ true) (sym so.1.tick)
         (subst (λ (s : ℕ). list_all (is_kept net.parts (tick - net.limits.stages) s 0) now.pending ≡ true) (from_late net.limits.stages tick switch so.0 ∙ sym so.1.switch) is.kept)
 
--- what enters is an input
+-- the entering event is an input
 pub comes_input : (net : Network) (placed : PlacedParts) (tick switch : ℕ) (now : Piped) (rows : Rows) → IsReady net placed → switch < net.scene.switches → tick < net.scene.stop →
     RowsAre net placed tick switch rows → IsPiped net placed tick switch now →
     IfSome (find (is_ready switch tick) (waits net placed rows now.pending)) (λ p. IsInput placed.code switch p.event)
@@ -134,9 +134,9 @@ comes_input net placed tick switch now rows ready lt before are is =
     at None fit = tt
     at (Some p) fit = ready.takes switch p.event (omega (arith, lt, ready.switches)) fit
 
--- ---- what a turn makes
+-- ---- the results of a turn
 
--- so many turns are few
+-- the number of turns is small
 pub few_turns : (net : Network) (tick switch : ℕ) → net.scene.stop * net.scene.switches ≤ 131072 → tick < net.scene.stop → switch < net.scene.switches → tick * net.scene.switches + switch < 131072
 few_turns net tick switch few before lt =
     let n = net.scene.switches in
@@ -265,7 +265,7 @@ module _ {A E : Type 0} where
   ok_all (Ok x) P by = by x refl
   ok_all (Err e) P by = tt
 
--- what the turn of a switch with this pipe asks for
+-- the conditions of the turn of a switch with this pipe
 pub record Own (net : Network) (placed : PlacedParts) (tick switch : ℕ) (now : Piped) (p : PipeParts) : Type 0 where
   pub own : p.placed ≡ placed
   pub is : left p.placed (rows_in p) ≡ leaving net net.limits.stages switch tick

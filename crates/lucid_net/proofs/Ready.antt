@@ -1,4 +1,4 @@
--- What a network with pipes is made of, from what its scenario and its program keep.
+-- The inputs of a network with pipes, from the invariants of its scenario and its program.
 use Rattle.std.proofs.Common.{◌≡◌, ℕ, ◌+◌, ◌-◌, ◌*◌, ◌^◌, ◌<◌, ◌≤◌, List, [], ◌∷◌, length, ◌∙◌, ap, arith}
 use Rattle.std.proofs.lemmas.List.Elements.{recursion_from_All}
 use Rattle.std.specs.List.{AllByRecursion}
@@ -74,7 +74,7 @@ ready parts scene limits placed kept stages long outs few does takes = record {
     sends : SendsFit net
     sends = λ cells tick switch event. outs.each cells tick switch event
 
--- the same of code that stands for the program
+-- the same for code that represents the program
 pub ready_placed : (parts : CoreParts) (scene : Scene) (limits : Limits) (placed : PlacedParts) → IsScene parts scene → IsBetween 1 32 limits.stages → length placed.stages ≡ limits.stages → OutsFit parts →
     length scene.events ≤ 2 ^ 32 → length parts.events ≤ 2 ^ 32 → StandsFor placed.code parts → placed.code.arrays ≡ parts.arrays → PassDoesAs parts placed → TakesAll parts placed → IsReady (whole parts scene limits) placed
 ready_placed parts scene limits placed kept stages long outs few many stands arrays does takes =

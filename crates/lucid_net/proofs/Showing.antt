@@ -169,7 +169,7 @@ packets_are world (machines.Piped pipes) at switch n is lt counted =
     here : p ≡ get_or pipes.pipes.items switch p
     here = itself pipes.pipes.items switch d within
 
--- what is shown of one pipe
+-- the sight of one pipe
 pub shows_one : (old new : Option (List Sight)) (s : Sight) → Shows old new s → ShowsAll old new (s ∷ [])
 shows_one old None s is = tt
 shows_one None (Some now) s is = absurd is

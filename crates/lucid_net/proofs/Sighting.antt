@@ -32,7 +32,7 @@ some-map : {A B : Type 0} (f : A → B) (o : Option A) → is_some (option_map f
 some-map f None = refl
 some-map f (Some x) = refl
 
--- the places of what is there, the last first
+-- the places of the taken slots, the last first
 abbrev spots : {X : Type 0} → ℕ → List (Option X) → List ℕ
 spots k [] = []
 spots k (o ∷ os) = spots (suc k) os ++ (if is_some o then k ∷ [] else [])
@@ -89,7 +89,7 @@ rows_are net stages at switch (a ∷ arrays) (r ∷ cells) g long stands idle =
         ∙ ap (row_of (cells_before net at switch k)) none
         ∙ sym (ap (λ (o : Option ℕ). option_map_or (λ k. row_of (cells_before net at switch k) g) o (replicate a.size 0)) e)
 
--- the cells of an array in no stage are the same whatever the stages have
+-- the cells of an array in no stage are the same for any cells of the stages
 same_idle : (arrays : List ArrayDef) (stages : List StageCode) (cs ds : List Cells) (g : ℕ) → stage_of stages g ≡ None → row_of (by_array arrays stages cs) g ≡ row_of (by_array arrays stages ds) g
 same_idle arrays stages cs ds g is = at (cases_lt g (length arrays))
   where
@@ -116,7 +116,7 @@ many_arrays placed cs ds =
     length-map-range_with_len (array_cells placed.code.arrays placed.stages cs) 0 (length placed.code.arrays)
     ∙ sym (length-map-range_with_len (array_cells placed.code.arrays placed.stages ds) 0 (length placed.code.arrays))
 
--- ---- what is seen
+-- ---- the sight
 
 pub sight_between : (net : Network) (placed : PlacedParts) (at switch : ℕ) (now : Piped) (p : PipeParts) → IsReady net placed → switch < net.scene.switches → at ≤ net.scene.stop → IsPiped net placed at 0 now →
     p ≡ get_or now.pipes switch p → seen.sight_of switch p ≡ sight_at net placed at switch

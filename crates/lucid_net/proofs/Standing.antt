@@ -1,4 +1,4 @@
--- A network stays what it is asked to be.
+-- A network keeps its invariant.
 use Rattle.std.proofs.Common.{◌≡◌, ℕ, ◌+◌, sym, ◌∙◌, ap}
 use Rattle.lucid_net_laws.specs.Runs.{late_text}
 use Rattle.lucid_net_spec.proofs.Telling.{tick_untold}
@@ -13,7 +13,7 @@ pub ticked_state : (net : Network) (tick : ℕ) (now new : State) → IsWholeAt 
 ticked_state net tick now new at is =
     is ∙ ap (λ (s : State). untold (turns net tick net.scene.switches s)) at.state ∙ sym (tick_untold net tick)
 
--- what its turns write is what the definition's tick does
+-- the text of its turns is that of the definition's tick
 pub tick_written : (net : Network) (tick : ℕ) (now : State) → IsWholeAt net tick now → (turns net tick net.scene.switches now).text ≡ late_text net 0 tick
 tick_written net tick now at = ap (λ (s : State). (turns net tick net.scene.switches s).text) at.state
 

@@ -1,4 +1,4 @@
--- What turns and ticks write, piece after piece.
+-- The text of turns and ticks, piece after piece.
 use Rattle.std.proofs.Common.{◌≡◌, ℕ, List, ◌++◌, Option, Result, Ok, Err, refl, sym, ◌∙◌, ap, subst, append_assoc}
 use Rattle.lucid_io.proofs.Leaves.{Leaves-after, PutsAll-last, PutsPart-at, PutsPart-last}
 use Rattle.lucid_io.specs.Puts.{Leaves}

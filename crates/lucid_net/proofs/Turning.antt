@@ -17,7 +17,7 @@ use Rattle.lucid_net.specs.Entering.{entered_text, with_entered}
 use Rattle.lucid_net.specs.Kept.{IsKept, is_kept}
 use Rattle.lucid_net.proofs.Keeping.{found_passes, kept_switch, kept_tick, unfound}
 
--- this waits in place of what waited
+-- this queue in place of the old one
 abbrev pub with_pending : State → List Pending → State
 with_pending now pending = record { cells = now.cells; pending = pending; text = []; entered = now.entered; lost = now.lost }
 
@@ -89,7 +89,7 @@ turning_first written faults sink net tick now none kept = record {
     untold_is : (s : State) → s.text ≡ [] → s ≡ untold s
     untold_is s none = ap (λ (l : List ℕ). record { cells = s.cells; pending = s.pending; text = l; entered = s.entered; lost = s.lost }) none
 
--- what the turn of a switch writes
+-- the text of the turn of a switch
 pub turn_piece : (net : Network) (tick switch : ℕ) (begun now : State) → now ≡ untold (turns net tick switch begun) → (turn net tick switch now).text ≡ turn_text net tick begun switch
 turn_piece net tick switch begun now is = ap (λ (s : State). (turn net tick switch s).text) is
 

@@ -1,4 +1,4 @@
--- What leaves a pipe as its packets move, and what waits then.
+-- The packet that leaves a pipe as its packets move, and the queue after it.
 use Rattle.std.specs.Prelude.{◌≡◌, ◌+◌, List, Option, None, IsTrue, true, All}
 use Rattle.std.specs.List.{list_all}
 use Rattle.std.specs.Option.{option_map}
@@ -18,7 +18,7 @@ use Rattle.lucid_net.specs.Kept.{is_kept}
 abbrev pub gone_run : Option Passed → Option Run
 gone_run gone = option_map run_of_passed gone
 
--- The run of what leaves these rows as all packets move; and what waits then.
+-- The run of the packet that leaves these rows as all packets move; and the queue after it.
 abbrev pub left : PlacedParts → Rows → Option Run
 left placed rows = option_map run_of_packet (advance (step_of placed) None rows).1
 

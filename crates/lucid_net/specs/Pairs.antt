@@ -5,7 +5,7 @@ use Rattle.lucid_conf.specs.Items.{joins}
 use Rattle.lucid_conf.specs.Kept.{IsLink}
 use Rattle.lucid_conf.specs.declared.scene.Link.{Link}
 
--- The link at this place among all stands in the cell of its two switches, in either order.
+-- The link at this place among all is in the cell of its two switches, in either order.
 abbrev pub with_link : ℕ → Link → ℕ → List ℕ → List ℕ
 with_link switches l place places = slice_set (slice_set places (l.a * switches + l.b) place) (l.b * switches + l.a) place
 

@@ -1,4 +1,4 @@
--- What contracts see of switches with pipes.
+-- The model of switches with pipes.
 use Rattle.std.specs.Prelude.{◌≡◌, ℕ, ◌-◌, ◌*◌, ◌^◌, ◌<◌, ◌≤◌, List, true, if◌then◌else◌, length, map, nat_lt}
 use Rattle.std.specs.List.{AllByRecursion, list_all}
 use Rattle.lucid_base.specs.declared.event.Event.{Event}
@@ -20,7 +20,7 @@ use Rattle.lucid_net.specs.Kept.{is_kept}
 use Rattle.lucid_net.specs.Rows.{IsOf}
 use Rattle.lucid_net.specs.declared.pipes.Pipes.{Pipes}
 
--- The pipes, what waits, and how many events entered and were lost.
+-- The pipes, the queue, and the numbers of events that entered and were lost.
 pub record Piped : Type 0 where
   pub pipes : List PipeParts
   pub pending : List Pending
@@ -33,7 +33,7 @@ piped_of now = record { pipes = now.pipes.items; pending = now.queue; entered = 
 abbrev pub flying_of : Piped → Flying Cells Packet
 flying_of now = record { pipes = map rows_in now.pipes; pending = now.pending; entered = now.entered; lost = now.lost }
 
--- What a network is made of whose switches have pipes of this placed code.
+-- The inputs of a network whose switches have pipes of this placed code.
 pub record IsReady (net : Network) (placed : PlacedParts) : Type 0 where
   pub sound : IsSound net (stages_of placed) (IsGood placed net.parts) (fits net.parts)
   pub file : FileFits net

@@ -16,7 +16,7 @@ held pipe = pipe.cells
 abbrev pub IsOf : PlacedParts → PipeParts → Type 0
 IsOf placed pipe = pipe ≡ with_rows placed (rows_in pipe)
 
--- The pipe of a switch after so many ticks is the picture of what entered.
+-- The pipe of a switch after this many ticks is the picture of the events that entered.
 abbrev pub pipe_at : Network → PlacedParts → ℕ → ℕ → PipeParts
 pipe_at net placed at switch = with_rows placed (picture (step_of placed) (first_cells placed) (fed net (stages_of placed) switch) at)
 

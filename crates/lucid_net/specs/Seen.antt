@@ -1,4 +1,4 @@
--- What contracts see of a network in code.
+-- The model of a network in code.
 use Rattle.std.specs.Prelude.{◌≡◌, ℕ, List, ◌++◌, Option, None, Some, Bool, false}
 use Rattle.lucid_conf.specs.declared.limits.Limits.{Limits}
 use Rattle.lucid_conf.specs.declared.scene.Scene.{Scene}
@@ -12,7 +12,7 @@ use Rattle.lucid_net.specs.Stands.{placed_of}
 use Rattle.lucid_net.specs.declared.machines.Machines.{Machines}
 use Rattle.lucid_net.specs.declared.world.World.{World}
 
--- What it runs, the placed code of its pipes, where it has pipes, how many ticks are done, and whether one failed.
+-- Its world, the placed code of its pipes, if it has pipes, the number of ticks done, and whether one failed.
 pub record Seen : Type 0 where
   pub parts : CoreParts
   pub scene : Scene
@@ -24,7 +24,7 @@ pub record Seen : Type 0 where
 abbrev pub network : Seen → Network
 network net = whole net.parts net.scene net.limits
 
--- How many ticks pass before what entered is written: as many as there are stages, and none where handlers run whole.
+-- The ticks between the entry of an event and its block: as many as there are stages, and none if handlers run whole.
 abbrev pub lag_by : Limits → Option PlacedParts → ℕ
 lag_by limits None = 0
 lag_by limits (Some placed) = limits.stages
@@ -51,6 +51,6 @@ pub record IsStart (program : CoreParts) (scenario : Scene) (target : Limits) (c
   pub at : net.at ≡ 0
   pub failed : net.failed ≡ false
 
--- What is written once the last tick is done: what is in flight, and the end.
+-- The text after the last tick: the packets in flight, and the end.
 abbrev pub last_text : Network → ℕ → List ℕ
 last_text net late = pieces (late_text net late) net.scene.stop late ++ end_text net (ticks net net.scene.stop)

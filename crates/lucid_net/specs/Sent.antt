@@ -1,4 +1,4 @@
--- What runs in code, as the definitions see it.
+-- The runs in code, as the definitions see them.
 use Rattle.std.specs.Prelude.{Bool, false, not}
 use Rattle.lucid_base.specs.declared.event.Out.TheVariants.{Gen, Say}
 use Rattle.lucid_base.specs.declared.event.Out.{Out}

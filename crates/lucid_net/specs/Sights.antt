@@ -1,4 +1,4 @@
--- What a watch is shown of a network, by what the network does whose handlers run whole.
+-- The sights of a network, by the network whose handlers run whole.
 use Rattle.std.specs.Prelude.{◌≡◌, ℕ, zero, suc, ◌+◌, ◌-◌, ◌≤◌, List, [], ◌∷◌, ◌++◌, Option, None, Some, Result, Ok, Err, Bool, ◌&&◌, if◌then◌else◌, is_some, nat_lt, replicate, slice_index_or}
 use Rattle.std.specs.Option.{option_map_or}
 use Rattle.lucid_base.specs.Cells.{row_of}
@@ -16,7 +16,7 @@ use Rattle.lucid_net.specs.declared.error.NetError.{NetError}
 use Rattle.lucid_net.specs.declared.machines.Machines.TheVariants as machines
 use Rattle.lucid_net.specs.declared.machines.Machines.{Machines}
 
--- Where the sights are told then, they were told before, and these were appended.
+-- If the sights are specified after, they were before, and these were appended.
 abbrev pub ShowsAll : Option (List Sight) → Option (List Sight) → List Sight → Type 0
 ShowsAll old None sights = Unit {0}
 ShowsAll None (Some now) sights = ⊥
@@ -52,7 +52,7 @@ sight_at net placed at switch = record {
   cells = rows_from net placed.stages at switch 0 net.parts.arrays;
 }
 
--- The sights of so many switches, from this number on; none where handlers run whole.
+-- The sights of this many switches, from this number on; none if handlers run whole.
 abbrev pub sights_from : Network → PlacedParts → ℕ → ℕ → ℕ → List Sight
 sights_from net placed at switch zero = []
 sights_from net placed at switch (suc count) = sight_at net placed at switch ∷ sights_from net placed at (switch + 1) count
@@ -71,7 +71,7 @@ abbrev pub ShowsRun : Network → Option PlacedParts → Option (List Sight) →
 ShowsRun net placed old new (Ok u) = ShowsAll old new (sights_to net placed net.scene.stop)
 ShowsRun net placed old new (Err e) = (tick : ℕ) × (tick ≤ net.scene.stop) × ShowsAll old new (sights_to net placed tick)
 
--- What is shown of pipes as they are.
+-- The sights of pipes as they are.
 abbrev pub shown_from : ℕ → List PipeParts → List Sight
 shown_from switch [] = []
 shown_from switch (p ∷ pipes) = sight_of switch p ∷ shown_from (switch + 1) pipes

@@ -1,4 +1,4 @@
--- What a network in code keeps: until a tick fails, its switches are those of the definition.
+-- The invariant of a network in code: until a tick fails, its switches are those of the definition.
 use Rattle.std.specs.Prelude.{◌≡◌, ℕ, ◌≤◌, [], Option, None, Some, Bool, false}
 use Rattle.lucid_conf.specs.Kept.{IsScene}
 use Rattle.lucid_net_spec.specs.Log.{State, ticks}
@@ -21,7 +21,7 @@ abbrev pub placed_of : Machines → Option PlacedParts
 placed_of (machines.Whole switches) = None
 placed_of (machines.Piped pipes) = Some pipes.placed.now
 
--- The switches stand as the definition has them after so many ticks.
+-- The switches are those of the definition after this many ticks.
 pub record IsWholeAt (net : Network) (tick : ℕ) (now : State) : Type 0 where
   pub state : now ≡ untold (ticks net tick)
   pub kept : IsKept net.parts net.scene.switches tick 0 now
@@ -34,7 +34,7 @@ abbrev pub IsAt : Network → ℕ → Machines → Type 0
 IsAt net tick (machines.Whole switches) = IsWholeAt net tick (state_of switches)
 IsAt net tick (machines.Piped pipes) = IsPipedAt net pipes.placed.now tick (piped_of pipes)
 
--- A network keeps what its scenario keeps, and until a tick fails its switches are those of the definition.
+-- A network keeps the invariants of its scenario, and until a tick fails its switches are those of the definition.
 pub record Stands (world : World) (now : Machines) (at : ℕ) (failed : Bool) : Type 0 where
   pub scene : IsScene world.core.now world.scene.now
   pub within : at ≤ world.scene.now.stop

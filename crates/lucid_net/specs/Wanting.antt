@@ -5,7 +5,7 @@ use Rattle.lucid_net_laws.specs.Runs.{leaving, made_by}
 use Rattle.lucid_net_spec.specs.Log.{log, ticks}
 use Rattle.lucid_net_spec.specs.Ways.{Network}
 
--- An event that entered some switch so many ticks before made something that waits.
+-- An event that entered some switch this many ticks before made a queued event.
 abbrev pub SomeMade : Network → ℕ → Type 0
 SomeMade net tick = (switch : ℕ) × (switch < net.scene.switches) × (made_by net (leaving net net.limits.stages switch tick) ≢ [])
 

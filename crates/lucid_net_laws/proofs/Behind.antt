@@ -1,4 +1,4 @@
--- What waits stays behind by what packets in flight make.
+-- The queue lacks exactly the events of packets in flight.
 use Rattle.std.proofs.Common.{◌≡◌, ℕ, zero, suc, ◌+◌, ◌-◌, ◌*◌, ◌/◌, ◌%◌, ◌^◌, ◌<◌, ◌≤◌, ◌⊎◌, ⊎_elim, inl, inr, List, [], ◌∷◌, ◌++◌, Option, None, Some, Bool, refl, sym, ◌∙◌, ap, subst, append_assoc, append-nil, arith}
 use Rattle.std.proofs.lemmas.Bool.{cases_lt}
 use Rattle.std.proofs.lemmas.Nat.{div-mul-add, mod-mul-add, div-add-mod'}
@@ -100,7 +100,7 @@ none_of net i from (suc count) some early lt links =
 both_times : (a b n : ℕ) → (a + b) * n ≡ a * n + b * n
 both_times a b n = grind arith
 
--- t is less than k where the number of the turn is below that of the same switch k ticks later, and else it is more by so many
+-- t is less than k if the number of the turn is below that of the same switch k ticks later, and otherwise it is more by this much
 pub parted : (t k s n : ℕ) → s < n → ((t < k) × (t * n + s < k * n)) ⊎ ((d : ℕ) × (k + d ≡ t) × ((d * n + s) + k * n ≡ t * n + s))
 parted t k s n lt = ⊎_elim (λ (e : t < k). inl (e, below e)) (λ (e : k ≤ t). inr (t - k, omega (arith, e), above e)) (cases_lt t k)
   where

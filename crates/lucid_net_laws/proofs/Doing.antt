@@ -1,4 +1,4 @@
--- A pass through stages, each on its own cells, does what the program's step does.
+-- A pass through stages, each on its own cells, has the effect of the program's step.
 use Rattle.std.proofs.Common.{◌≡◌, ℕ, zero, suc, ◌<◌, ◌≤◌, ◌^◌, List, [], ◌∷◌, length, map, Option, None, Some, false, IsTrue, refl, sym, ◌∙◌, ap, subst, arith}
 use Rattle.lucid_base.specs.Cells.{row_of, zero_cells}
 use Rattle.lucid_base.specs.declared.array.ArrayDef.{ArrayDef}

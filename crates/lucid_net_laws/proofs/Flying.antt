@@ -23,7 +23,7 @@ use Rattle.lucid_net_laws.specs.Whole.{clock}
 use Rattle.lucid_net_laws.proofs.Behind.{nth-next, stays_behind}
 use Rattle.lucid_net_laws.proofs.Whole.{clock_done, clock_end, clock_other, clock_self, clock_start, ends_run, entering_early, whole_at}
 
--- what is late is the same where what came is
+-- `late` of equal streams is equal
 late_same : (f g : ℕ → Option Run) (t k : ℕ) → ((e : ℕ) → e ≤ t → f e ≡ g e) → late f t k ≡ late g t k
 late_same f g t zero same = same t (omega arith)
 late_same f g zero (suc k) same = refl
@@ -37,7 +37,7 @@ enters_entered net t s w None = omega arith
 enters_entered net t s w (Some p) = refl
 
 module _ {C P : Type 0} where
-  -- what leaves a pipeline
+  -- the packet that leaves a pipeline
   pub leaves_run : (net : Network) (st : Stages C P) (Good : List C → Type 0) (Fits : Event → Type 0) (t s : ℕ) (rows : List (Row C P)) → IsSound net st Good Fits → s < net.scene.switches →
       rows ≡ picture st.step st.cells (fed net st s) t → option_map st.done (advance st.step None rows).1 ≡ leaving net net.limits.stages s t
   leaves_run net st Good Fits t s rows sound lt is =
@@ -47,7 +47,7 @@ module _ {C P : Type 0} where
       ∙ ap (λ (k : ℕ). option_map st.done (late (ends st.step st.cells (fed net st s)) t k)) one
       ∙ late_done st.done (ends st.step st.cells (fed net st s)) (entering net s) t net.limits.stages (λ e. ends_run net st Good Fits sound.does sound.fit s e lt)
 
-  -- and what stays in it, with what enters
+  -- and the packets that stay in it, with the one that enters
   pub stays_picture : (net : Network) (st : Stages C P) (Good : List C → Type 0) (Fits : Event → Type 0) (t s : ℕ) (rows : List (Row C P)) → IsSound net st Good Fits →
       rows ≡ picture st.step st.cells (fed net st s) t → entered_by (fed net st s t) (advance st.step None rows).0 ≡ picture st.step st.cells (fed net st s) (suc t)
   stays_picture net st Good Fits t s rows sound is =

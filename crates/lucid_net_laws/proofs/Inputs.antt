@@ -1,4 +1,4 @@
--- Events that fit are inputs of code that stands for a program.
+-- Events that fit are inputs of code that represents a program.
 use Rattle.lucid_core.specs.Parts.{CoreParts}
 use Rattle.lucid_normal_spec.proofs.Inputs.{input_of}
 use Rattle.lucid_tables.specs.Placed.{PlacedParts}

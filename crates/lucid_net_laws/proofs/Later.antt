@@ -1,4 +1,4 @@
--- What a run makes pending is ready only once its packet has left.
+-- The pending events of a run are ready only once its packet has left.
 use Rattle.std.proofs.Common.{◌≡◌, ◌≢◌, ℕ, suc, min, ◌+◌, ◌-◌, ◌*◌, ◌/◌, ◌%◌, ◌^◌, ◌<◌, ◌≤◌, ◌⊎◌, ⊎_elim, inl, inr, List, [], ◌∷◌, ◌++◌, Option, None, Some, Bool, true, false, if◌then◌else◌, cond, nat_eq, refl, sym, ◌∙◌, ap, subst, arith}
 use Rattle.std.proofs.Math.Nat.{eq-or-lt_of_le}
 use Rattle.std.proofs.lemmas.Bool.{cases_lt}
@@ -46,7 +46,7 @@ found_takes may (x ∷ xs) l all is = at (may x) is (found_takes may xs l all.1)
     at true is rest = subst (λ (y : Link). 1 ≤ y.latency) (inside x l is) all.0
     at false is rest = rest is
 
--- of what arrives
+-- of an arriving event
 abbrev Arrives : Network → Run → Option Arrival → Type 0
 Arrives net run None = Unit {0}
 Arrives net run (Some a) = IsLater net run a.switch a.ready

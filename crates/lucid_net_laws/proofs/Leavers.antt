@@ -1,4 +1,4 @@
--- What leaves a pipe: a run of the network, of an event that fits, as is all that it sends out.
+-- The packet that leaves a pipe: a run of the network, of an event that fits, as all its outs do.
 use Rattle.std.proofs.Common.{◌≡◌, ℕ, zero, suc, ◌+◌, ◌-◌, ◌<◌, ◌≤◌, ◌⊎◌, inl, inr, List, [], ◌∷◌, length, get_or, All, Option, None, Some, IfSome, IsTrue, Bool, true, false, if◌then◌else◌, nat_lt, option_map, refl, sym, ◌∙◌, ap, subst, arith}
 use Rattle.std.proofs.lemmas.Bool.{cases_lt}
 use Rattle.std.specs.List.{find}
@@ -35,7 +35,7 @@ entering_run net s t file sends =
     let w = turns net t s (ticks net t) in
     if_some (Entered net s t) (nat_lt t net.scene.stop) (runs net s t) (run_entered net s t w (find (is_ready s t) w.pending) sends (all_fit net file sends t s))
 
--- what leaves entered so many ticks before
+-- the leaving packet entered this many ticks before
 pub leaving_run : (net : Network) (lag s t : ℕ) → FileFits net → SendsFit net → IfSome (leaving net lag s t) (λ r. (lag ≤ t) × Entered net s (t - lag) r)
 leaving_run net lag s t file sends = at (cases_lt t lag)
   where

@@ -1,4 +1,4 @@
--- What may not enter can be put in before what enters is taken out, or after.
+-- An event that may not enter can be queued before the entering one is taken out, or after.
 use Rattle.std.proofs.Common.{◌≡◌, List, [], ◌∷◌, ◌++◌, Option, None, Some, Bool, true, false, if◌then◌else◌, cond, refl, sym, ◌∙◌, ap}
 use Rattle.std.specs.List.{AllByRecursion, find}
 use Rattle.lucid_net_spec.proofs.InOrder.{NoneBefore, either, if_false, if_true, is_strict_order, put_stays}

@@ -1,4 +1,4 @@
--- What is written later is what the network whose events run whole writes.
+-- The later text is that of the network whose events run whole.
 use Rattle.std.proofs.Common.{◌≡◌, ℕ, zero, suc, ◌+◌, ◌-◌, ◌<◌, ◌≤◌, ◌⊎◌, inl, inr, List, [], ◌++◌, Option, None, Some, option_map, refl, sym, ◌∙◌, ap, append-nil, arith}
 use Rattle.std.proofs.lemmas.Bool.{cases_lt}
 use Rattle.std.specs.List.{find}
@@ -25,7 +25,7 @@ enters_block : (net : Network) (t s : ℕ) (w : State) (o : Option Pending) → 
 enters_block net t s w None = refl
 enters_block net t s w (Some p) = refl
 
--- a turn writes what its run does
+-- the text of a turn is that of its run
 turn_block : (net : Network) (t s : ℕ) → turn_text net t (untold (ticks net t)) s ≡ text_by net (runs net s t)
 turn_block net t s =
     enters_block net t s (turns net t s (untold (ticks net t))) (find (is_ready s t) (turns net t s (untold (ticks net t))).pending)
@@ -51,7 +51,7 @@ late_later net (suc lag) t = ap (late_text net (suc lag)) next ∙ late_later ne
     next : suc lag + t ≡ suc (lag + t)
     next = omega arith
 
--- the turns of a tick write, one after another, what the tick does
+-- the texts of the turns of a tick, one after another, are that of the tick
 pub late_turns : (net : Network) (lag t : ℕ) → t < net.scene.stop + lag → late_text net lag t ≡ pieces (left_text net lag t) 0 net.scene.switches
 late_turns net lag t lt = at (cases_lt t lag)
   where
@@ -66,7 +66,7 @@ late_turns net lag t lt = at (cases_lt t lag)
         ∙ pieces-same (λ s. text_by net (runs net s (t - lag))) (left_text net lag t) 0 net.scene.switches net.scene.switches (omega arith)
         (λ s _. ap (text_by net) (sym (entering_early net s (t - lag) early) ∙ sym (late_at (entering net s) (t - lag) lag)) ∙ ap (λ (k : ℕ). left_text net lag k s) is)
 
--- ticks write, one after another, what so many ticks before it the definition's did
+-- the texts of ticks, one after another, are those of the definition this many ticks before
 pub late_ticks : (net : Network) (lag t : ℕ) → pieces (late_text net lag) 0 t ≡ (ticks net (t - lag)).text
 late_ticks net lag zero = ap (λ (k : ℕ). (ticks net k).text) none
   where

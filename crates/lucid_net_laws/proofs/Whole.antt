@@ -57,7 +57,7 @@ as_long net t s w None = refl
 as_long net t s w (Some p) = length-set w.cells s _
 
 module _ {C P : Type 0} where
-  -- one pass is what a turn does
+  -- one pass is the effect of a turn
   pass_turn : (net : Network) (st : Stages C P) (Good : List C → Type 0) (Fits : Event → Type 0) (t s : ℕ) (w : State) (rows : List C) (o : Option Pending) →
       DoAs net st Good Fits → Good rows → st.view rows ≡ get_or w.cells s [] → t < net.scene.stop → s < net.scene.switches → s < length w.cells → IfSome o (λ p. Fits p.event) →
       (let r = option_map (λ p. run_at net t s w p.event) o in let e = passed st.step rows (option_map (packet_of st) r) in
@@ -160,7 +160,7 @@ module _ {C P : Type 0} where
   whole_at net st Good Fits (suc t) law fit le =
       next_tick net st Good t (switches net st Good Fits t net.scene.switches law fit (omega (arith, le)) (omega arith) (whole_at net st Good Fits t law fit (omega (arith, le))))
 
-  -- what a packet has done once it has left is the run of its event
+  -- the final state of a packet that has left is the run of its event
   pub ends_run : (net : Network) (st : Stages C P) (Good : List C → Type 0) (Fits : Event → Type 0) → DoAs net st Good Fits → AllFit net Fits → (u t : ℕ) → u < net.scene.switches →
       option_map st.done (ends st.step st.cells (fed net st u) t) ≡ entering net u t
   ends_run net st Good Fits law fit u t lt = at (cases_lt t net.scene.stop)

@@ -1,4 +1,4 @@
--- What waits in a network whose packets are in flight for some turns, by the number of the turn.
+-- The queue of a network whose packets are in flight for some turns, by the number of the turn.
 use Rattle.std.specs.Prelude.{◌≡◌, ◌≢◌, ℕ, zero, suc, min, ◌+◌, ◌-◌, ◌*◌, ◌/◌, ◌%◌, ◌^◌, ◌<◌, ◌≤◌, List, [], ◌++◌, Option, false}
 use Rattle.std.specs.List.{AllByRecursion, find}
 use Rattle.lucid_conf.specs.declared.scene.Link.{Link}
@@ -10,7 +10,7 @@ use Rattle.lucid_queue.specs.Waiting.{is_ready, without_first}
 use Rattle.lucid_queue.specs.declared.pending.Pending.{Pending}
 use Rattle.lucid_net_laws.specs.Runs.{losses_by, made_by, run_of, runs}
 
--- What runs at turn i, and what `count` turns from this number on make.
+-- The run at turn i, and the events made by `count` turns from this number on.
 abbrev pub nth_run : Network → ℕ → Option Run
 nth_run net i = run_of net (i / net.scene.switches) (i % net.scene.switches) (nth net i)
 
@@ -18,7 +18,7 @@ abbrev pub mades : Network → ℕ → ℕ → List Pending
 mades net from zero = []
 mades net from (suc count) = made_by net (nth_run net from) ++ mades net (suc from) count
 
--- Before turn i, of whose turns before it the last `count` are in flight: what these make is all that is missing.
+-- Before turn i, if the last `count` turns before it are in flight: the queue lacks exactly the events that these make.
 pub record IsBehind (net : Network) (out count i : ℕ) (waits : List Pending) : Type 0 where
   pub turns : out + count ≡ i
   pub pending : put_all (mades net out count) waits ≡ (nth net i).pending
@@ -32,8 +32,8 @@ IsBehindBy net lag i pending = IsBehind net (i - lag) (i - (i - lag)) i pending
 abbrev pub LinksTakeTime : Network → Type 0
 LinksTakeTime net = AllByRecursion (λ l. 1 ≤ l.latency) net.scene.links
 
--- What a turn does where packets take `stages` ticks, one at least: what entered so long before becomes pending, and then the same event
--- enters as in the network whose events run whole.
+-- The effect of a turn if packets take `stages` ticks, one at least: the events of the packet that entered that long before become
+-- pending, and then the same event enters as in the network whose events run whole.
 pub record TurnBehind (net : Network) (tick switch : ℕ) (pending : List Pending) : Type 0 where
   pub enters : find (is_ready switch tick) pending ≡ find (is_ready switch tick) (turns net tick switch (ticks net tick)).pending
   pub behind : IsBehindBy net (net.limits.stages * net.scene.switches) (suc (tick * net.scene.switches + switch)) (without_first (is_ready switch tick) pending)

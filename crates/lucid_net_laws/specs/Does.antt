@@ -1,4 +1,4 @@
--- A pass through the stages of placed code does what the program's step does.
+-- A pass through the stages of placed code has the effect of the program's step.
 use Rattle.std.specs.Prelude.{◌≡◌, ℕ, ◌<◌, ◌≤◌, ◌^◌, List, None, IsTrue, length}
 use Rattle.lucid_base.specs.Cells.{row_of, zero_cells}
 use Rattle.lucid_base.specs.declared.event.Event.{Event}
@@ -19,7 +19,7 @@ use Rattle.lucid_tables.specs.Placed.{PlacedParts, stage_of}
 use Rattle.lucid_net_laws.specs.Rows.{Cells, step_of, first_cells, cells_of}
 use Rattle.lucid_net_laws.specs.PipeStages.{run_of_packet, stages_of}
 
--- The cells of stages are those of cells that fit the program, and an array that stands in no stage holds 0.
+-- The cells of stages are those of cells that fit the program, and an array that is in no stage holds 0.
 pub record IsGood (placed : PlacedParts) (parts : CoreParts) (cs : List Cells) : Type 0 where
   pub all : Cells
   pub fit : IsTrue (cells_fit parts all)
@@ -27,7 +27,7 @@ pub record IsGood (placed : PlacedParts) (parts : CoreParts) (cs : List Cells) :
   pub long : length all ≡ length placed.code.arrays
   pub rest : (g : ℕ) → stage_of placed.stages g ≡ None → row_of all g ≡ row_of (zero_cells placed.code.arrays) g
 
--- A pass through the stages does what the program's step does.
+-- A pass through the stages has the effect of the program's step.
 pub record StepsAs (parts : CoreParts) (placed : PlacedParts) : Type 0 where
   pub start : cells_of placed (first_cells placed) ≡ zero_cells parts.arrays
   pub good : IsGood placed parts (first_cells placed)

@@ -12,7 +12,7 @@ use Rattle.lucid_net_laws.specs.Runs.{losses_by, made_by}
 use Rattle.lucid_net_laws.specs.Stages.{Stages, fed}
 use Rattle.lucid_net_laws.specs.Whole.{clock}
 
--- The turn of a switch once the last tick is done: nothing enters, and what would become pending is counted.
+-- The turn of a switch after the last tick: nothing enters, and the events that would become pending are counted.
 abbrev pub draining_turn : {C P : Type 0} → Network → Stages C P → ℕ → Flying C P → Flying C P
 draining_turn net st switch now =
     let gone = advance st.step None (slice_index_or now.pipes switch []) in

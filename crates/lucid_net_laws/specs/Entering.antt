@@ -1,4 +1,4 @@
--- What enters a network, and when.
+-- The events that enter a network, and their ticks.
 use Rattle.std.specs.Prelude.{ℕ, IfSome}
 use Rattle.std.specs.List.{find}
 use Rattle.lucid_base.specs.declared.event.Event.{Event}

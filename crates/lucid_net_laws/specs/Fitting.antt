@@ -9,7 +9,7 @@ use Rattle.lucid_net_spec.specs.Ways.{Network}
 abbrev pub fits : CoreParts → Event → Type 0
 fits parts event = IsTrue (event_fits parts event)
 
--- The events of the file fit, and so does what any event sends out.
+-- The events of the file fit, and so do the outs of any event.
 abbrev pub FileFits : Network → Type 0
 FileFits net = AllByRecursion (λ e. fits net.parts e.event) net.scene.events
 

@@ -17,7 +17,7 @@ use Rattle.lucid_net_laws.specs.Runs.{losses_by, made_by}
 use Rattle.lucid_net_laws.specs.Stages.{DoAs, Stages, fed}
 use Rattle.lucid_net_laws.specs.Whole.{clock}
 
--- The pipeline of each switch, what waits, and how many events entered and were lost.
+-- The pipeline of each switch, the queue, and the numbers of events that entered and were lost.
 pub record Flying (C P : Type 0) : Type 0 where
   pub pipes : List (List (Row C P))
   pub pending : List Pending
@@ -28,11 +28,11 @@ abbrev pub one_if : {A : Type 0} → Option A → ℕ
 one_if None = 0
 one_if (Some x) = 1
 
--- The packet of what waited.
+-- The packet of a queued event.
 abbrev pub packet_for : {C P : Type 0} → Stages C P → ℕ → ℕ → Option Pending → Option P
 packet_for st tick switch o = option_map (λ p. st.enters tick switch p.event) o
 
--- The turn of a switch: its packets move, what leaves makes events pending, and then one may enter.
+-- The turn of a switch: its packets move, the packet that leaves makes events pending, and then one may enter.
 abbrev pub flying_turn : {C P : Type 0} → Network → Stages C P → ℕ → ℕ → Flying C P → Flying C P
 flying_turn net st tick switch now =
     let gone = advance st.step None (slice_index_or now.pipes switch []) in
@@ -46,8 +46,8 @@ flying_turn net st tick switch now =
       lost = now.lost + losses_by net run;
     }
 
--- Before the turn of a switch at a tick each pipeline is the picture of what entered its switch in the network whose events run whole,
--- and what waits is behind by what is in flight.
+-- Before the turn of a switch at a tick each pipeline is the picture of the events that entered its switch in the network whose events
+-- run whole, and the queue lacks exactly the events still to be sent by packets in flight.
 pub record IsFlying {C P : Type 0} (net : Network) (st : Stages C P) (tick switch : ℕ) (now : Flying C P) : Type 0 where
   pub long : length now.pipes ≡ net.scene.switches
   pub pipes : (u : ℕ) → u < net.scene.switches → slice_index_or now.pipes u [] ≡ picture st.step st.cells (fed net st u) (clock tick switch u)
@@ -55,7 +55,7 @@ pub record IsFlying {C P : Type 0} (net : Network) (st : Stages C P) (tick switc
   pub entered : now.entered ≡ (nth net (tick * net.scene.switches + switch)).entered
   pub lost : now.lost ≡ (nth net (tick * net.scene.switches + switch - net.limits.stages * net.scene.switches)).lost
 
--- What the network is made of.
+-- The inputs of the network.
 pub record IsSound {C P : Type 0} (net : Network) (st : Stages C P) (Good : List C → Type 0) (Fits : Event → Type 0) : Type 0 where
   pub some : 0 < net.limits.stages
   pub long : length st.cells ≡ net.limits.stages

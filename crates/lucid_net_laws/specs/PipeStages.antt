@@ -1,4 +1,4 @@
--- The stages of placed code, and what left them as runs of a network.
+-- The stages of placed code, and the packets that left them as runs of a network.
 use Rattle.lucid_core.specs.Step.{step}
 use Rattle.lucid_net_laws.specs.Stages.{Stages}
 use Rattle.lucid_net_spec.specs.Ways.{Run}
@@ -7,7 +7,7 @@ use Rattle.lucid_pipe.specs.declared.passed.Passed.{Passed}
 use Rattle.lucid_tables.specs.Placed.{PlacedParts}
 use Rattle.lucid_net_laws.specs.Rows.{Cells, step_of, first_cells, cells_of}
 
--- What left a pipe, as a run.
+-- A packet that left a pipe, as a run.
 abbrev pub run_of_passed : Passed → Run
 run_of_passed p = record { tick = p.now; switch = p.me; event = p.event; outs = p.outs }
 

@@ -13,8 +13,8 @@ Cells = List (List ℕ)
 abbrev pub Rows : Type 0
 Rows = List (Row Cells Packet)
 
--- What a stage of the code makes of its cells and a packet; the cells of each stage, all 0; the cells by array, of those by stage; and the rows of a
--- pipe. They don't unfold, so that what is said of networks by them stays as short as it is.
+-- The effect of a stage of the code on its cells and a packet; the cells of each stage, all 0; the cells by array, from those by stage;
+-- and the rows of a pipe. They don't unfold, so that statements about networks stay as short as they are.
 unfoldable pub step_of : PlacedParts → Steps Cells Packet
 step_of placed = steps_of placed.code placed.stages
 

@@ -1,4 +1,4 @@
--- What runs at each turn of a network, and what of it is written, made pending and lost so many ticks later.
+-- The runs at each turn of a network, and the events that are written, made pending and lost some ticks later.
 use Rattle.std.specs.Prelude.{◌≡◌, ℕ, ◌-◌, zero, suc, List, [], Option, None, Some, if◌then◌else◌, nat_lt}
 use Rattle.std.specs.List.{find}
 use Rattle.std.specs.Option.{option_map}
@@ -13,14 +13,14 @@ use Rattle.lucid_queue.specs.declared.pending.Pending.{Pending}
 abbrev pub run_of : Network → ℕ → ℕ → State → Option Run
 run_of net tick switch now = option_map (λ p. run_at net tick switch now p.event) (find (is_ready switch tick) now.pending)
 
--- What runs at a switch at each tick; and what enters it: nothing once the last tick is done.
+-- The run at a switch at each tick; and the event that enters it: none after the last tick.
 abbrev pub runs : Network → ℕ → ℕ → Option Run
 runs net switch tick = run_of net tick switch (turns net tick switch (ticks net tick))
 
 abbrev pub entering : Network → ℕ → ℕ → Option Run
 entering net switch tick = if nat_lt tick net.scene.stop then runs net switch tick else None
 
--- What a run, if there is one, makes pending, writes and loses.
+-- The pending events, the text and the losses of a run, if there is one.
 abbrev pub made_by : Network → Option Run → List Pending
 made_by net None = []
 made_by net (Some run) = made net run
@@ -33,11 +33,11 @@ abbrev pub losses_by : Network → Option Run → ℕ
 losses_by net None = 0
 losses_by net (Some run) = losses net run
 
--- What leaves the switch at the tick, where packets take `lag` ticks.
+-- The run that leaves the switch at the tick, if packets take `lag` ticks.
 abbrev pub leaving : Network → ℕ → ℕ → ℕ → Option Run
 leaving net lag switch tick = late (entering net switch) tick lag
 
--- What the turn of a switch writes, and what a tick writes: what entered `lag` ticks before.
+-- The text of the turn of a switch, and of a tick: of the event that entered `lag` ticks before.
 abbrev pub left_text : Network → ℕ → ℕ → ℕ → List ℕ
 left_text net lag tick switch = text_by net (leaving net lag switch tick)
 

@@ -1,4 +1,4 @@
--- Stages that do what the events of a network do.
+-- Stages with the effect of the events of a network.
 use Rattle.std.specs.Prelude.{◌≡◌, ℕ, ◌<◌, List, Option}
 use Rattle.std.specs.Option.{option_map}
 use Rattle.lucid_base.specs.Cells.{zero_cells}
@@ -7,8 +7,8 @@ use Rattle.lucid_net_spec.specs.Ways.{Network, Run}
 use Rattle.lucid_pipe_laws.specs.Rows.{Steps, whole}
 use Rattle.lucid_net_laws.specs.Runs.{entering}
 
--- What a stage does, the cells of all stages at the start, and what these are as the cells of arrays; the packet of an event that enters a switch
--- at a tick, and what it is once it has left.
+-- The effect of a stage, the cells of all stages at the start, and the cells of arrays in them; the packet of an event that enters a
+-- switch at a tick, and its run once it has left.
 pub record Stages (C P : Type 0) : Type 0 where
   pub step : Steps C P
   pub cells : List C
@@ -16,7 +16,7 @@ pub record Stages (C P : Type 0) : Type 0 where
   pub enters : ℕ → ℕ → Event → P
   pub done : P → Run
 
--- A pass through all stages does what the event does: from good cells, for events that fit, at the ticks and switches of the network.
+-- A pass through all stages has the effect of the event: from good cells, for events that fit, at the ticks and switches of the network.
 pub record DoAs {C P : Type 0} (net : Network) (st : Stages C P) (Good : List C → Type 0) (Fits : Event → Type 0) : Type 0 where
   pub start : st.view st.cells ≡ zero_cells net.parts.arrays
   pub good : Good st.cells
@@ -24,7 +24,7 @@ pub record DoAs {C P : Type 0} (net : Network) (st : Stages C P) (Good : List C 
       (let e = whole st.step cs (st.enters tick switch event) in let d = net.does (st.view cs) tick switch event in
       (st.view e.0 ≡ d.cells) × (st.done e.1 ≡ record { tick = tick; switch = switch; event = event; outs = d.outs }) × Good e.0)
 
--- What enters the pipe of a switch at each tick.
+-- The packet that enters the pipe of a switch at each tick.
 abbrev pub packet_of : {C P : Type 0} → Stages C P → Run → P
 packet_of st run = st.enters run.tick run.switch run.event
 

@@ -1,4 +1,4 @@
--- The cells of each switch, by what entered it.
+-- The cells of each switch, by the events that entered it.
 use Rattle.std.specs.Prelude.{◌≡◌, ℕ, suc, ◌<◌, List, [], if◌then◌else◌, length, nat_lt, slice_index_or}
 use Rattle.lucid_net_spec.specs.Log.{ticks, turns}
 use Rattle.lucid_net_spec.specs.Ways.{Network}

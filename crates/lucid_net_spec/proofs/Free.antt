@@ -1,4 +1,4 @@
--- Each event that comes to wait finds its place free.
+-- Each event finds its place in the queue free.
 use Rattle.std.proofs.Common.{◌≡◌, ℕ, zero, suc, ◌+◌, List, [], ◌∷◌, ◌++◌, Option, None, Some, IfSome, Bool, true, false, if◌then◌else◌, not, ◌&&◌, nat_lt, refl, ◌∙◌, subst, add-one}
 use Rattle.std.specs.List.{find, list_all, list_any}
 use Rattle.std.specs.Option.{option_map, option_to_list}
@@ -16,7 +16,7 @@ use Rattle.lucid_net_spec.specs.Older.{IsNew, is_older}
 use Rattle.lucid_net_spec.proofs.Older.{below_itself, below_next, file_apart, older_new, older_next, older_switch, older_tick, place_apart}
 use Rattle.lucid_net_spec.proofs.Passing.{both, first_of, neither, not_first, not_second, or_left, put_passes, second_of, unlike, weaker, without_passes}
 
--- of the file, or made before out number `index` of what enters the switch at the tick
+-- of the file, or made before out number `index` of the event that enters the switch at the tick
 abbrev older : ℕ → ℕ → ℕ → Pending → Bool
 older tick switch index p = is_older tick switch index p.key
 
@@ -36,7 +36,7 @@ next_tick : (tick switch : ℕ) (ps : List Pending) → list_all (older tick swi
 next_tick tick switch ps all =
     weaker (older tick switch 0) (older (tick + 1) 0 0) (λ p was. older_tick p.key.made tick switch p.key.tick p.key.parent p.key.index was) ps all
 
--- what an out makes pending is new
+-- the pending event of an out is new
 made_new : (net : Network) (run : Run) (index : ℕ) (out : Out) → IfSome (pending_out net run index out) (λ p. IsNew run.tick run.switch index p.event p)
 made_new net run index (Gen event delay to) = at (arrival net.scene run.switch (departure net.limits run.tick delay) to)
   where
@@ -46,7 +46,7 @@ made_new net run index (Gen event delay to) = at (arrival net.scene run.switch (
     at (Some a) = record { made = refl; tick = refl; parent = refl; index = refl; event = refl }
 made_new net run index (Say form args) = tt
 
--- what is put in, and how it waits then
+-- the queued event, and the queue after it
 record Joins (test : Pending → Bool) (new old : List Pending) : Type 0 where
   pub free : FindFree new old
   pub all : list_all test (put_all new old) ≡ true
@@ -87,7 +87,7 @@ file_joins index (e ∷ es) ps all =
 pub file_finds_free : (net : Network) → FileFindsFree net
 file_finds_free net = (file_joins 0 net.scene.events [] refl).free
 
--- what the event sends out that enters, of the run at this state
+-- the outs of the entering event, of the run at this state
 entered_join : (net : Network) (tick switch : ℕ) (now : State) (p : Pending) → list_all (older tick switch 0) now.pending ≡ true →
     Joins (older tick (switch + 1) 0) (made net (run_at net tick switch now p.event)) (without_first (is_ready switch tick) now.pending)
 entered_join net tick switch now p all =

@@ -1,4 +1,4 @@
--- What waits stays in order.
+-- The queue stays in order.
 use Rattle.std.proofs.Common.{◌≡◌, ℕ, zero, suc, List, [], ◌∷◌, Option, None, Some, Bool, true, false, if◌then◌else◌, cond, not, ◌&&◌, nat_eq, nat_lt, refl, sym, ◌∙◌, ap, subst, arith}
 use Rattle.std.specs.Cmp.{IsStrictWeakOrder}
 use Rattle.std.specs.List.{AllByRecursion, find}
@@ -15,7 +15,7 @@ use Rattle.lucid_queue.specs.Order.{is_before, key_cmp, key_total, pending_total
 use Rattle.lucid_queue.specs.Waiting.{put_in, without_first, is_ready}
 use Rattle.lucid_queue.specs.declared.pending.Pending.{Pending}
 
--- none of the list stands before p
+-- none of the list precedes p
 abbrev pub NoneBefore : Pending → List Pending → Type 0
 NoneBefore p ps = AllByRecursion (λ q. is_before q p ≡ false) ps
 

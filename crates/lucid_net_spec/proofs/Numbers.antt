@@ -5,7 +5,7 @@ use Rattle.lucid_net_spec.specs.Laws.{TurnsByNumber, nth}
 use Rattle.lucid_net_spec.specs.Log.{State, ticks, turn, turns}
 use Rattle.lucid_net_spec.specs.Ways.{Network}
 
--- at number tick * n + switch stands this turn
+-- number tick * n + switch is that of this turn
 one_turn : (net : Network) (tick switch : ℕ) (now : State) → switch < net.scene.switches →
     (let n = net.scene.switches in turn net ((tick * n + switch) / n) ((tick * n + switch) % n) now ≡ turn net tick switch now)
 one_turn net tick switch now below =

@@ -1,4 +1,4 @@
--- What is new has another place than all that is older, and what was older stays so.
+-- A new event has another place than all older ones, and an older one stays so.
 use Rattle.std.proofs.Common.{◌≡◌, ℕ, ◌+◌, Bool, true, false, not, ◌&&◌, ◌||◌, nat_eq, nat_lt, refl, arith}
 use Rattle.std.specs.Ordering.{is_eq, nat_cmp, bool_cmp, ordering_then}
 use Rattle.std.specs.declared.cmp.Ordering.{Ordering}
@@ -17,7 +17,7 @@ eq_then Less x apart = refl
 eq_then Equal x apart = apart
 eq_then Greater x apart = refl
 
--- what is older has another tick, parent or index
+-- an older one has another tick, parent or index
 keys_apart : (new made : Bool) (at switch place t0 s0 i0 t s i : ℕ) → new ≡ true → t0 ≡ at → s0 ≡ switch → i0 ≡ place →
     (not made || (nat_lt t at || (nat_eq t at && (nat_lt s switch || (nat_eq s switch && nat_lt i place))))) ≡ true →
     is_eq (ordering_then (bool_cmp new made) (ordering_then (nat_cmp t0 t) (ordering_then (nat_cmp s0 s) (nat_cmp i0 i)))) ≡ false
@@ -28,7 +28,7 @@ keys_apart true true at switch place t0 s0 i0 t s i new a b c older = grind (ari
 files_apart : (place i0 i : ℕ) → i0 ≡ place → nat_lt i place ≡ true → is_eq (nat_cmp i0 i) ≡ false
 files_apart place i0 i a below = grind (arith, nat_tests)
 
--- a new one has another place than what is older
+-- a new one has another place than an older one
 pub place_apart : (at switch place : ℕ) (sent : Event) (p q : Pending) → IsNew at switch place sent p → is_older at switch place q.key ≡ true → has_place p q ≡ false
 place_apart at switch place sent p q new older =
     eq_then (nat_cmp p.switch q.switch) _ (eq_then (nat_cmp p.key.ready q.key.ready) _

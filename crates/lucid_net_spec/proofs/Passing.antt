@@ -1,4 +1,4 @@
--- What all of a list pass, or none of it, as one is put in or taken out.
+-- A test that all of a list pass, or none, as one is inserted or removed.
 use Rattle.std.proofs.Common.{◌≡◌, List, [], ◌∷◌, Bool, true, false, if◌then◌else◌, ◌&&◌, ◌||◌, refl, ◌∙◌, ap}
 use Rattle.std.specs.List.{list_all, list_any}
 use Rattle.lucid_queue.specs.Order.{has_place, is_before}

@@ -1,4 +1,4 @@
--- What turns and ticks write, piece after piece.
+-- The text of turns and ticks, piece after piece.
 use Rattle.std.proofs.Common.{◌≡◌, ℕ, zero, suc, ◌+◌, ◌-◌, ◌<◌, ◌≤◌, List, [], ◌++◌, Option, None, Some, refl, sym, ◌∙◌, ap, append_assoc, append-nil, arith}
 use Rattle.std.specs.List.{find}
 use Rattle.lucid_net_spec.specs.Log.{State, enters, ticks, turn, turns}
@@ -7,7 +7,7 @@ use Rattle.lucid_net_spec.specs.Ways.{Network}
 use Rattle.lucid_queue.specs.Waiting.{is_ready}
 use Rattle.lucid_queue.specs.declared.pending.Pending.{Pending}
 
--- what is written does not turn on what was written
+-- the new text does not depend on the earlier one
 pub enters_text : (net : Network) (tick switch : ℕ) (now : State) (o : Option Pending) → (enters net tick switch now o).text ≡ now.text ++ (enters net tick switch (untold now) o).text
 enters_text net tick switch now None = sym (append-nil now.text)
 enters_text net tick switch now (Some p) = refl
@@ -52,7 +52,7 @@ turns_pieces net tick (suc n) now =
     ∙ append_assoc now.text (pieces (turn_text net tick now) 0 n) (turn_text net tick now n)
     ∙ sym (ap (λ (l : List ℕ). now.text ++ l) (pieces-push (turn_text net tick now) 0 n n (omega arith)))
 
--- what a tick writes follows what the ticks before it wrote
+-- the text of a tick follows that of the ticks before it
 pub tick_told : (net : Network) (tick : ℕ) → (ticks net (tick + 1)).text ≡ (ticks net tick).text ++ tick_text net tick
 tick_told net tick = ap (λ (t : ℕ). (ticks net t).text) (next tick) ∙ turns_told net tick net.scene.switches (ticks net tick)
   where

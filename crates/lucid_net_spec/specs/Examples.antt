@@ -1,4 +1,4 @@
--- Networks that are worked by hand. What their events do is written here in place of handlers.
+-- Networks worked by hand. The effects of their events are written here in place of handlers.
 use Rattle.std.specs.Prelude.{◌≡◌, ℕ, ◌+◌, ◌-◌, ◌^◌, List, [], ◌∷◌, ◌++◌, None, codes, map, if◌then◌else◌, nat_eq, slice_index}
 use Rattle.lucid_base.specs.Cells.{cell_at, with_cell}
 use Rattle.lucid_base.specs.declared.array.ArrayDef.{ArrayDef}
@@ -73,14 +73,14 @@ network stages recirc scene = record {
 abbrev scene : ℕ → ℕ → List Link → List Down → List FileEvent → Scene
 scene switches stop links down events = record { switches = switches; stop = stop; links = links; down = down; events = events; steps = [] }
 
--- Nothing happens before tick 0, and what was to come is pending.
+-- Nothing happens before tick 0, and the later events are pending.
 abbrev Nothing : Type 0
 Nothing = log (network 12 1 (scene 1 1 [] [] [])) ≡ codes "entered 0 lost 0 pending 0\n"
 
 abbrev NoTick : Type 0
 NoTick = log (network 12 1 (scene 1 0 [] [] (at 0 0 0 (1 ∷ []) ∷ []))) ≡ codes "entered 0 lost 0 pending 1\n"
 
--- One event enters a switch at a tick. What is ready exactly at the end doesn't enter.
+-- One event enters a switch at a tick. An event that is ready exactly at the end doesn't enter.
 abbrev Again : Type 0
 Again =
     log (network 3 1 (scene 1 8 [] [] (at 0 0 2 (0 ∷ []) ∷ [])))
@@ -105,7 +105,8 @@ Parents =
     ≡ codes "[0] s0 send(2,11)\n  generate note(11) delay 0 to 2\n  generate note(11) delay 0 to 9 lost\n" ++ codes "[0] s1 send(2,10)\n  generate note(10) delay 0 to 2\n"
     ++ codes "  generate note(10) delay 0 to 9 lost\n[3] s2 note(11)\n[4] s2 note(10)\nentered 4 lost 2 pending 0\n"
 
--- Over a link of 5 ticks: sent at 0, it is ready at 0 + 2 + 1 + 5. The event of the file goes first, and what goes to no neighbour is lost.
+-- Over a link of 5 ticks: sent at 0, it is ready at 0 + 2 + 1 + 5. The event of the file goes first, and an event to no neighbour is
+-- lost.
 abbrev TwoSwitches : Type 0
 TwoSwitches =
     log (network 2 1 (scene 2 20 (link 0 1 5 ∷ []) [] (at 0 0 1 (1 ∷ 7 ∷ []) ∷ at 8 1 0 (8 ∷ []) ∷ [])))

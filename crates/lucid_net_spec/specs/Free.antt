@@ -1,4 +1,5 @@
--- Each event that comes to wait finds its place free, so no two that wait have one switch and one key: in every network, whatever its events do.
+-- Each event finds its place in the queue free, so no two in the queue have one switch and one key: in every network, for any effect of
+-- its events.
 use Rattle.std.specs.Prelude.{◌≡◌, ℕ, List, [], ◌∷◌, Some, false}
 use Rattle.std.specs.List.{find, list_any}
 use Rattle.lucid_net_spec.specs.Log.{file_events, made, run_at, ticks, turns}
@@ -7,7 +8,7 @@ use Rattle.lucid_queue.specs.Order.{has_place, is_before}
 use Rattle.lucid_queue.specs.Waiting.{is_ready, put_in, without_first}
 use Rattle.lucid_queue.specs.declared.pending.Pending.{Pending}
 
--- They are put in one after another, and each finds its place free.
+-- They are queued one after another, and each finds its place free.
 abbrev pub FindFree : List Pending → List Pending → Type 0
 FindFree [] pending = Unit {0}
 FindFree (p ∷ ps) pending = (list_any (has_place p) pending ≡ false) × FindFree ps (put_in is_before p pending)
@@ -20,7 +21,7 @@ AreApart (p ∷ ps) = (list_any (has_place p) ps ≡ false) × AreApart ps
 abbrev pub FileFindsFree : Network → Type 0
 FileFindsFree net = FindFree (file_events 0 net.scene.events) []
 
--- What an event makes pending that enters a switch at a tick.
+-- The events that an event makes pending as it enters a switch at a tick.
 abbrev pub MadeFindsFree : Network → Type 0
 MadeFindsFree net = (tick switch : ℕ) (p : Pending) → (let now = turns net tick switch (ticks net tick) in
     find (is_ready switch tick) now.pending ≡ Some p → FindFree (made net (run_at net tick switch now p.event)) (without_first (is_ready switch tick) now.pending))

@@ -1,4 +1,4 @@
--- What waits is always in order, so the event that enters has the least key of those that are ready; and turns by their numbers.
+-- The queue is always in order, so the event that enters has the least key of the ready ones; and turns by their numbers.
 use Rattle.std.specs.Prelude.{◌≡◌, ℕ, zero, suc, ◌+◌, ◌*◌, ◌/◌, ◌%◌, ◌≤◌, List, [], ◌∷◌, Some, true, false}
 use Rattle.std.specs.List.{All, AllByRecursion, find}
 use Rattle.std.specs.Ordering.{is_lt}
@@ -8,7 +8,7 @@ use Rattle.lucid_queue.specs.Order.{is_before, key_cmp}
 use Rattle.lucid_queue.specs.Waiting.{is_ready}
 use Rattle.lucid_queue.specs.declared.pending.Pending.{Pending}
 
--- No event stands before one that stands ahead of it.
+-- No event precedes one with a smaller key.
 abbrev pub IsInOrder : List Pending → Type 0
 IsInOrder [] = Unit {0}
 IsInOrder (p ∷ ps) = AllByRecursion (λ q. is_before q p ≡ false) ps × IsInOrder ps

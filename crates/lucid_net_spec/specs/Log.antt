@@ -20,7 +20,7 @@ use Rattle.lucid_queue.specs.declared.pending.Pending.{Pending}
 abbrev pub whole : CoreParts → Scene → Limits → Network
 whole parts scene limits = record { parts = parts; scene = scene; limits = limits; does = step parts }
 
--- The cells of each switch, what waits in the order of switches and keys, what is written, and how many events entered and were lost.
+-- The cells of each switch, the queue in the order of switches and keys, the text, and the numbers of events that entered and were lost.
 pub record State : Type 0 where
   pub cells : List (List (List ℕ))
   pub pending : List Pending
@@ -53,7 +53,7 @@ start net = record {
   lost = 0;
 }
 
--- What a run makes pending, what it writes, and how many events it loses: of the run alone, whenever that is told.
+-- The events that a run makes pending, its text, and the number of events it loses: of the run alone, at any time of logging.
 abbrev pub made : Network → Run → List Pending
 made net run = pending_outs net run 0 run.outs
 
@@ -63,7 +63,7 @@ block net run = block_text net.parts run.tick run.switch run.event run.outs (los
 abbrev pub losses : Network → Run → ℕ
 losses net run = count_by (is_lost net run) run.outs
 
--- What an event does that enters the switch at the tick, and its run.
+-- The effect of an event that enters the switch at the tick, and its run.
 abbrev pub done_at : Network → ℕ → ℕ → State → Event → Stepped
 done_at net tick switch now event = net.does (slice_index_or now.cells switch []) tick switch event
 

@@ -12,10 +12,10 @@ pieces piece from (suc count) = piece from ++ pieces piece (from + 1) count
 abbrev pub untold : State → State
 untold now = record { cells = now.cells; pending = now.pending; text = []; entered = now.entered; lost = now.lost }
 
--- What the turn of a switch writes, of those of a tick that begin at this state.
+-- The text of the turn of a switch, among those of a tick that begin at this state.
 abbrev pub turn_text : Network → ℕ → State → ℕ → List ℕ
 turn_text net tick now switch = (turn net tick switch (untold (turns net tick switch now))).text
 
--- What a tick writes.
+-- The text of a tick.
 abbrev pub tick_text : Network → ℕ → List ℕ
 tick_text net tick = (turns net tick net.scene.switches (untold (ticks net tick))).text

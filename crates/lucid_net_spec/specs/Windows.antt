@@ -1,4 +1,4 @@
--- A network none of whose links is ever down: what is sent over a link arrives.
+-- A network none of whose links is ever down: every event sent over a link arrives.
 use Rattle.std.specs.Prelude.{◌≡◌, ℕ, [], Option, None, Some, if◌then◌else◌, nat_eq}
 use Rattle.std.specs.List.{find}
 use Rattle.lucid_base.specs.Saturating.{saturating_sum}

@@ -1,4 +1,4 @@
--- The widths of inputs, and what holds the parameters, one after another.
+-- The widths of inputs, and the operands of the parameters, one after another.
 use Rattle.std.proofs.Common.{◌≡◌, ◌<◌, ◌≤◌, ◌+◌, ◌-◌, ℕ, List, [], ◌∷◌, Option, Some, None, Bool, true, false, if◌then◌else◌, nat_lt, arith, drop, get_or, length, take, refl, ap, ap₂, sym, ◌∙◌}
 use Rattle.std.proofs.lemmas.Bool.{ltb-false, ltb-true}
 use Rattle.std.proofs.lemmas.List.{drop_all, drop_more, take_rest}
@@ -18,7 +18,7 @@ first_left xs ys at ended = take_rest xs at ∙ sym (widest_none (drop at xs)) �
 pub second_left : (xs ys : List ℕ) (at : ℕ) → length xs ≤ at → take (length ys - at) (drop at ys) ≡ widest (drop at xs) (drop at ys)
 second_left xs ys at ended = take_rest ys at ∙ ap (λ zs. widest zs (drop at ys)) (sym (drop_all at xs ended))
 
--- What holds one local, and then the rest.
+-- The operand of one local, and then the rest.
 pub held_next : (k k' i : ℕ) (params locals : List ℕ) (w : ℕ) (b : Bool) (r : Option Typed) → k' ≡ k + 1 → r ≡ (if b then Some (record { operand = Field k; width = w }) else None) →
     nat_lt i (length params) ≡ b → i < length locals → w ≡ get_or locals i w → held_from k (drop i params) (drop i locals) ≡ r ∷ held_from k' (drop (i + 1) params) (drop (i + 1) locals)
 held_next k k' i params locals w true r next made is there at =

@@ -1,4 +1,4 @@
--- What the forms that hold lists become, from what their parts are.
+-- The translations of forms with lists, from those of their parts.
 use Rattle.std.proofs.Common.{◌≡◌, ◌+◌, ℕ, List, ◌++◌, Bool, Option, None, Some, map, ap, ap₂, sym, ◌∙◌}
 use Rattle.std.specs.Prelude.{⊤}
 use Rattle.std.specs.Option.{option_map}
@@ -67,7 +67,7 @@ gen_ops event xs d u b guard ops0 ops1 ops2 env env1 env2 args given v at1 o1 g 
     ∙ ap (λ x. added guard ops0 (a.ops ++ t.ops ++ sent (operands a.value) t.value x)) (at2 ∙ ap (λ (x : Env). (times b d u x).env) at1)
     ∙ sym (ap (λ (w : Translation ⊤). added guard ops0 (w env).ops) (gen_is event xs d u b))
 
--- ---- bodies that are put in
+-- ---- inlined bodies
 
 inlined_is : (gs : List (ℕ × Expr)) (ss : List Stmt) → expr_code (e.Inlined gs ss) ≡ expr_step (Expr-F.Inlined (given_codes gs) (map stmt_code ss))
 inlined_is gs ss = ap expr_code (sym (e.rolls-Inlined gs ss)) ∙ fold-roll-Expr Expressed (Translation ⊤) Expressed expr_step stmt_step touch_step (Expr-F.Inlined gs ss)

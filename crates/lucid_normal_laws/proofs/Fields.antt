@@ -1,4 +1,4 @@
--- Fields that are written, what holds the locals, and what ops leave alone.
+-- Written fields, the operands of the locals, and the fields that ops leave alone.
 use Rattle.std.proofs.Common.{◌≡◌, ℕ, zero, suc, ◌+◌, ◌^◌, ◌<◌, ◌≤◌, List, [], ◌∷◌, ◌++◌, Bool, true, false, ◌&&◌, Option, None, Some, length, map, refl, sym, ap, ap₂, ◌∙◌, arith, length-append, slice_index, slice_index_or, slice_set, nat_eq, nat_lt, if◌then◌else◌, is_some, true≢false, mod-eq_of_lt, le-ltb}
 use Rattle.std.specs.List.{AllByRecursion}
 use Rattle.std.proofs.lemmas.Bool.{ne_eqb}
@@ -46,7 +46,7 @@ pub writes_guarded : (lo hi : ℕ) (l : Literal) (ops : List Op) → WritesIn lo
 writes_guarded lo hi l [] w = tt
 writes_guarded lo hi l (o ∷ ops) w = (w.0, writes_guarded lo hi l ops w.1)
 
--- What an operand names is there.
+-- The field of an operand exists.
 abbrev pub Under : ℕ → Operand → Type 0
 Under n (Fixed v) = Unit {0}
 Under n (Field k) = k < n

@@ -1,4 +1,5 @@
--- The worked examples. Each is computed from what its nodes become, one by one: a translation is taken apart only once it is whole.
+-- The worked examples. Each is computed from the translations of its nodes, one by one: a translation is taken apart only once it is
+-- whole.
 use Rattle.std.proofs.Common.{◌≡◌, ℕ, List, [], ◌∷◌, ◌++◌, None, Some, Bool, true, false, ◌&&◌, map, refl, ap, ap₂, ◌∙◌}
 use Rattle.std.specs.Prelude.{⊤}
 use Rattle.lucid_base.specs.declared.array.ArrayName.{ArrayName}
@@ -35,7 +36,7 @@ stmt_is y = fold-roll-Stmt Expressed (Translation ⊤) Expressed t.expr_step t.s
 touch_is : (y : Touch-F Expr Stmt Touch) → touch_code (roll-Touch y) ≡ t.touch_step (map-Touch Expr Stmt Touch Expressed (Translation ⊤) Expressed expr_code stmt_code touch_code y)
 touch_is y = fold-roll-Touch Expressed (Translation ⊤) Expressed t.expr_step t.stmt_step t.touch_step y
 
--- ---- trees with what they become
+-- ---- trees with their translations
 
 record E : Type 0 where
   tree : Expr
@@ -190,7 +191,7 @@ set_bit = touch (Global 0) bit_plus true (number 0) yes_ yes_
 
 -- ---- handlers
 
--- Handlers with what their statements become.
+-- Handlers with the translations of their statements.
 abbrev codes_with : CoreParts → List ℕ → List (HandlerDef × List (Translation ⊤)) → Codes
 codes_with parts widths [] = record { ops = []; widths = widths; fine = true }
 codes_with parts widths (p ∷ ps) =

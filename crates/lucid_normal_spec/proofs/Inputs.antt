@@ -1,4 +1,4 @@
--- An event that fits happens, and is an input of code that stands for the program, where the program has no more than 2 ^ 32 events.
+-- An event that fits is an input of code that represents the program, if the program has no more than 2 ^ 32 events.
 use Rattle.std.proofs.Common.{◌≡◌, ℕ, ◌<◌, ◌≤◌, ◌^◌, List, length, Option, None, Some, false, true, IsTrue, slice_get, refl, arith}
 use Rattle.std.proofs.lemmas.Option.{slice_get_within}
 use Rattle.std.specs.Option.{option_map_or}

@@ -50,7 +50,7 @@ abbrev pub add_to : ℕ → Expr → Stmt
 add_to a x = drop_value (roll-Expr (Expr-F.Array (roll-Touch (
     record { array = Global a; index = number 0; get = plus; get_arg = one; set = plus; set_arg = x; answers = false }))))
 
--- A call of an array of one bit, which is a condition as it stands.
+-- A call of an array of one bit, which is a condition without a move.
 abbrev pub bit_plus : MemAlu
 bit_plus = record plus { width = 1 }
 
@@ -60,7 +60,7 @@ set_bit = update_with (Global 0) (number 0) bit_plus yes yes
 abbrev pub print : Expr → Stmt
 print x = say 0 (x ∷ [])
 
--- A body that is put in, whose parameter is local 3 and is given i.
+-- An inlined body, whose parameter is local 3 with the argument i.
 abbrev pub put_in : List Stmt → Expr
 put_in ss = inlined ((3, local 0) ∷ []) ss
 
@@ -79,7 +79,7 @@ over_bits ss = record (flat ss) { arrays = record (array 4) { width = 1 } ∷ []
 
 -- ---- words for operations
 
--- What is done for event 0 at a level, where the conditions' fields hold these too.
+-- An operation for event 0 at a level, under the conditions of these fields too.
 abbrev pub under : List Literal → ℕ → Act → Op
 under guard level a = op (is 0 0 ∷ guard) level a
 
@@ -146,14 +146,14 @@ pub record FormExamples : Type 0 where
       (plain (negate (field 3) 5) ∷ plain (negate (field 4) 6) ∷ plain (act.Gen 0 0 [] (field 5) (Some (field 6))) ∷ [])
   pub target_first : Becomes (flat (generate_with 0 [] (Some (minus (local 0))) (Some (minus (local 1))) false ∷ [])) (32 ∷ 32 ∷ [])
       (plain (negate (field 4) 5) ∷ plain (negate (field 3) 6) ∷ plain (act.Gen 0 0 [] (field 6) (Some (field 5))) ∷ [])
-  -- a group of two switches, as it stands in a flat core
+  -- a group of two switches, as it is in a flat core
   pub group : Becomes (flat (assign 2 (local 0) ∷ generate_with 0 (local 2 ∷ []) None (Some (number 4)) false
       ∷ generate_with 0 (local 2 ∷ []) None (Some (number 2)) false ∷ []))
       (32 ∷ [])
       (plain (move (field 3) 5) ∷ plain (act.Gen 0 0 (field 5 ∷ []) (fixed 0) (Some (fixed 4)))
       ∷ plain (act.Gen 1 0 (field 5 ∷ []) (fixed 0) (Some (fixed 2))) ∷ [])
 
--- Ifs and calls that are put in.
+-- Ifs and inlined calls.
 pub record BranchExamples : Type 0 where
   -- conditions
   pub of_comparison : Becomes (flat (choose is_small (print (local 0) ∷ []) (print one ∷ []) ∷ [])) (1 ∷ [])
@@ -187,7 +187,7 @@ pub record BranchExamples : Type 0 where
       (plain (compare (field 3) 5) ∷ where_1 5 (compare (field 4) 6) ∷ under (is 5 1 ∷ is 6 1 ∷ []) 0 (move (fixed 1) 7)
       ∷ under (is 5 1 ∷ is 6 1 ∷ []) 0 (move (field 7) 8) ∷ under (is 5 1 ∷ is 6 0 ∷ []) 0 (move (field 3) 8)
       ∷ where_1 5 (move (field 8) 9) ∷ where_0 5 (move (field 3) 9) ∷ [])
-  -- joins stand at the if's end, here at level 1 by a call in either branch, and so does what follows
+  -- joins are at the if's end, here at level 1 by a call in either branch, and so are the later operations
   pub level_of_joins : Becomes (flat (choose is_small (assign 0 (updated 0) ∷ []) [] ∷ add_to 1 (local 0) ∷ []))
       (1 ∷ 32 ∷ 32 ∷ 32 ∷ [])
       (plain (compare (field 3) 5) ∷ where_1 5 (update_act 0 6) ∷ under (is 5 1 ∷ []) 1 (move (field 6) 7)

@@ -11,7 +11,7 @@ use Rattle.lucid_normal_spec.specs.declared.env.Env.{Env}
 use Rattle.lucid_normal_spec.specs.declared.env.Typed.{Typed}
 use Rattle.lucid_normal_spec.specs.Translate.{guarded, is, body_code}
 
--- At each place the greater width, and what is left of the longer list.
+-- The greater width at each position, and the rest of the longer list.
 abbrev pub widest : List ℕ → List ℕ → List ℕ
 widest [] ys = ys
 widest (x ∷ xs) [] = x ∷ xs
@@ -40,7 +40,7 @@ start parts widths h = record {
   place = 0;
 }
 
--- What handlers become, one behind the other: their operations, and the widths of all fields then.
+-- The code of handlers, one after the other: their operations, and the widths of all fields then.
 pub record Codes : Type 0 where
   pub ops : List Op
   pub widths : List ℕ

@@ -17,8 +17,8 @@ use Rattle.lucid_core.specs.Computations.{array_of}
 use Rattle.lucid_normal_spec.specs.declared.env.Env.{Env}
 use Rattle.lucid_normal_spec.specs.declared.env.Typed.{Typed}
 
--- What a part becomes: what it gives, its operations, and where the translation stands behind it. It is fine where each value that it
--- needs is there, of the width that is asked for; in a flat core every part is.
+-- The translation of a part: its value, its operations, and the environment after it. It is fine if each value that it needs exists, of
+-- the required width; in a flat core every part is.
 pub record Translated (A : Type 0) : Type 0 where
   pub value : A
   pub ops : List Op
@@ -28,7 +28,7 @@ pub record Translated (A : Type 0) : Type 0 where
 abbrev pub Translation : Type 0 → Type 0
 Translation A = Env → Translated A
 
--- An expression, which may give no value. As a condition it needs a move where it is a number, a local, or a call that is put in.
+-- An expression, which may have no value. As a condition it needs a move if it is a number, a local, or an inlined call.
 pub record Expressed : Type 0 where
   pub made : Translation (Option Typed)
   pub needs_move : Bool
@@ -124,7 +124,7 @@ touch_made array get set false p env = record {
 abbrev pub holding : List (Option Typed) → List (ℕ × Typed) → List (Option Typed)
 holding held gs = fold (λ hs g. slice_set hs g.0 (Some g.1)) held gs
 
--- A body that is put in, with its parameters held by their arguments. Behind it the caller's locals and answer are held as before.
+-- An inlined body, with its parameters bound to their arguments. After it the caller's locals and answer are as before.
 abbrev pub call_made : Translation ⊤ → List (ℕ × Typed) → Translation (Option Typed)
 call_made body gs env = let a = body (record env { held = holding env.held gs; answer = None }) in
     record { value = a.env.answer; ops = a.ops; env = record a.env { held = env.held; answer = env.answer }; fine = a.fine }
@@ -190,7 +190,7 @@ same_operand (Field a) (Fixed b) = false
 abbrev pub same : Typed → Typed → Bool
 same a b = same_operand a.operand b.operand && nat_eq a.width b.width
 
--- What holds some locals behind an if, the moves that make it so, and the widths of the fields then.
+-- The operands of some locals after an if, the moves that make them, and the widths of the fields then.
 pub record Joined : Type 0 where
   pub held : List (Option Typed)
   pub ops : List Op
@@ -215,7 +215,7 @@ join_one level c widths a b rest = let r = rest (widths ++ a.width ∷ []) in re
   fine = nat_eq a.width b.width && r.fine;
 }
 
--- A local, from what holds it before the if and at the ends of the two branches. One that no branch assigns is held as it was.
+-- A local, from its operands before the if and at the ends of the two branches. One that no branch assigns keeps its operand.
 abbrev pub join_at : ℕ → ℕ → List ℕ → Option Typed → Option Typed → Option Typed → (List ℕ → Joined) → Joined
 join_at level c widths None x y rest = keep_one None (rest widths)
 join_at level c widths (Some o) None y rest = keep_one None (rest widths)
@@ -236,7 +236,7 @@ join_answer level c None y widths = keep_one None (nothing_joined widths)
 join_answer level c (Some a) None widths = keep_one None (nothing_joined widths)
 join_answer level c (Some a) (Some b) widths = join_one level c widths a b nothing_joined
 
--- Both branches begin where the condition ends, and each is guarded by what the condition's field holds there; then come the joins.
+-- Both branches begin at the end of the condition, and each is guarded by the value of the condition's field there; then come the joins.
 abbrev pub branch : Translation ⊤ → Translation ⊤ → ℕ → Translation ⊤
 branch t e c env =
     let a = t env in
@@ -259,7 +259,7 @@ branch t e c env =
 
 -- ---- bodies
 
--- What no flat core has.
+-- A form that no flat core has.
 abbrev pub absent : {A : Type 0} → A → Translation A
 absent x env = record { value = x; ops = []; env = env; fine = false }
 

@@ -1,4 +1,4 @@
--- What was noted leads back.
+-- The notes lead back.
 use Rattle.std.proofs.Common.{◌≡◌, ℕ, List, [], ◌∷◌, ◌++◌, Option, None, slice_index_or, slice_set, refl, ap, ◌∙◌}
 use Rattle.std.proofs.lemmas.List.{set-get_or, set-set}
 use Rattle.lucid_normal_steps.specs.declared.notes.Note.{Note}
@@ -10,7 +10,7 @@ pub before_last : (ns : List Note) (n : Note) (held : List (Option Typed)) → b
 before_last [] n held = refl
 before_last (m ∷ ns) n held = ap (put_one m) (before_last ns n held)
 
--- What held a local is noted before another operand does.
+-- The old operand of a local is noted before it gets another.
 pub before_held : (ns : List Note) (held : List (Option Typed)) (i : ℕ) (x : Option Typed) →
     before (ns ++ One i (slice_index_or held i None) ∷ []) (slice_set held i x) ≡ before ns held
 before_held ns held i x =

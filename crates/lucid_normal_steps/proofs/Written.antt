@@ -1,4 +1,4 @@
--- To join what the branches of an if wrote is to join all locals: one that neither wrote meets itself.
+-- Joining the locals that the branches of an if wrote joins all locals: one that neither wrote meets itself.
 use Rattle.std.proofs.Common.{◌≡◌, ◌<◌, ◌≤◌, ◌+◌, ℕ, zero, suc, List, [], ◌∷◌, ◌++◌, Contains, Option, None, Some, Bool, true, false, ◌&&◌, ◌⊎◌, ◌≢◌, inl, inr, eqb, if◌then◌else◌, arith, drop, take, get_or, length, map, slice_index_or, slice_set, refl, ap, ap₂, sym, subst, ◌∙◌}
 use Rattle.std.proofs.lemmas.Bool.{eq-eqb}
 use Rattle.std.proofs.Math.Nat.{eq-or-lt_of_le}
@@ -26,7 +26,7 @@ use Rattle.lucid_normal_spec.specs.Translate.{Joined, join_at, join_one, joins, 
 abbrev Locals : Type 0
 Locals = List (Option Typed)
 
--- What holds a local.
+-- The operand of a local.
 abbrev at : Locals → ℕ → Option Typed
 at hs i = slice_index_or hs i None
 
@@ -109,7 +109,7 @@ not_below p j [] below above (k, within, there) = absurd (omega (arith, within))
 not_below p j (i ∷ is) below (least, rest) (zero, within, there) = absurd (omega (arith, below, least, there))
 not_below p j (i ∷ is) below (least, rest) (suc k, within, there) = not_below (suc i) j is (omega (arith, below, least)) rest (k, omega (arith, within), there)
 
--- From this place on, what is not among these is held at both ends as before.
+-- From this place on, a local that is not among these has its old operand at both ends.
 abbrev Unwritten : ℕ → List ℕ → Locals → Locals → Locals → Type 0
 Unwritten p is os xs ys = (j : ℕ) → p ≤ j → (Contains is j → ⊥) → (at xs j ≡ at os j) × (at ys j ≡ at os j)
 
@@ -120,7 +120,7 @@ lt_from {p} {i} least apart = by (eq-or-lt_of_le least)
     by (inl e) = absurd (apart e)
     by (inr l) = l
 
--- What is joined, from a place on.
+-- The joined locals, from a place on.
 record Same (front : Locals) (j r : Joined) : Type 0 where
   held : front ++ j.held ≡ r.held
   ops : j.ops ≡ r.ops
@@ -239,7 +239,7 @@ joined_from (suc n) level c p (i ∷ is) os xs ys cur ws lo lx ly lc agree (leas
     ))
     (eqb_tells p i)
 
--- ---- what notes tell
+-- ---- the meaning of notes
 
 put_all : (all hs : Locals) → 0 < length hs → put_one (All all) hs ≡ hs
 put_all all [] some = absurd (omega (arith, some))
@@ -283,7 +283,7 @@ joins_written level c (h ∷ hs) first second changes ws are =
     let r = ap (λ gs. changes_joined level c gs all ws) are.each in
     (same.held ∙ sym (ap (λ (z : Joined). z.held) r), (same.ops ∙ sym (ap (λ (z : Joined). z.ops) r), same.widths ∙ sym (ap (λ (z : Joined). z.widths) r)))
 
--- ---- what the code makes
+-- ---- the results of the code
 
 pub no_first : (level c : ℕ) (os ys : Locals) (ws : List ℕ) → joins level c os [] ys ws ≡ nothing_joined ws
 no_first level c [] ys ws = refl
@@ -294,7 +294,7 @@ no_second level c [] xs ws = refl
 no_second level c (o ∷ os) [] ws = refl
 no_second level c (o ∷ os) (x ∷ xs) ws = refl
 
--- What holds a local at the end of the second branch, beside the first.
+-- The operand of a local at the end of the second branch, beside the first.
 abbrev with_second : Locals → ℕ × Option Typed → Change
 with_second ys f = record { local = f.0; first = f.1; second = at ys f.0 }
 

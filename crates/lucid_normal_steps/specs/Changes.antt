@@ -9,7 +9,7 @@ use Rattle.lucid_normal_spec.specs.declared.env.Env.{Env}
 use Rattle.lucid_normal_spec.specs.declared.env.Typed.{Typed}
 use Rattle.lucid_normal_spec.specs.Translate.{Joined}
 
--- One local, from what holds all of them at the ends of the branches.
+-- One local, from the operands of all locals at the ends of the branches.
 abbrev pub change_of : List (Option Typed) → List (Option Typed) → ℕ → Change
 change_of xs ys i = record { local = i; first = slice_index_or xs i None; second = slice_index_or ys i None }
 
@@ -20,7 +20,7 @@ change_met level c g held widths = met level c widths (slice_index_or held g.loc
 abbrev pub change_held : ℕ → ℕ → Change → List (Option Typed) → List ℕ → List (Option Typed)
 change_held level c g held widths = slice_set held g.local (slice_index_or (change_met level c g held widths).held 0 None)
 
--- One after another, from what holds the locals before the if.
+-- One after another, from the operands of the locals before the if.
 abbrev pub changes_joined : ℕ → ℕ → List Change → List (Option Typed) → List ℕ → Joined
 changes_joined level c [] held widths = record { held = held; ops = []; widths = widths; fine = true }
 changes_joined level c (g ∷ gs) held widths =

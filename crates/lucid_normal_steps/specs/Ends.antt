@@ -21,7 +21,7 @@ pub record Ends : Type 0 where
 abbrev pub ends_of : Env → Ends
 ends_of env = record { held = env.held; answer = env.answer; slot = env.slot; place = env.place }
 
--- From what held the locals where it began.
+-- From the operands of the locals at its start.
 abbrev pub ends_at : List (Option Typed) → Ended → Ends
 ends_at held e = record { held = end_of e.notes held; answer = e.answer; slot = e.slot; place = e.place }
 
@@ -29,7 +29,7 @@ ends_at held e = record { held = end_of e.notes held; answer = e.answer; slot = 
 abbrev pub level_of : Ends → Env → ℕ
 level_of first env = max first.place env.place
 
--- The locals, from what held them before the if.
+-- The locals, from their operands before the if.
 abbrev pub locals_joined : ℕ → List (Option Typed) → Ends → Env → Joined
 locals_joined c held first env = joins (level_of first env) c held first.held env.held env.widths
 

@@ -1,10 +1,10 @@
--- What held the locals before something was written.
+-- The operands of the locals before something was written.
 use Rattle.std.specs.Prelude.{ℕ, List, [], ◌∷◌, Option, None, Some, slice_set}
 use Rattle.lucid_normal_steps.specs.declared.notes.Note.{Note}
 use Rattle.lucid_normal_steps.specs.declared.notes.Note.TheVariants.{One, All}
 use Rattle.lucid_normal_spec.specs.declared.env.Typed.{Typed}
 
--- What the last note tells is put back first. All locals are put back where nothing holds any: behind a return nothing does.
+-- The last note is undone first. All locals are restored if none has an operand: after a return none has.
 abbrev pub put_one : Note → List (Option Typed) → List (Option Typed)
 put_one (One i was) held = slice_set held i was
 put_one (All all) [] = all
@@ -20,7 +20,7 @@ noted [] = []
 noted (One i was ∷ ns) = i ∷ noted ns
 noted (All all ∷ ns) = noted ns
 
--- The end of a branch, from where it began: held by nothing, or by what is noted.
+-- The end of a branch, from its start: no operands, or those of the notes.
 abbrev pub end_of : Option (List Note) → List (Option Typed) → List (Option Typed)
 end_of None held = []
 end_of (Some notes) held = before notes held

@@ -1,4 +1,4 @@
--- Programs are read declaration by declaration: what is read so far, where it stops, and that a program has one tree.
+-- Programs are read declaration by declaration: the declarations so far, where reading stops, and that a program has one tree.
 use Rattle.std.proofs.Common.{◌≡◌, ◌≢◌, ℕ, zero, suc, ◌+◌, ◌-◌, ◌<◌, ◌≤◌, true, List, [], ◌∷◌, ◌++◌, length, drop, Option, Some, None, Result, Ok, Err, IfOk, IfErr, MatchResult, refl, sym, ap, subst, ◌∙◌, arith, take, get_or, count_by, slice_range, if◌then◌else◌, ◌==◌}
 use Rattle.std.proofs.Math.Seq.{drop-cons}
 use Rattle.std.proofs.lemmas.List.{drop-take, take-take}
@@ -66,7 +66,7 @@ no_fault text ts t n ht hn =
     let within = hn.within in
     omega arith
 
--- ---- tokens stand in order
+-- ---- tokens are in order
 
 rising_token : (n start len : ℕ) (k : Option Kind) (ts : List Token) → n ≤ start → ((m : ℕ) → m ≤ start + len → Rising m ts) → Rising n (with_token start len k ts)
 rising_token n start len None ts low later = later n (omega arith)
@@ -94,7 +94,7 @@ rising_later n zero (suc at) ts low rise = absurd (omega arith)
 rising_later n (suc k) (suc at) [] low rise = tt
 rising_later n (suc k) (suc at) (t ∷ ts) low rise = rising_later n k at ts (omega arith) rise
 
--- what is known of the token at this place
+-- facts of the token at this place
 pub first_rises : (text : List ℕ) (ts : List Token) (at n : ℕ) (other : Token) → at < length ts → Rising n (drop at ts) → (line_of text (drop at ts) ≡ line_at text (get_or ts at other).span.start) × (n ≤ (get_or ts at other).span.start) × ((k : ℕ) → at < k → Rising (get_or ts at other).span.start (drop k ts))
 first_rises text ts at n other within rise =
     let cut : drop at ts ≡ get_or ts at other ∷ drop (suc at) ts = drop-cons ts at other within in
@@ -110,7 +110,7 @@ breaks_between text from to low =
     let halves = sum_by-take-drop (λ b. if b == 10 then 1 else 0) (take to text) from in
     rw (front, back) at (sym halves)
 
--- ---- what an answer says
+-- ---- the meaning of an answer
 
 pub whole_tree : (text : List ℕ) (ts : List Token) (ls : Text) (t : Tree) → ls ≡ lexemes_of text ts → Progress text ts ls t.decls [] → IsTreeOf text ts t
 whole_tree text ts ls t said p = record { written = p.written; spelled = sym said ∙ p.spelled; lines = p.lines }
@@ -130,7 +130,7 @@ pub faults : (text : List ℕ) (ts : List Token) (ls : Text) (r : Result Tree Pa
 faults text ts ls (Ok u) said read why n fault = no_fault text ts u n (whole_tree text ts ls u said read) fault
 faults text ts ls (Err e) said read why n fault = why_refuses ls (lexemes_of text ts) n e said fault why
 
--- ---- what follows from the law of the grammar
+-- ---- consequences of the law of the grammar
 
 module _ (law : ReadAsSpelled) where
   -- one more declaration is read
@@ -155,7 +155,7 @@ module _ (law : ReadAsSpelled) where
   all_long [] r = omega arith
   all_long (x ∷ xs) r = let rest = all_long xs r in let more = law.long x.kind (declarations xs r) in omega arith
 
-  -- two declarations that begin one text are the same, and so is what is left
+  -- two declarations that begin one text are the same, and so are the rests
   one_first : (x y : DeclKind) (r q : Text) → declaration_built x ≡ true → declaration_built y ≡ true → declaration x r ≡ declaration y q → (x ≡ y) × (r ≡ q)
   one_first x y r q bx bz same =
       let pair : ◌≡◌ {A = DeclKind × Text} (x, r) (y, q) = same_some (sym (law.complete x r bx) ∙ ap read_d.declaration same ∙ law.complete y q bz) in

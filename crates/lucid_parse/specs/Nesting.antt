@@ -22,7 +22,7 @@ run_after n (kinds.Sign signs.OpenBrace) = 0
 run_after n (kinds.Sign signs.CloseBrace) = 0
 run_after n _ = n + 1
 
--- what is kept of the count of `else` by a token that is none: nothing after a `}` that leaves no bracket open
+-- the count of `else` after a token that is none: 0 after a `}` that leaves no bracket open
 abbrev pub kept : Counts → ℕ
 kept c = if c.ended then 0 else c.elses
 

@@ -57,7 +57,7 @@ pub record IsFault (ls : Text) (n : ℕ) : Type 0 where
 
 -- ---- while a program is read
 
--- what is read so far, before the rest
+-- the declarations read so far, before the rest
 pub record Progress (text : List ℕ) (ts : List Token) (ls : Text) (all : List Decl) (rest : Text) : Type 0 where
   pub written : all_written all ≡ true
   pub spelled : ls ≡ declarations all rest

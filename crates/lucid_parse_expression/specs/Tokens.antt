@@ -1,4 +1,4 @@
--- What the tokens say that are still to read.
+-- The contents of the tokens still to read.
 use Rattle.std.specs.Prelude.{List, [], ◌∷◌, Option, Some, None}
 use Rattle.lucid_parse_expression.specs.declared.tokens.Tokens.{Tokens}
 use Rattle.lucid_parse_expression.specs.declared.lexeme.Lexeme as code

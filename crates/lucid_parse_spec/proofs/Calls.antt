@@ -1,4 +1,4 @@
--- What a call on an array is given, as a list of expressions: which call it makes, both ways.
+-- The arguments of a call on an array, as a list of expressions: the call that they make, both ways.
 use Rattle.std.proofs.Common.{◌≡◌, ℕ, Bool, true, false, ◌&&◌, nat_le, List, [], ◌∷◌, map, codes, Some, refl, sym, ap, subst, ◌∙◌}
 use Rattle.lucid_lex.specs.declared.sign.Sign.TheVariants as signs
 use Rattle.lucid_lex.specs.declared.word.Word.TheVariants as words
@@ -27,14 +27,14 @@ method_text methods.Update = codes "update"
 abbrev pub call_text : Method → List E → Text → Text
 call_text m xs r = spell.array_call (method_text m) (spell.with_commas (map spelled xs)) r
 
--- the method and what is given are the call
+-- the method and the arguments are the call
 pub record IsCall (m : Method) (xs : List E) (x : A) : Type 0 where
   pub written : (r : Text) → array_spelled x r ≡ call_text m xs r
   pub level : all_built xs ≡ true → array_level x ≡ 9
   pub built : nat_le 1 (array_level x) ≡ true → all_built xs ≡ true
   pub reads : read_e.array_of m xs ≡ Some x
 
--- what a level says of the operands
+-- the meaning of a level for the operands
 pub level_needs : (b : Bool) (l : ℕ) → nat_le 1 (level_if b l) ≡ true → b ≡ true
 level_needs true l h = refl
 level_needs false l h = absurd cc
@@ -42,7 +42,7 @@ level_needs false l h = absurd cc
 name_built : (n : List ℕ) → is_built (e.Name n) ≡ true
 name_built n = ap (nat_le 1) (level_of-Name n)
 
--- tests of what is given, without those of the names
+-- tests of the arguments, without those of the names
 
 only_index : (n i : Bool) → (n && (i && true)) ≡ true → i ≡ true
 only_index true true h = refl
@@ -174,7 +174,7 @@ last_memops_ok : (xs : List E) → Yields (read_e.last_memops xs) (λ x. xs ≡ 
 unfolding read_e.last_memops
 last_memops_ok xs = bind _ _ _ _ (memop_part_ok xs) (λ x hx. bind _ _ _ _ (last_memop_ok x.1) (λ y hy. yields_some _ (x.0, y) (hx ∙ ap (λ l. e.Name x.0.0 ∷ x.0.1 ∷ l) hy)))
 
--- the call that is made of what is given, all of it
+-- the call that is made of the arguments, all of them
 made : (m : Method) (xs ys : List E) (x : A) → xs ≡ ys → IsCall m ys x → IsCall m xs x
 made m xs ys x is call = subst (λ l. IsCall m l x) (sym is) call
 

@@ -1,4 +1,4 @@
--- What is read as a declaration is what is spelled as one, both ways.
+-- Declarations are read exactly as they are spelled, both ways.
 use Rattle.std.proofs.Common.{◌≡◌, ℕ, ◌<◌, ◌≤◌, Bool, true, false, List, [], ◌∷◌, length, map, codes, Option, Some, None, refl, sym, ap, ◌∙◌, arith}
 use Rattle.std.proofs.lemmas.List.Folds.{list_all-map}
 use Rattle.lucid_lex.specs.declared.sign.Sign.TheVariants as signs
@@ -24,7 +24,7 @@ use Rattle.lucid_parse_spec.proofs.StatementGrowth.{ty_grows}
 use Rattle.lucid_parse_spec.proofs.StatementSound.{body_reads}
 use Rattle.lucid_parse_spec.proofs.StatementComplete.{body_again, body_long}
 
--- ---- what is read is spelled
+-- ---- a declaration that is read is spelled so
 
 body_ok : (ts : Text) → Yields (read_s.body ts) (λ x. (ts ≡ spell.body x.0 x.1) × (spell.body_built x.0 ≡ true))
 body_ok ts = record { each = λ x is. let h = (body_reads ts).each x is in (h.0, sym (list_all-map (λ b. b) statement_built x.0) ∙ h.1) }
@@ -127,7 +127,7 @@ declaration_ok (lexemes.Word words.Fun ∷ ts) = function_ok ts
 declaration_ok (lexemes.Word words.Group ∷ ts) = group_ok ts
 declaration_ok (l ∷ ts) = yields_none _
 
--- ---- what is spelled is read
+-- ---- a spelled declaration is read
 
 parameter_ty : (t : Ty) (r : Text) → read_d.parameter (spell.ty t r) ≡ (read.typed_name (spell.ty t r) >>= (λ x. Some (p.Value x.0.0 x.0.1, x.1)))
 unfolding read_d.parameter

@@ -1,4 +1,4 @@
--- What is spelled as an expression is read as that expression.
+-- A spelled expression is read as that expression.
 use Rattle.std.proofs.Common.{◌≡◌, ℕ, zero, suc, ◌+◌, ◌<◌, ◌≤◌, Bool, true, false, ◌&&◌, nat_le, if◌then◌else◌, List, [], ◌∷◌, length, map, Option, Some, None, refl, sym, ap, ◌∙◌, arith}
 use Rattle.std.proofs.lemmas.Bool.{leb-true, le-leb}
 use Rattle.std.proofs.lemmas.List.Folds.{list_all-map}
@@ -174,7 +174,7 @@ stops_list : (xs : List E) (r : Text) → stops 1 r ≡ true → stops 1 (spell.
 stops_list [] r h = h
 stops_list (x ∷ xs) r h = stops_comma (spelled x (spell.each_after_comma (map spelled xs) r))
 
--- what is read within begins with no token that ends a list, and no type
+-- a nested expression begins with no token that ends a list, and no type
 pub record Begins (inner : ℕ → Parser E) : Type 0 where
   pub close : (q : Text) → inner 1 (spell.sign signs.CloseParen q) ≡ None
   pub semicolon : (q : Text) → inner 1 (spell.sign signs.Semicolon q) ≡ None
@@ -423,7 +423,7 @@ module _ (d : ℕ) (inner : ℕ → Parser E) (again : Again d inner) (begins : 
       let h = induction Spine ArrayAgain cases x least r at_least built (stops_more least (level_of x + 1) r (omega arith) stop) few in
       h.stands ∙ climb_stops inner least h.turns (level_of x) x r stop
 
-  -- a call of an array, with what is behind `Array`
+  -- a call of an array, with the tokens after `Array`
   pub call_behind : (x : A) (r ts : Text) → array_spelled x r ≡ spell.word words.ArrayCalls ts → nat_le 1 (array_level x) ≡ true → length ts ≤ d → read_e.array_call inner ts ≡ Some (x, r)
   call_behind x r ts is built few =
       let all : length (array_spelled x r) ≤ suc d = rw is (omega arith) in

@@ -1,4 +1,4 @@
--- What is read as an expression is spelled so, and the grammar builds it.
+-- An expression that is read is spelled so, and the grammar builds it.
 use Rattle.std.proofs.Common.{◌≡◌, ℕ, zero, suc, ◌+◌, Bool, true, false, ◌&&◌, nat_le, if◌then◌else◌, List, [], ◌∷◌, length, map, codes, Option, Some, None, option_map, refl, sym, ap, ◌∙◌}
 use Rattle.std.specs.Str.{bytes_eq}
 use Rattle.std.proofs.lemmas.List.Folds.{list_all-map}
@@ -29,7 +29,7 @@ use Rattle.lucid_parse_spec.proofs.Repeats.{Separated, separated_ok}
 
 -- ---- signs between operands
 
--- what may follow an operand, as it is written
+-- the operator after an operand, as it is written
 abbrev pub next_text : Next → Text → Text
 next_text (nexts.Infix op) r = spell.sign (infix_sign op) r
 next_text (nexts.Shift up n) r = spell.sign (if up then signs.ShiftLeft else signs.ShiftRight) (spell.number n r)
@@ -74,7 +74,7 @@ next_of_ok (lexemes.Sign signs.ShiftRight ∷ ts) = shift_of_ok false ts
 next_of_ok (lexemes.Sign s ∷ ts) = infix_next s ts
 next_of_ok (l ∷ ts) = yields_none _
 
--- what is known of the next sign
+-- facts of the next sign
 abbrev Within : ℕ → ℕ → Text → Next × Text → Type 0
 Within least tight ts p = (ts ≡ next_text p.0 p.1) × (nat_le least (read_e.next_level p.0) ≡ true) × (nat_le (read_e.next_left p.0) tight ≡ true)
 
@@ -107,7 +107,7 @@ array_method_ok ts = bind _ _ _ _ (after_ok signs.Dot ts) (λ r hr. bind _ _ _ _
 
 -- ---- expressions
 
--- what a reading of an expression of at least this level gives
+-- the result of reading an expression of at least this level
 abbrev pub Gives : ℕ → Text → E × Text → Type 0
 Gives least ts x = (ts ≡ spelled x.0 x.1) × (nat_le least (level_of x.0) ≡ true) × (nat_le 1 (level_of x.0) ≡ true)
 
@@ -185,7 +185,7 @@ module _ (inner : ℕ → Parser E) (ok : (least : ℕ) (ts : Text) → nat_le l
   array_call_ok ts = bind _ _ _ _ (array_method_ok ts) (λ m hm. bind _ _ _ _ (arguments_ok m.1) (λ xs hx. bind _ _ _ _ (array_of_ok m.0 xs.0) (λ x h.
       yields_some _ (x, xs.1) (ap (spell.word words.ArrayCalls) (hm ∙ ap (λ z. spell.sign signs.Dot (spell.name (method_text m.0) (spell.sign signs.OpenParen z))) hx.0) ∙ sym (h.written xs.1), h.level hx.1))))
 
-  -- ---- operands and what follows them
+  -- ---- operands and the tokens after them
 
   array_operand_ok : (ts : Text) → Yields (read_e.array_call inner ts >>= (λ x. Some (e.Array x.0, x.1))) (Operand (spell.word words.ArrayCalls) ts)
   array_operand_ok ts = bind _ _ _ _ (array_call_ok ts) (λ x hx. yields_some _ (e.Array x.0, x.1) (hx.0 ∙ sym (spelled-Array x.0 x.1), level_of-Array x.0 ∙ hx.1))

@@ -1,4 +1,4 @@
--- The level of what comes between two operands lies from 1 to 8.
+-- The level of an infix operator lies from 1 to 8.
 use Rattle.std.proofs.Common.{◌≡◌, ◌+◌, true, nat_le, refl}
 use Rattle.lucid_parse_tree.specs.declared.tree.Infix.{Infix}
 use Rattle.lucid_parse_tree.specs.declared.tree.Infix.TheVariants as infixes

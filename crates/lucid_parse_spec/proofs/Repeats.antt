@@ -8,7 +8,7 @@ use Rattle.lucid_parse_spec.specs.Spelling as spell
 use Rattle.lucid_parse_spec.specs.Spelling.{Spelled}
 use Rattle.lucid_parse_spec.proofs.Steps.{Yields, yields_some, bind, after_ok, of_both}
 
--- what is read in the last turns: these items, behind those so far
+-- the result of the last turns: these items, after those so far
 pub record Listed {A : Type 0} (part : A → Spelled) (good : A → Bool) (all : List A) (ts : Text) (y : List A × Text) : Type 0 where
   pub items : List A
   pub whole : y.0 ≡ all ++ items
@@ -73,7 +73,7 @@ pub commas : {A : Type 0} (part : A → Spelled) (xs : List A) (r : Text) → sp
 commas part [] r = refl
 commas part (x ∷ xs) r = ap (λ q. spell.sign signs.Comma (part x q)) (commas part xs r)
 
--- what an item's reading gives
+-- the result of reading an item
 abbrev pub ItemReads : {A : Type 0} → Parser A → (A → Spelled) → (A → Bool) → Type 0
 ItemReads item part good = (ts : Text) → Yields (item ts) (λ x. (ts ≡ part x.0 x.1) × (good x.0 ≡ true))
 

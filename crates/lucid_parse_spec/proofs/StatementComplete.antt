@@ -1,4 +1,4 @@
--- What is spelled as a statement is read as that statement.
+-- A spelled statement is read as that statement.
 use Rattle.std.proofs.Common.{◌≡◌, ℕ, zero, suc, ◌+◌, ◌<◌, ◌≤◌, Bool, true, false, ◌&&◌, nat_le, List, [], ◌∷◌, length, map, Option, Some, None, option_map, refl, ap, ◌∙◌, arith}
 use Rattle.std.specs.List.{list_all, AllByRecursion}
 use Rattle.std.proofs.lemmas.List.Folds.{list_all-map}
@@ -131,7 +131,7 @@ printed_within : (t : List ℕ) (xs : List E) → Within (s.Printf t xs)
 unfolding read_s.statement_within read_s.simple read_s.printed
 printed_within t xs inner r built = rw (statement_spelled-Printf t xs r, operands_again xs (spell.sign signs.Semicolon r) (rw (statement_built-Printf t xs) at built)) refl
 
--- ---- where a statement ends, and what it begins with
+-- ---- where a statement ends, and its first token
 
 -- neither an `else` nor a case follows
 abbrev pub calm : Text → Bool
@@ -210,7 +210,7 @@ unfolding read_s.inner_at
 simple_again x within zero r built ends few = let more = statement_grows x r in absurd (omega arith)
 simple_again x within (suc d) r built ends few = within (read_s.inner_at d) r built
 
--- what follows a statement in a block
+-- the tokens after a statement in a block
 rest_calm : (ss : List S) (r : Text) → all_are ss ≡ true → calm (spell.all_of (map statement_spelled ss) (spell.sign signs.CloseBrace r)) ≡ true
 rest_calm [] r built = refl
 rest_calm (x ∷ xs) r built = plain_calm _ (statement_plain x (spell.all_of (map statement_spelled xs) (spell.sign signs.CloseBrace r)) (both _ _ built).0)

@@ -1,4 +1,4 @@
--- The definitions of a statement's spelling and of what the grammar builds, form by form.
+-- The definitions of a statement's spelling and of the grammar, form by form.
 use Rattle.std.proofs.Common.{◌≡◌, ℕ, Bool, true, ◌&&◌, nat_le, List, ◌∷◌, map, codes, Option, Some, None, option_map, sym, ap, ◌∙◌}
 use Rattle.lucid_lex.specs.declared.sign.Sign.TheVariants as signs
 use Rattle.lucid_lex.specs.declared.word.Word.TheVariants as words

@@ -1,4 +1,4 @@
--- What is read as a statement is spelled so, and the grammar builds it.
+-- A statement that is read is spelled so, and the grammar builds it.
 use Rattle.std.proofs.Common.{◌≡◌, ℕ, zero, suc, Bool, true, false, ◌&&◌, nat_le, if◌then◌else◌, List, [], ◌∷◌, length, map, codes, Option, Some, None, option_map, refl, sym, ap, ◌∙◌}
 use Rattle.std.specs.Str.{bytes_eq}
 use Rattle.std.proofs.lemmas.List.Folds.{list_all-map}
@@ -253,7 +253,7 @@ module _ (item : Parser S) (ok : (ts : Text) → Yields (item ts) (Statement ts)
         ap statement_built hy.0 ∙ statement_built-Match x.0 cs.0 l.0 ∙ of_both _ _ hx.1 (of_both _ _ hy.1 hl.1),
       )))))
 
--- what stands within is read as it is spelled
+-- nested statements are read as they are spelled
 record InnerOk (inner : read_s.Inner) : Type 0 where
   statement : (ts : Text) → Yields (inner.statement ts) (Statement ts)
   choice : (ts : Text) → Yields (inner.choice ts) (Choice ts)

@@ -1,4 +1,4 @@
--- What the small parts of the grammar read is what they spell, both ways.
+-- The small parts of the grammar are read exactly as they are spelled, both ways.
 use Rattle.std.proofs.Common.{◌≡◌, ℕ, Bool, true, false, List, [], ◌∷◌, codes, Option, Some, None, option_map, if◌then◌else◌, ◌&&◌, rules, refl, ap, subst, ◌∙◌}
 use Rattle.std.specs.Str.{bytes_eq}
 use Rattle.std.proofs.lemmas.Slice.Eq.{bytes_eq-Decides}
@@ -16,7 +16,7 @@ use Rattle.lucid_parse_spec.specs.Reader as read
 use Rattle.lucid_parse_spec.specs.Reader.{Text, Outcome, Parser, ◌>>=◌}
 use Rattle.lucid_parse_spec.specs.Spelling as spell
 
--- whatever is given has the property
+-- any result has the property
 pub record Yields {A : Type 0} (o : Option A) (P : A → Type 0) : Type 0 where
   pub each : (x : A) → o ≡ Some x → P x
 
@@ -34,7 +34,7 @@ pub mapped : {A B : Type 0} (P : A → Type 0) (Q : B → Type 0) (o : Option A)
 mapped P Q None f first next = yields_none Q
 mapped P Q (Some x) f first next = yields_some Q (f x) (next x (first.each x refl))
 
--- a part that is read is spelled so, before what is left
+-- a part that is read is spelled so, before the rest
 abbrev pub Spells : {A : Type 0} → (A → spell.Spelled) → Text → A × Text → Type 0
 Spells part ts x = ts ≡ part x.0 x.1
 

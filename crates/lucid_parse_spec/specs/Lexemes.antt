@@ -7,7 +7,7 @@ use Rattle.lucid_lex.specs.declared.token.Kind.TheVariants as kinds
 use Rattle.lucid_lex.specs.declared.token.Token.{Token}
 use Rattle.lucid_lex.specs.Reading.{bytes_of}
 
--- What a token says; a text has the bytes between its quotes. Two tokens are the same to the grammar where they say the same.
+-- The content of a token; a text has the bytes between its quotes. Two tokens are the same to the grammar if their content is.
 pub data Lexeme : Type 0 where
   Name : List ℕ → Lexeme
   Number : ℕ → Lexeme
@@ -19,7 +19,7 @@ pub data Lexeme : Type 0 where
 abbrev pub within_quotes : List ℕ → List ℕ
 within_quotes bytes = take (length bytes - 2) (drop 1 bytes)
 
--- what a token of this kind with these bytes says
+-- the content of a token of this kind with these bytes
 abbrev pub lexeme : List ℕ → Kind → Lexeme
 lexeme bytes kinds.Name = Name bytes
 lexeme bytes (kinds.Number n) = Number n
@@ -30,6 +30,6 @@ lexeme bytes (kinds.Sign s) = Sign s
 abbrev pub lexeme_of : List ℕ → Token → Lexeme
 lexeme_of text t = lexeme (bytes_of text t) t.kind
 
--- what the tokens of a text say, in order
+-- the contents of the tokens of a text, in order
 abbrev pub lexemes_of : List ℕ → List Token → List Lexeme
 lexemes_of text ts = map (lexeme_of text) ts

@@ -58,7 +58,7 @@ infix_sign infixes.Minus = signs.Minus
 infix_sign infixes.SatAdd = signs.SatAdd
 infix_sign infixes.SatSub = signs.SatSub
 
--- the level of what an infix sign makes
+-- the level of an expression with an infix sign
 abbrev pub level : Infix → ℕ
 level infixes.OrOr = disjunction
 level infixes.AndAnd = conjunction

@@ -1,5 +1,5 @@
--- How expressions are read: an operand, and then, for as long as a sign follows that binds tightly enough, that sign with
--- its right operand. `inner` reads an expression of at least a level that stands within.
+-- The reading of expressions: an operand, and then, as long as a sign follows that binds tightly enough, that sign with its right
+-- operand. `inner` reads a nested expression of at least a level.
 use Rattle.std.specs.Prelude.{ℕ, zero, suc, ◌+◌, Bool, true, false, ◌&&◌, nat_le, if◌then◌else◌, List, [], ◌∷◌, length, codes, Option, Some, None, option_map, bytes_eq}
 use Rattle.lucid_lex.specs.declared.sign.Sign.{Sign}
 use Rattle.lucid_lex.specs.declared.sign.Sign.TheVariants as signs
@@ -46,7 +46,7 @@ abbrev pub shift_of : Bool → Text → Option (Next × Text)
 shift_of up (lexemes.Number n ∷ ts) = Some (nexts.Shift up n, ts)
 shift_of up _ = None
 
--- what may follow an operand: an infix sign, or a whole shift
+-- the operator after an operand: an infix sign, or a whole shift
 unfoldable pub next_of : Text → Option (Next × Text)
 next_of (lexemes.Sign signs.ShiftLeft ∷ ts) = shift_of true ts
 next_of (lexemes.Sign signs.ShiftRight ∷ ts) = shift_of false ts
@@ -61,7 +61,7 @@ abbrev pub next_left : Next → ℕ
 next_left (nexts.Infix op) = left_level op
 next_left (nexts.Shift up n) = shift
 
--- only where it binds at least this tightly, and lets an operand of this level stand on its left
+-- only if it binds at least this tightly, and accepts an operand of this level on its left
 abbrev pub within : ℕ → ℕ → Option (Next × Text) → Option (Next × Text)
 within least tight None = None
 within least tight (Some p) = if nat_le least (next_level p.0) && nat_le (next_left p.0) tight then Some p else None
@@ -69,7 +69,7 @@ within least tight (Some p) = if nat_le least (next_level p.0) && nat_le (next_l
 unfoldable pub next_within : ℕ → ℕ → Text → Option (Next × Text)
 next_within least tight ts = within least tight (next_of ts)
 
--- the left operand with what follows it
+-- the left operand with the operators after it
 abbrev pub grown : (ℕ → Parser E) → E → Next → Parser E
 grown inner left (nexts.Infix op) ts = do
   x ← inner (level op + 1) ts
@@ -82,7 +82,7 @@ climb_on inner next left ts (Some p) = do
   x ← grown inner left p.0 p.1
   next (next_level p.0) x.0 x.1
 
--- the left operand, of level `tight`, with all that follows it, in at most so many turns
+-- the left operand, of level `tight`, with all operators after it, in at most `turns` turns
 unfoldable pub climb : (ℕ → Parser E) → ℕ → ℕ → ℕ → E → Parser E
 climb inner least zero tight left ts = Some (left, ts)
 climb inner least (suc n) tight left ts = climb_on inner (climb inner least n) left ts (next_within least tight ts)
@@ -96,7 +96,7 @@ arguments_on some ts None = do
   r ← after signs.CloseParen xs.1
   Some (xs.0, r)
 
--- what a call is given, behind its open parenthesis
+-- the arguments of a call, after its open parenthesis
 unfoldable pub arguments : (ℕ → Parser E) → Parser (List E)
 arguments inner ts = arguments_on (separated (inner disjunction)) ts (after signs.CloseParen ts)
 
@@ -106,7 +106,7 @@ named_on inner n ts (Some r) = do
   xs ← arguments inner r
   Some (e.Call n xs.0, xs.1)
 
--- what begins with a name
+-- an expression that begins with a name
 unfoldable pub named : (ℕ → Parser E) → List ℕ → Parser E
 named inner n ts = named_on inner n ts (after signs.OpenParen ts)
 
@@ -178,7 +178,7 @@ array_method ts = do
   s ← after signs.OpenParen n.1
   Some (m, s)
 
--- what a call is given, one after another
+-- the arguments of a call, one after another
 abbrev pub first : List E → Option (E × List E)
 first [] = None
 first (x ∷ xs) = Some (x, xs)
@@ -226,7 +226,7 @@ last_memops xs = do
   y ← last_memop x.1
   Some (x.0, y)
 
--- by what follows the array's name and the index
+-- by the tokens after the array's name and the index
 unfoldable pub array_with : List ℕ → E → Method → List E → Option A
 array_with n i methods.Get xs = with_all (a.Get n i) xs
 array_with n i methods.Set xs = do
@@ -242,7 +242,7 @@ array_with n i methods.Update xs = do
   x ← last_memops xs
   Some (a.Update n i x.0.0 x.0.1 x.1.0 x.1.1)
 
--- by what follows the array's name
+-- by the tokens after the array's name
 unfoldable pub array_at : List ℕ → Method → List E → Option A
 array_at n m xs = do
   i ← first xs
@@ -281,7 +281,7 @@ operand inner (lexemes.Sign signs.OpenParen ∷ ts) = in_parens inner ts
 operand inner (lexemes.Sign s ∷ ts) = prefixed inner ts (pre_of s)
 operand inner _ = None
 
--- an expression of at least this level, with at most so many expressions round one another
+-- an expression of at least this level, nested at most `depth` deep
 unfoldable pub expression_at : ℕ → ℕ → Parser E
 expression_at zero least ts = None
 expression_at (suc d) least ts = do
@@ -292,7 +292,7 @@ expression_at (suc d) least ts = do
 unfoldable pub expression : Parser E
 expression ts = expression_at (length ts) disjunction ts
 
--- what a call is given, behind its open parenthesis
+-- the arguments of a call, after its open parenthesis
 unfoldable pub call_arguments : Parser (List E)
 call_arguments ts = arguments (expression_at (length ts)) ts
 

@@ -14,7 +14,7 @@ use Rattle.lucid_parse_tree.specs.declared.tree.No.TheVariants as n
 use Rattle.lucid_parse_spec.specs.Reader.{Text, Outcome, Parser, ◌>>=◌, after, after_word, after_name, name, number, repeat, some, typed_name}
 use Rattle.lucid_parse_spec.specs.ReadExpression.{expression, call_arguments, operands, whole_array_call}
 
--- ---- what a `generate` generates
+-- ---- the event of a `generate`
 
 -- behind `.delay` or `.locate`: an event and an expression
 unfoldable pub event_pair : Parser V → Parser (V × E)
@@ -48,7 +48,7 @@ event_within inner (lexemes.Word words.EventCalls ∷ ts) = do
   event_by inner m.0 m.1
 event_within inner _ = None
 
--- with at most so many events round one another
+-- nested at most `depth` deep
 unfoldable pub event_at : ℕ → Parser V
 event_at zero ts = None
 event_at (suc k) ts = event_within (event_at k) ts
@@ -65,7 +65,7 @@ ended_value ts = do
   r ← after signs.Semicolon x.1
   Some (x.0, r)
 
--- what a call is given, behind its open parenthesis, up to the `;`
+-- the arguments of a call, after its open parenthesis, up to the `;`
 unfoldable pub ended_arguments : Parser (List E)
 ended_arguments ts = do
   xs ← call_arguments ts
@@ -135,7 +135,7 @@ simple (lexemes.Word words.Generate ∷ ts) = generated ts
 simple (lexemes.Word words.Printf ∷ ts) = printed ts
 simple ts = declared ts
 
--- ---- statements with statements in them; `inner` reads what stands within
+-- ---- statements with statements in them; `inner` reads the nested ones
 
 pub record Inner : Type 0 where
   pub statement : Parser S
@@ -165,7 +165,7 @@ alternative inner (lexemes.Word words.Else ∷ ts) = do
   Some (n.Block xs.0, xs.1)
 alternative inner ts = Some (n.Absent, ts)
 
--- what is tested, in parentheses
+-- the condition, in parentheses
 unfoldable pub condition : Parser E
 condition ts = do
   r ← after signs.OpenParen ts
@@ -180,7 +180,7 @@ choice_within inner ts = do
   y ← alternative inner xs.1
   Some (roll-C (record { test = x.0; yes = xs.0; no = y.0 }), y.1)
 
--- what begins a case, up to its block
+-- the beginning of a case, up to its block
 unfoldable pub case_head : Text → Option (ℕ × Text)
 case_head ts = do
   r ← after signs.Or ts
@@ -199,7 +199,7 @@ one_case item ts = option_map (case_body item) (case_head ts)
 unfoldable pub cases : Parser S → Parser (List (ℕ × List S))
 cases item ts = repeat (one_case item) (length ts) [] ts
 
--- what begins the last arm, up to its block
+-- the beginning of the last arm, up to its block
 unfoldable pub last_head : Text → Option Text
 last_head ts = do
   r ← after signs.Or ts
@@ -215,7 +215,7 @@ last_on item ts (Some r) = do
 unfoldable pub last_arm : Parser S → Parser (Option (List S))
 last_arm item ts = last_on item ts (last_head ts)
 
--- what is matched, up to the cases
+-- the matched expressions, up to the cases
 unfoldable pub match_head : Parser E
 match_head ts = do
   x ← expression ts
@@ -242,7 +242,7 @@ statement_within inner (lexemes.Word words.If ∷ ts) = do
 statement_within inner (lexemes.Word words.Match ∷ ts) = matched inner.statement ts
 statement_within inner ts = simple ts
 
--- with at most so many statements round one another
+-- nested at most `depth` deep
 unfoldable pub inner_at : ℕ → Inner
 inner_at zero = record { statement = λ ts. None; choice = λ ts. None }
 inner_at (suc k) = record { statement = statement_within (inner_at k); choice = choice_within (inner_at k) }

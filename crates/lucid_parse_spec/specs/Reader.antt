@@ -1,5 +1,5 @@
--- How tokens are read in: a reading takes a part off the front of a list of lexemes. What the parser's functions give is
--- what the readings of this file and of its siblings give; that these read exactly what is spelled is a law (`Law`).
+-- The reading of tokens: a reading takes a part off the front of a list of lexemes. The parser's functions return the results of the
+-- readings of this file and of its siblings; that these read exactly the spelled trees is a law (`Law`).
 use Rattle.std.specs.Prelude.{ℕ, zero, suc, Bool, true, false, if◌then◌else◌, List, [], ◌∷◌, ◌++◌, length, codes, Option, Some, None, option_map, bytes_eq}
 use denote.Enum.Bare.{sameb}
 use Rattle.lucid_lex.specs.declared.sign.Sign.{Sign}
@@ -16,7 +16,7 @@ use Rattle.lucid_parse_tree.specs.declared.tree.Ty.TheVariants as types
 abbrev pub Text : Type 0
 Text = List Lexeme
 
--- a part and what is left after it, where the text begins with such a part
+-- a part and the rest after it, if the text begins with such a part
 abbrev pub Outcome : Type 0 → Type 0
 Outcome A = Option (A × Text)
 
@@ -59,7 +59,7 @@ repeat_on next all ts (Some o) = do
   x ← o
   next (all ++ x.0 ∷ []) x.1
 
--- at most so many more turns
+-- at most this many more turns
 unfoldable pub repeat : {A : Type 0} → (Text → Option (Outcome A)) → ℕ → List A → Parser (List A)
 repeat step zero all ts = Some (all, ts)
 repeat step (suc n) all ts = repeat_on (repeat step n) all ts (step ts)
@@ -127,6 +127,6 @@ array_type_on ts (Some r) = do
   w ← width s
   Some ((false, w.0), w.1)
 
--- what follows `Array` in a type: whether `.t` is absent, and the width
+-- the tokens after `Array` in a type: whether `.t` is absent, and the width
 unfoldable pub array_type : Parser (Bool × ℕ)
 array_type ts = array_type_on ts (after signs.Dot ts)

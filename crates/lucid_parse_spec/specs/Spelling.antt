@@ -1,6 +1,6 @@
--- How a tree is spelled, by the cases of the grammar, as a list of lexemes. Each definition gives the tokens of a part with
--- those of the rest behind it, so that parts are put together without joining lists. A number or a name is a lexeme
--- whatever it holds: one that no token has is spelled in no text.
+-- The spelling of a tree, by the cases of the grammar, as a list of lexemes. Each definition gives the tokens of a part followed by those
+-- of the rest, so that parts are put together without joining lists. A number or a name is a lexeme with any content: one that no token
+-- has is spelled in no text.
 use Rattle.std.specs.Prelude.{ℕ, ◌+◌, Bool, true, false, ◌&&◌, IsTrue, nat_le, if◌then◌else◌, List, [], ◌∷◌, codes, map, Option, Some, None}
 use Rattle.std.specs.List.{list_all}
 use Rattle.lucid_lex.specs.declared.sign.Sign.{Sign}
@@ -87,7 +87,7 @@ typed_name t n r = ty t (name n r)
 
 -- ---- expressions
 
--- a call of an array, by its name and what is given
+-- a call of an array, by its name and arguments
 abbrev pub array_call : List ℕ → Spelled → Spelled
 array_call method f r = word words.ArrayCalls (sign signs.Dot (name method (in_parens f r)))
 
@@ -126,7 +126,7 @@ spelled = fold-E Spelled Spelled spelled_A spelled_E
 
 -- ---- which expressions the grammar builds
 
--- whether a part of this level may stand in a place for an expression
+-- whether a part of this level may be at a place for an expression
 abbrev pub binds : ℕ → Bool
 binds l = nat_le disjunction l
 
@@ -179,7 +179,7 @@ is_built x = binds (level_of x)
 abbrev pub all_built : List E → Bool
 all_built xs = list_all is_built xs
 
--- ---- what a `generate` generates
+-- ---- the event of a `generate`
 
 abbrev pub spelled_V : V-F Spelled → Spelled
 spelled_V (V-F.Paren f) = in_parens f

@@ -1,4 +1,4 @@
--- Induction over statements and over what a `generate` generates, case by case.
+-- Induction over statements and over the event of a `generate`, case by case.
 use Rattle.std.proofs.Common.{ℕ, List, [], ◌∷◌, map, Option, Some, None, sym, subst}
 use Rattle.std.specs.List.{AllByRecursion}
 use Rattle.lucid_parse_tree.specs.declared.tree.Ty.{Ty}

@@ -1,4 +1,4 @@
--- From the back: what is kept, and the marks of what it reads.
+-- From the back: the kept operations, and the marks of their reads.
 use Rattle.std.proofs.Common.{◌≡◌, ℕ, zero, suc, ◌+◌, ◌-◌, ◌<◌, List, [], ◌∷◌, ◌++◌, Bool, true, false, ◌||◌, Option, None, Some, if◌then◌else◌, length, drop, reverse, replicate, slice_index_or, slice_set, nat_eq, nat_lt, refl, sym, ap, ap₂, subst, ◌∙◌, ⊎_elim, arith}
 use Rattle.std.specs.List.{list_all, list_any}
 use Rattle.std.specs.Option.{option_map_or}
@@ -47,7 +47,7 @@ none_marked zero k = refl
 none_marked (suc n) zero = refl
 none_marked (suc n) (suc k) = none_marked n k
 
--- So many turns from the end: what was kept, the last first, and its marks.
+-- This many turns from the end: the kept operations, the last first, and their marks.
 pub record Back (fields turn : ℕ) (ops : List Op) (read : List Bool) (kept : List Op) : Type 0 where
   pub left : reverse kept ≡ live (drop (length ops - turn) ops)
   pub marks : Marks fields read (live (drop (length ops - turn) ops))

@@ -19,11 +19,11 @@ finish_writes : (looks : Looks) (a : Act) → written_by (finish_of looks a) ≡
 finish_writes Copied a = refl
 finish_writes Constant a = (fold_sound []).written a
 
--- what is changed writes what it wrote
+-- a changed operation writes the same field
 change_writes : (looks : Looks) (widths : List ℕ) (ops : List Op) (o : Op) → written_by (change_of looks widths ops o).act ≡ written_by o.act
 change_writes looks widths ops o = finish_writes looks (with_operands (looked (put_of looks widths) ops o.guard) o.act) ∙ written_with (looked (put_of looks widths) ops o.guard) o.act
 
--- So many operations are changed.
+-- The number of changed operations.
 pub record Turn (looks : Looks) (widths : List ℕ) (ops : List Op) (writers : List Writer) (done : List Op) (i : ℕ) : Type 0 where
   pub many : length done ≡ i
   pub tells : Tells (standing done ops) writers

@@ -1,4 +1,4 @@
--- Guards that begin alike, what stands before each literal of a guard, and the marks of fields that are tested elsewhere.
+-- Guards that begin alike, the literals before each literal of a guard, and the marks of fields that are tested elsewhere.
 use Rattle.std.proofs.Common.{◌≡◌, ◌≢◌, ℕ, zero, suc, ◌+◌, ◌-◌, ◌<◌, ◌≤◌, List, [], ◌∷◌, ◌++◌, Bool, true, false, not, ◌&&◌, ◌||◌, Option, None, Some, if◌then◌else◌, length, take, drop, replicate, slice_get, slice_index_or, slice_set, nat_eq, refl, sym, ap, ap₂, subst, ◌∙◌, ⊎_elim, arith}
 use Rattle.std.specs.List.{list_any}
 use Rattle.std.specs.Option.{option_map_or}
@@ -51,7 +51,7 @@ nil_taken : {A : Type 0} (n : ℕ) → take {A = A} n [] ≡ []
 nil_taken zero = refl
 nil_taken (suc n) = refl
 
--- A slice from n on is what is left behind n.
+-- A slice from n on is the rest after n.
 pub take_rest : {A : Type 0} (xs : List A) (n : ℕ) → take (length xs - n) (drop n xs) ≡ drop n xs
 take_rest {A = A} [] zero = nil_taken {A = A} (length {A = A} [] - zero)
 take_rest {A = A} [] (suc n) = nil_taken {A = A} (length {A = A} [] - suc n)
@@ -98,7 +98,7 @@ alike_more a b n s h =
 pub alike_less : (a b : List Literal) (i n : ℕ) → i ≤ n → Alike a b n → take i a ≡ take i b
 alike_less a b i n h s = sym (take_less a i n h) ∙ ap (take i) s.same ∙ take_less b i n h
 
--- ---- what stands before a literal
+-- ---- the literals before a literal
 
 pub nested_none : (ops : List Op) (guard : List Literal) → Nested ops guard 0
 nested_none ops guard = record { within = omega arith; told = λ i l h e. absurd (omega (arith, h)) }
@@ -206,7 +206,7 @@ by_false : (b : Bool) → (b ≡ true → ⊥) → b ≡ false
 by_false true f = absurd (f refl)
 by_false false f = refl
 
--- The literals whose writers' guards are known to stand before them are as if they weren't there.
+-- The literals whose writers' guards are known to precede them don't matter.
 only_later : (ops : List Op) (guard : List Literal) (n c : ℕ) → Nested ops guard n → (b : Bool) → is_under ops guard c ≡ b
     → (list_any (λ (l : Literal). nat_eq l.field c) (drop n guard) && not b) ≡ (list_any (λ (l : Literal). nat_eq l.field c) guard && not b)
 only_later ops guard n c nested true e = none (list_any (λ (l : Literal). nat_eq l.field c) (drop n guard)) ∙ sym (none (list_any (λ (l : Literal). nat_eq l.field c) guard))

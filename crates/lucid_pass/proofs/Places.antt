@@ -1,4 +1,4 @@
--- The places of those that write a field, and the operation that stands there.
+-- The positions of the writers of a field, and the operations there.
 use Rattle.std.proofs.Common.{◌≡◌, ℕ, zero, suc, ◌+◌, ◌<◌, ◌≤◌, List, [], ◌∷◌, ◌++◌, Bool, true, false, Option, None, Some, if◌then◌else◌, length, map, drop, take, replicate, slice_get, slice_index_or, slice_set, nat_lt, refl, sym, ap, ap₂, subst, ◌∙◌, ⊎_elim, arith, append_assoc}
 use Rattle.std.specs.List.{filter, list_all, list_any}
 use Rattle.std.specs.Option.{option_map_or}
@@ -14,13 +14,13 @@ use Rattle.lucid_pass.specs.Marks.{writes_below}
 use Rattle.lucid_pass.specs.Putting.{standing}
 use Rattle.lucid_pass.specs.Writers.{Tells, places_of, writer_at, with_writer}
 
--- a literal that stands at some place stands in the guard
+-- a literal at some position is in the guard
 pub found_in : (l : Literal) (guard : List Literal) (at : ℕ) → option_map_or (same_literal l) (slice_get guard at) false ≡ true → list_any (same_literal l) guard ≡ true
 found_in l [] at h = h
 found_in l (k ∷ guard) zero h = or_left (same_literal l k) (list_any (same_literal l) guard) h
 found_in l (k ∷ guard) (suc at) h = or_right (same_literal l k) (list_any (same_literal l) guard) (found_in l guard at h)
 
--- ---- operations as they stand
+-- ---- operations at this point
 
 pub standing_done : (done ops : List Op) (at : ℕ) → at < length done → slice_get (standing done ops) at ≡ slice_get done at
 standing_done done ops at h = first done at (drop (length done) ops) h
@@ -60,7 +60,7 @@ places_are k n before (o ∷ ops) e = by
     by rest true = ap₂ (λ (x : Option Op) (xs : List (Option Op)). x ∷ xs) (sym (at_seam before o ops) ∙ ap (slice_get (before ++ o ∷ ops)) e) rest
     by rest false = rest
 
--- what stands where the writer is said to stand
+-- the operation at the writer's recorded position
 abbrev pub found_at : List Op → Writer → Option Op
 found_at ops Nobody = None
 found_at ops (One at) = slice_get ops at
@@ -143,7 +143,7 @@ module _ (ops : List Op) (writers : List Writer) (o : Op) (tells : Tells ops wri
           get_or-set_other writers j k row Nobody (λ s. other (sym s)) ∙ tells k
           ∙ sym (places_more k false (ap (λ w. is_same w (Some k)) e ∙ ne_eqb j k other))
 
--- after so many operations: the table tells of them
+-- after this many operations: the table describes them
 pub record Counted (fields : ℕ) (ops : List Op) (n : ℕ) (writers : List Writer) : Type 0 where
   pub long : length writers ≡ fields
   pub told : Tells (take n ops) writers
@@ -177,7 +177,7 @@ counted_all fields ops writers n e c = subst (λ l. Tells l writers) (ap (λ m. 
     all [] = refl
     all (x ∷ ops) = ap (λ l. x ∷ l) (all ops)
 
--- ---- one that is changed writes what it wrote
+-- ---- a changed operation writes the same field
 
 places_same : (k n : ℕ) (done : List Op) (o p : Op) (rest : List Op) → written_by p.act ≡ written_by o.act → places_of k n (done ++ p ∷ rest) ≡ places_of k n (done ++ o ∷ rest)
 places_same k n [] o p rest e = ap (λ w. if is_same w (Some k) then n ∷ places_of k (n + 1) rest else places_of k (n + 1) rest) e
@@ -186,7 +186,7 @@ places_same k n (x ∷ done) o p rest e = ap (λ l. if writes x k then n ∷ l e
 pub tells_changed : (done : List Op) (o p : Op) (rest : List Op) (writers : List Writer) → written_by p.act ≡ written_by o.act → Tells (done ++ o ∷ rest) writers → Tells (done ++ p ∷ rest) writers
 tells_changed done o p rest writers e tells k = tells k ∙ sym (ap writer_at (places_same k 0 done o p rest e))
 
--- the place of what is written is there
+-- the position of the written field exists
 pub below_writers : (fields : ℕ) (ops : List Op) (at : ℕ) (o : Op) (k : ℕ) → list_all (writes_below fields) ops ≡ true → at < length ops → o ≡ slice_index_or ops at o → written_by o.act ≡ Some k → k < fields
 below_writers fields ops at o k all h is e = ltb-true k fields (sym (ap (λ p. option_map_or (λ j. nat_lt j fields) p true) e) ∙ ap (writes_below fields) is ∙ all_there ops at o all h)
   where

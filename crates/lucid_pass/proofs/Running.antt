@@ -1,4 +1,4 @@
--- One pass more: what it makes of the code, and how its count rises.
+-- One pass more: its result for the code, and how its count rises.
 use Rattle.std.proofs.Common.{◌≡◌, ℕ, zero, suc, ◌+◌, ◌-◌, ◌<◌, ◌≤◌, List, [], ◌∷◌, ◌++◌, length, map, take, drop, slice_index, slice_set, get_or, set, refl, sym, ap, ap₂, ◌∙◌, subst, arith, append_assoc, Result, Ok, Err, OnErr}
 use Rattle.std.proofs.lemmas.List.{map-set, length-set, length-append, length-map}
 use Rattle.std.proofs.Math.Seq.{map-set_same, take-append_seam}
@@ -30,7 +30,7 @@ map_cons f [] i x h = absurd (omega arith)
 map_cons f (y ∷ xs) zero x h = refl
 map_cons f (y ∷ xs) (suc i) x h = map_cons f xs i x (omega arith)
 
--- So many passes ran: what they made of the code, what went in each, and what their counts are.
+-- This many passes ran: their results, the operations that each removed, and their counts.
 pub record Ran {X : Type 0} (named : X → List ℕ) (gives : X → Rewrite) (count : X → ℕ) (before now : List X) (start code : CodeParts) (told : List ℕ) (i : ℕ) : Type 0 where
   pub long : length now ≡ length before
   pub names : map named now ≡ map named before
@@ -45,7 +45,7 @@ module _ {X : Type 0} (named : X → List ℕ) (gives : X → Rewrite) (count : 
   pub begins : MayReplace start start → Ran named gives count before before start start [] 0
   begins replaces = record { long = refl; names = refl; same = refl; made = refl; all_gone = refl; counts = sym (raised_none (map count before)); many = refl; replaces = replaces }
 
-  -- where a call ends by want of memory
+  -- the end of a call that runs out of memory
   pub stops : (now : List X) (code : CodeParts) (told : List ℕ) (i : ℕ) → i ≤ length before → Ran named gives count before now start code told i →
       (k : ℕ) × (k ≤ length before) × (map count now ≡ raised (map count before) (take k (gone (map gives before) start)))
   stops now code told i h r =
@@ -101,7 +101,7 @@ module _ {X : Type 0} (named : X → List ℕ) (gives : X → Rewrite) (count : 
           replaces = replaces_twice start code new r.replaces (subst (MayReplace code) (sym e) ((gives x).keeps code valid));
         }
 
--- What holds holds where a call ends by an error.
+-- An unconditional fact holds at an error.
 pub on_err : {T E P : Type 0} (r : Result T E) → P → OnErr r P
 on_err (Ok x) p = tt
 on_err (Err e) p = p

@@ -1,4 +1,4 @@
--- An act is settled by the field that takes what it computes.
+-- An act is settled by the field that it computes.
 use Rattle.std.proofs.Common.{◌≡◌, ℕ, Bool, true, false, Option, None, Some, if◌then◌else◌, refl}
 use Rattle.std.specs.List.{list_all}
 use Rattle.std.specs.Option.{option_and_then, option_map_or}

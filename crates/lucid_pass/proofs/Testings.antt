@@ -1,4 +1,4 @@
--- What fields stand for as a table, literals that are put at the end unless they stand there, and what is read as marks.
+-- The tests that fields represent, as a table, literals that are appended unless they are there, and the read fields as marks.
 use Rattle.std.proofs.Common.{◌≡◌, ℕ, zero, suc, ◌+◌, ◌<◌, List, [], ◌∷◌, ◌++◌, Bool, true, false, not, ◌&&◌, ◌||◌, Option, None, Some, if◌then◌else◌, length, map, take, slice_index_or, nat_lt, refl, sym, ap, ap₂, subst, ◌∙◌, ⊎_elim, arith}
 use Rattle.std.specs.List.{filter, list_all, list_any}
 use Rattle.std.specs.Option.{option_and_then, option_map_or}
@@ -26,7 +26,7 @@ not_not : (b : Bool) → not (not b) ≡ b
 not_not true = refl
 not_not false = refl
 
--- What is said of a field by what writes it and by its mark is what it stands for.
+-- The test of a field by its writer and its mark is the one that it represents.
 pub test_is : (widths : List ℕ) (ops : List Op) (writers : List Writer) (marks : List Bool) (c : ℕ) (w : Writer) → c < length writers → Tells ops writers → Uncovered ops (length writers) (length ops) marks → w ≡ slice_index_or writers c Nobody
     → test_at widths ops w (slice_index_or marks c false) ≡ direct_from widths ops c
 test_is widths ops writers marks c w h tells u e = here w ∙ ap (option_and_then test) (sym (writer_is ops writers c w tells e)) ∙ by (only_writer ops c) refl
@@ -44,7 +44,7 @@ test_is widths ops writers marks c w h tells u e = here w ∙ ap (option_and_the
     by (Some o) x = ap (λ (b : Bool). if b then tested widths o.act else None)
         (ap not (u.told c o h x) ∙ not_not (covers (take (length ops) ops) c o.guard) ∙ ap (λ (l : List Op). covers l c o.guard) (all_taken ops))
 
--- So many fields are told of.
+-- This many fields are described.
 pub record Tested (widths : List ℕ) (ops : List Op) (writers : List Writer) (table : List (Option Test)) (n : ℕ) : Type 0 where
   pub many : length table ≡ n
   pub told : (c : ℕ) → c < n → direct_by table c ≡ direct_from widths ops c

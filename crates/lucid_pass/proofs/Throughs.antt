@@ -1,4 +1,4 @@
--- What passes make one after another may stand in place of the code, and keeps nodes behind what they read where each pass does.
+-- The result of passes one after another may replace the code, and keeps nodes after their reads if each pass does.
 use Rattle.std.proofs.Common.{[], ◌∷◌}
 use Rattle.lucid_pass_spec.proofs.Replaces.{same_replaces, replaces_twice}
 use Rattle.lucid_pass.specs.Through.{ListsKeepNodes, ListsReplace, through}

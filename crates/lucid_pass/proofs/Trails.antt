@@ -13,7 +13,7 @@ use Rattle.lucid_pass.specs.Trail.{Trail, TrailBefore, renewed, with_new}
 use Rattle.lucid_pass.proofs.Nesting.{all_taken, at_some, take_less, take_one_more, alike_less}
 use Rattle.lucid_pass.proofs.Testings.{repeats_end, map_end, at_end, before_end}
 
--- What the front of a list becomes is the front of what the list becomes.
+-- The result for the front of a list is the front of the result for the list.
 front : (before xs ys : List Literal) → take (length (without_repeats before xs)) (without_repeats before (xs ++ ys)) ≡ without_repeats before xs
 front before [] ys = none (without_repeats before ys)
   where

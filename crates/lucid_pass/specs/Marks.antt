@@ -12,6 +12,6 @@ marked fields read = fold (λ (marks : List Bool) k. slice_set marks k true) rea
 abbrev pub is_marked : List Bool → Op → Bool
 is_marked read o = option_map_or (λ k. slice_index_or read k false) (only_writes o.act) true
 
--- The field that it writes, if it writes one, is one of so many.
+-- The field that it writes, if it writes one, is below this bound.
 abbrev pub writes_below : ℕ → Op → Bool
 writes_below fields o = option_map_or (λ k. nat_lt k fields) (written_by o.act) true

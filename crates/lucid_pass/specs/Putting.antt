@@ -1,4 +1,4 @@
--- What is put in for a field that is moved from an operand, and the operations as they stand while they are changed.
+-- The replacement of a field that is moved from an operand, and the operations at a point of the change.
 use Rattle.std.specs.Prelude.{ℕ, List, ◌++◌, drop, length}
 use Rattle.lucid_code.specs.declared.op.Act.{Act}
 use Rattle.lucid_code.specs.declared.op.Op.{Op}

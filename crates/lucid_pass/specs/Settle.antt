@@ -1,4 +1,4 @@
--- The field that takes what an act computes from numbers alone.
+-- The field written by an act that computes on numbers alone.
 use Rattle.std.specs.Prelude.{ℕ, Option, None, Some, if◌then◌else◌}
 use Rattle.std.specs.List.{list_all}
 use Rattle.std.specs.Option.{option_and_then}

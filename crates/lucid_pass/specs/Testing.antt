@@ -1,4 +1,4 @@
--- What fields stand for, as a table, and what is read, as marks.
+-- The tests that fields represent, as a table, and the fields that are read, as marks.
 use Rattle.std.specs.Prelude.{◌≡◌, ℕ, ◌<◌, List, Bool, true, false, not, Option, None, if◌then◌else◌, length, slice_get, slice_index_or}
 use Rattle.std.specs.Option.{option_and_then, option_map_or}
 use Rattle.lucid_code.specs.declared.op.Op.{Op}
@@ -9,7 +9,7 @@ use Rattle.lucid_pass_spec.specs.Direct.{tested, direct_from}
 use Rattle.lucid_pass.specs.declared.writers.Writer.{Writer}
 use Rattle.lucid_pass.specs.declared.writers.Writer.TheVariants.{Nobody, One, Many}
 
--- The test for which field c stands.
+-- The test that field c represents.
 abbrev pub direct_by : List (Option Test) → ℕ → Option Test
 direct_by table c = slice_index_or table c None
 
@@ -17,7 +17,7 @@ direct_by table c = slice_index_or table c None
 abbrev pub Stands : List ℕ → List Op → List (Option Test) → Type 0
 Stands widths ops table = (c : ℕ) → direct_by table c ≡ direct_from widths ops c
 
--- What a field stands for that is written here, and whether it is tested elsewhere than under the guard of what writes it.
+-- The test that a field written here represents, and whether it is tested outside the guard of its writer.
 abbrev pub test_at : List ℕ → List Op → Writer → Bool → Option Test
 test_at widths ops Nobody uncovered = None
 test_at widths ops (One at) uncovered = option_and_then (λ w. if not uncovered then tested widths w.act else None) (slice_get ops at)

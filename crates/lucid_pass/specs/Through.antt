@@ -1,4 +1,4 @@
--- What passes make of code one after another, and how many operations go in each.
+-- The results of passes one after another, and the number of operations that each removes.
 use Rattle.std.specs.Prelude.{ℕ, ◌-◌, List, [], ◌∷◌, length}
 use Rattle.std.specs.List.{AllByRecursion, fold}
 use Rattle.lucid_base.specs.Saturating.{saturating_sum}
@@ -6,7 +6,7 @@ use Rattle.lucid_code.specs.Parts.{CodeParts}
 use Rattle.lucid_pass_spec.specs.Laws.{KeepsNodes, Replaces}
 use Rattle.lucid_pass_spec.specs.Replace.{Rewrite}
 
--- Each in order, on what the one before gave.
+-- Each in order, on the result of the one before.
 abbrev pub through : List Rewrite → CodeParts → CodeParts
 through passes code = fold (λ now (p : Rewrite). p.makes now) code passes
 
@@ -15,16 +15,16 @@ abbrev pub gone : List Rewrite → CodeParts → List ℕ
 gone [] code = []
 gone (p ∷ passes) code = (length code.ops - length (p.makes code).ops) ∷ gone passes (p.makes code)
 
--- The counts of the passes that ran, the first ones, rise by what went in each; the others stay.
+-- The counts of the passes that ran, the first ones, rise by the operations that each removed; the others stay.
 abbrev pub raised : List ℕ → List ℕ → List ℕ
 raised counts [] = counts
 raised [] (n ∷ ns) = []
 raised (count ∷ counts) (n ∷ ns) = saturating_sum count n ∷ raised counts ns
 
--- What passes make of valid code may stand in place of it.
+-- The result of passes on valid code may replace it.
 abbrev pub ListsReplace : Type 0
 ListsReplace = (passes : List Rewrite) → Replaces (through passes)
 
--- Where each pass of a list keeps nodes behind what they read, the list does so.
+-- If each pass of a list keeps nodes after their reads, the list does so.
 abbrev pub ListsKeepNodes : Type 0
 ListsKeepNodes = (passes : List Rewrite) → AllByRecursion (λ (p : Rewrite). KeepsNodes p.makes) passes → KeepsNodes (through passes)

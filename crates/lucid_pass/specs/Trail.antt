@@ -11,11 +11,11 @@ use Rattle.lucid_pass_spec.specs.Looks.{same_literal}
 abbrev pub renewed : (ℕ → Option Test) → List Literal → List Literal
 renewed d guard = without_repeats [] (map (direct_literal d) guard)
 
--- A literal is put at the end, unless it stands there.
+-- A literal is appended, unless it is there.
 abbrev pub with_new : Literal → List Literal → List Literal
 with_new l gs = if list_any (same_literal l) gs then gs else gs ++ l ∷ []
 
--- What the first n literals of a guard become, and behind each of them how many there are.
+-- The replacements of the first n literals of a guard, and after each of them their number.
 pub record Trail (d : ℕ → Option Test) (guard : List Literal) (n : ℕ) (made : List Literal) (ends : List ℕ) : Type 0 where
   pub within : n ≤ length guard
   pub made_is : made ≡ renewed d (take n guard)

@@ -1,4 +1,4 @@
--- From the normal form to what may stand in its place, and from the flat form to the program.
+-- From the normal form to code that may replace it, and from the flat form to the program.
 use Rattle.std.proofs.Common.{ℕ, ◌∙◌, ap}
 use Rattle.lucid_base.specs.declared.event.Event.{Event}
 use Rattle.lucid_code.specs.Parts as code
@@ -15,7 +15,7 @@ use Rattle.lucid_normal_spec.specs.Program.{translate}
 use Rattle.lucid_normal_spec.specs.Stands.{Happens, StandsFor}
 use Rattle.lucid_pass_laws.specs.Core.{CodeStands}
 
--- What happens to a program happens to its flat form, which has the same events.
+-- An event that fits a program fits its flat form, which has the same events.
 as_flat : (core : CoreParts) (me : ℕ) (event : Event) → Happens core me event → Happens (flat_of core) me event
 as_flat core me event h = record { switch = h.switch; id = h.id; event_fits = h.event_fits }
 

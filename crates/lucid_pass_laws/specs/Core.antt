@@ -1,4 +1,4 @@
--- Code that stands for a program of any form, and how many operations its normal form has.
+-- Code that represents a program of any form, and the number of operations of its normal form.
 use Rattle.std.specs.Prelude.{◌≡◌, length, sum}
 use Rattle.lucid_code.specs.Parts as code
 use Rattle.lucid_core.specs.Parts.{CoreParts}
@@ -9,8 +9,8 @@ use Rattle.lucid_normal_spec.specs.Program.{translate}
 use Rattle.lucid_normal_spec.specs.Stands.{StandsFor}
 use Rattle.lucid_pass_spec.specs.Replace.{MayReplace}
 
--- The normal form of the flat form of a program stands for the program; and what may stand in place of it does so too, and has the
--- program's arrays.
+-- The normal form of the flat form of a program represents the program; and code that may replace it does so too, and has the program's
+-- arrays.
 pub record CodeStands (core : CoreParts) : Type 0 where
   pub normal : StandsFor (translate (flat_of core)) core
   pub stands : (c : code.CodeParts) → MayReplace (translate (flat_of core)) c → StandsFor c core

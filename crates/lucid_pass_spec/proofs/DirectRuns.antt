@@ -52,7 +52,7 @@ only_all (y ∷ []) w x e (inl s) = s ∙ (let z : y ≡ w = cc in z)
 only_all (y ∷ []) w x e (inr i) = absurd i
 only_all (y ∷ z ∷ xs) w x e i = absurd (cc)
 
--- the one writer of a field is whoever writes it
+-- the one writer of a field is any writer of it
 only_unique : (ops : List Op) (k : ℕ) (w x : Op) → only_writer ops k ≡ Some w → In x ops → written_by x.act ≡ Some k → x ≡ w
 only_unique ops k w x o i e = only_all (filter (λ o. writes o k) ops) w x o (into_filter (λ o. writes o k) x ops i (is_same_some (written_by x.act) k e))
 

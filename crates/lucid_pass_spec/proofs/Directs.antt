@@ -49,7 +49,7 @@ iff true b f g = sym (f refl)
 iff false true f g = absurd (true≢false (sym (g refl)))
 iff false false f g = refl
 
--- ---- what a field stands for
+-- ---- the test that a field represents
 
 pub record Stood (widths : List ℕ) (ops : List Op) (c : ℕ) (t : Test) : Type 0 where
   pub writer : Op
@@ -123,7 +123,7 @@ module _ (widths : List ℕ) (ops : List Op) where
   abbrev pub d : ℕ → Option Test
   d = direct_from widths ops
 
-  -- a literal stays, or its field stands for a test
+  -- a literal stays, or its field represents a test
   pub literals : (P : Literal → Type 0) (l : Literal) → P l → ((t : Test) → Stood widths ops l.field t → P (record { field = t.field; equal = says l; value = t.value })) → P (direct_literal d l)
   literals P l stays goes = by (d l.field) refl
     where
@@ -131,7 +131,7 @@ module _ (widths : List ℕ) (ops : List Op) where
       by None e = stays
       by (Some t) e = goes t (stood widths ops l.field t e)
 
-  -- ---- what is read then
+  -- ---- the reads then
 
   pub record Through (x : Op) (k : ℕ) : Type 0 where
     pub field : ℕ
@@ -158,13 +158,13 @@ module _ (widths : List ℕ) (ops : List Op) where
   pub writer_writes : (c : ℕ) (t : Test) (s : Stood widths ops c t) → written_by s.writer.act ≡ Some c
   writer_writes c t s = ap written_by s.compares
 
-  -- ---- it may stand there
+  -- ---- it may replace the code
 
   module _ (nodes : Bool) (facts : Facts nodes ops) (fit : (x : Op) → In x ops → (l : Literal) → In l x.guard → literal_fits widths l ≡ true) (bits : (x : Op) → In x ops → (c : ℕ) (w : ℕ) → (t : Test) → x.act ≡ act.Cmp Eq w (Field t.field) (Fixed t.value) c → slice_index widths c ≡ 1) where
     goes : (r w : ℕ × Op) → In r (enumerate_from 0 ops) → In w (enumerate_from 0 ops) → (k : ℕ) → In k (read_by r.1) → written_by w.1.act ≡ Some k → Goes nodes w r
     goes r w i j k h e = placed_goes nodes 0 ops facts r w i j k h e
 
-    -- who writes what is read through a comparison stands before it, which stands before the reader
+    -- the writer of a read through a comparison precedes it, which precedes the reader
     through : (x y : ℕ × Op) → In x (enumerate_from 0 ops) → In y (enumerate_from 0 ops) → (k : ℕ) (t : Through x.1 k) → written_by y.1.act ≡ Some k
         → (y.0 < x.0) × (key_of y.1 ≤ key_of x.1) × (nodes ≡ true → (g : ℕ) → called_by y.1.act ≡ Some g → called_by x.1.act ≡ Some g → ⊥)
     through x y i j k t e =

@@ -1,4 +1,4 @@
--- Code without operations that write what nobody reads.
+-- Code without operations that write unread fields.
 use Rattle.std.proofs.Common.{◌≡◌, ℕ, suc, ◌≤◌, List, [], ◌∷◌, Bool, true, false, Option, None, Some, inl, inr, map, length, slice_index, nat_eq, refl, sym, ap, ap₂, subst, ◌∙◌, ⊎_elim, true≢false, arith}
 use Rattle.std.specs.Option.{option_map_or}
 use Rattle.std.proofs.lemmas.Bool.{or_left, or_right, eq-eqb, cases_eq}
@@ -102,7 +102,7 @@ module _ (widths : List ℕ) where
   live_runs [] m n a = agree_less (Read []) (λ k. ⊥) m n (λ k b. absurd b) a
   live_runs (o ∷ ops) m n a = live_by o ops m n (live_runs ops) (only_writes o.act) refl (is_needed (live ops) o) refl a
 
--- What is kept is some of what was there.
+-- The kept operations are some of the old ones.
 pub live_in : (ops : List Op) (q : Op) → In q (live ops) → In q ops
 live_in [] q i = i
 live_in (o ∷ ops) q i = by (live_in ops q) (is_needed (live ops) o) i

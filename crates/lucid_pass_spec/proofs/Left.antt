@@ -1,4 +1,4 @@
--- What is left when operations that aren't needed go, in whatever order.
+-- The remaining operations after unneeded ones are removed, in any order.
 use Rattle.std.proofs.Common.{◌≡◌, ℕ, zero, suc, List, [], ◌∷◌, ◌++◌, Bool, true, false, ◌||◌, Option, None, Some, inl, inr, nat_eq, refl, sym, ap, ap₂, subst, ◌∙◌, ⊎_elim, append_assoc}
 use Rattle.std.specs.Option.{option_map_or}
 use Rattle.std.proofs.lemmas.Bool.{or_right, or_parts, or_from, eqb-true}
@@ -51,7 +51,7 @@ none_read : (front rest : List Op) (k : ℕ) → ((y : Op) → In y front → re
 none_read [] rest k h = refl
 none_read (y ∷ front) rest k h = ap₂ (λ (a b : Bool). a || b) (h y (inl refl)) (none_read front rest k (λ q i. h q (inr i)))
 
--- needed by what stands behind it alone
+-- needed only by the operations after it
 needed_behind : (front : List Op) (o : Op) (rest : List Op) → ((y : Op) → In y front → Blind y o) → Blind o o → is_needed (front ++ o ∷ rest) o ≡ is_needed rest o
 needed_behind front o rest b own = needs (front ++ o ∷ rest) rest o (λ k e. none_read front (o ∷ rest) k (λ y i. blind_reads y o k (b y i) e) ∙ ap (λ c. c || is_read rest k) (blind_reads o o k own e))
 
@@ -75,7 +75,7 @@ live_from front (o ∷ ops) f =
     let parts = pairs_split (Pair false) front (o ∷ ops) f.pairs in
     one_more o front (live ops) (front ++ o ∷ ops) (λ y i. (parts.across y i o (inl refl)).blind) (f.own o (in_right o front (o ∷ ops) (inl refl))) s (is_needed (live ops) o) refl
 
--- ---- in whatever order
+-- ---- in any order
 
 less_needed : (xs ys : List Op) (o : Op) → ((k : ℕ) → is_read xs k ≡ false → is_read ys k ≡ false) → is_needed xs o ≡ false → is_needed ys o ≡ false
 less_needed xs ys o h = by (only_writes o.act)

@@ -1,4 +1,4 @@
--- Code may stand in its own place, and what may stand for code that may stand for other code may stand for that.
+-- Code may replace itself, and replacement is transitive.
 use Rattle.std.proofs.Common.{◌≡◌, ℕ, ◌+◌, ◌<◌, ◌≤◌, ◌^◌, zero, suc, List, [], ◌∷◌, length, take, slice_index, refl, sym, ap, ◌∙◌, subst, arith}
 use Rattle.lucid_base.specs.declared.event.Event.{Event}
 use Rattle.lucid_code.specs.Inputs.{IsInput}
@@ -23,7 +23,7 @@ taken_at (suc n) k [] h = refl
 taken_at (suc n) zero (x ∷ xs) h = refl
 taken_at (suc n) (suc k) (x ∷ xs) h = taken_at n k xs (omega arith)
 
--- What is an input of code is one of code with the same inputs.
+-- An input of code is one of code with the same inputs.
 pub stays_input : (code new : CodeParts) (me : ℕ) (event : Event) → new.inputs ≡ code.inputs → input_widths new ≡ input_widths code → IsInput code me event → IsInput new me event
 stays_input code new me event inputs widths input = record {
   switch = input.switch;

@@ -1,4 +1,4 @@
--- One operation of valid code whose operands are replaced by what they were moved from.
+-- One operation of valid code whose operands are replaced by the sources of their moves.
 use Rattle.std.proofs.Common.{◌≡◌, ℕ, ◌+◌, ◌*◌, ◌≤◌, List, [], ◌∷◌, ◌++◌, Bool, true, false, ◌&&◌, ◌⊎◌, Option, None, Some, inl, inr, if◌then◌else◌, map, length, slice_index, nat_eq, nat_lt, nat_le, refl, sym, ap, ap₂, subst, ◌∙◌, ⊎_elim, true≢false, arith}
 use Rattle.std.specs.List.{list_any, filter, flat_map}
 use Rattle.std.specs.Option.{option_and_then, option_map, option_map_or, option_to_list}
@@ -47,7 +47,7 @@ includes_in guard ls e l i =
 pub includes_hold : (f : Fields) (guard ls : List Literal) → includes guard ls ≡ true → all_hold f guard ≡ true → all_hold f ls ≡ true
 includes_hold f guard ls e h = all_from (holds f) ls (λ l i. all_in (holds f) guard h l (includes_in guard ls e l i))
 
--- ---- what an operand is moved from
+-- ---- the source of an operand
 
 pub only_in : {X : Type 0} (xs : List X) (x : X) → only xs ≡ Some x → In x xs
 only_in [] x e = absurd (cc)
@@ -92,7 +92,7 @@ moved_gives ops guard k a e = by (only_writer ops k) refl e
         let s = seen_gives guard w a m in
         record { writer = w; there = one.0; moves = moves_it w.act a k s.1 one.1; under = s.0 }
 
--- a field stays, or what it is moved from is put in
+-- a field stays, or its source replaces it
 looks : (put : Putting) (ops : List Op) (guard : List Literal) (k : ℕ) (P : Operand → Type 0) → P (Field k) → ((a : Operand) → Moved ops guard k a → P (put k a)) → P (looked put ops guard (Field k))
 looks put ops guard k P stays goes = by (moved_from ops guard k) refl
   where
@@ -152,7 +152,7 @@ limits_with h (act.Touch array index get get_arg set set_arg to) = refl
 limits_with h (act.Gen slot event args delay to) = ap (λ n. nat_lt slot 8 && nat_le n 8) (length-map args h)
 limits_with h (act.Say slot form args) = ap (λ n. nat_lt slot 8 && nat_le n 8) (length-map args h)
 
--- ---- what a pass has to show of what it puts in, and of what becomes of an act
+-- ---- the obligations of a pass for its replacements, and for the result of an act
 
 pub record Sound (widths : List ℕ) (put : Putting) (settle : Act → Act) : Type 0 where
   pub same : (k : ℕ) (a : Operand) (f : Fields) → FieldsFit widths f → slice_index f k ≡ low_of (slice_index widths k) (value f a) → value f (put k a) ≡ slice_index f k
@@ -184,7 +184,7 @@ module _ (widths : List ℕ) (put : Putting) (settle : Act → Act) (sound : Sou
   own : Blind o o
   own = facts.own o (in_right o front (o ∷ back) (inl refl))
 
-  -- who writes what the operation reads stands before it
+  -- the writer of an operation's read precedes it
   in_front : (w : Op) (k : ℕ) → In w (front ++ o ∷ back) → written_by w.act ≡ Some k → In k (read_by o) → In w front
   in_front w k i e r = ⊎_elim (λ j. j) (λ j. absurd (behind j)) (in_either w front (o ∷ back) i)
     where
@@ -230,7 +230,7 @@ module _ (widths : List ℕ) (put : Putting) (settle : Act → Act) (sound : Sou
       ∙ ap (run widths back) (op_same there (run_fits widths front m fit) (fresh_after widths nodes front m (λ q i. facts.own q (in_left q front (o ∷ back) i)) parts.first))
       ∙ sym (run_two front (o ∷ back) m)
 
-  -- ---- and it may stand there
+  -- ---- and it may replace the code
 
   written_same : written_by p.act ≡ written_by o.act
   written_same = sound.written (with_operands h o.act) ∙ written_with h o.act
@@ -313,7 +313,7 @@ module _ (widths : List ℕ) (put : Putting) (settle : Act → Act) (sound : Sou
       two_keys (z ∷ xs) f b x w (inr i) (inl j) k r e = absurd ((f.0 x i).blind k (subst (λ (q : Op). In k (read_by q)) j r) e)
       two_keys (z ∷ xs) f b x w (inr i) (inr j) k r e = two_keys xs f.1 (λ q m. b q (inr m)) x w i j k r e
 
-      -- the writer that is looked through stands behind one whose field it reads
+      -- the writer that is looked through follows one whose field it reads
       seen_key : (x : Op) → In x front → (k : ℕ) → (s : Seen k) → written_by x.act ≡ Some k → key_of x ≤ key_of s.writer
       seen_key x i k s e = two_keys front parts.first (λ q j. facts.own q (in_left q front (o ∷ back) j)) x s.writer i s.first k s.reads e
 

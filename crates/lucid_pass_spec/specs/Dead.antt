@@ -1,4 +1,4 @@
--- What `Dead` makes of code: what writes a field that no operation reads goes, until there are none.
+-- The result of `Dead`: the writers of fields that no operation reads are removed, until there are none.
 use Rattle.std.specs.Prelude.{◌≡◌, ℕ, zero, suc, IsTrue, false, List, [], ◌∷◌, ◌++◌, Bool, true, if◌then◌else◌, nat_eq}
 use Rattle.std.specs.List.{list_all, list_any}
 use Rattle.std.specs.Option.{option_map_or}
@@ -19,7 +19,7 @@ is_needed ops o = option_map_or (is_read ops) (only_writes o.act) true
 abbrev pub kept_if : Bool → Op → List Op → List Op
 kept_if b o ops = if b then o ∷ ops else ops
 
--- From the back, where each operation is kept that is needed behind it: in valid code what an operation writes is read only behind it.
+-- From the back, where each operation is kept that later ones need: in valid code only later operations read a written field.
 abbrev pub live : List Op → List Op
 live [] = []
 live (o ∷ ops) = kept_if (is_needed (live ops) o) o (live ops)
@@ -31,13 +31,13 @@ alive code = record code { ops = live code.ops }
 abbrev pub NoneDead : List Op → Type 0
 NoneDead ops = IsTrue (list_all (is_needed ops) ops)
 
--- So many go, one after another, each of which isn't needed in the list as it then stands.
+-- This many are removed, one after another, each of which isn't needed in the list at that point.
 abbrev pub Strips : ℕ → List Op → List Op → Type 0
 Strips zero xs ys = xs ≡ ys
 Strips (suc n) xs ys = (front : List Op) × (o : Op) × (back : List Op) × (xs ≡ front ++ o ∷ back) × (is_needed xs o ≡ false) × Strips n (front ++ back) ys
 
--- What is left, of valid code: none can go, it comes about by operations that go one after another, and in whatever order they go until
--- none can, the same is left.
+-- The remaining operations of valid code: none can be removed, they remain after removing single operations, and every order of removal
+-- leaves the same.
 pub record IsLeft (ops left : List Op) : Type 0 where
   pub none : NoneDead left
   pub strips : (n : ℕ) × Strips n ops left

@@ -1,4 +1,4 @@
--- What `Direct` makes of code: a test of a comparison's field becomes a test of the field that is compared.
+-- The result of `Direct`: a test of a comparison's field becomes a test of the compared field.
 use Rattle.std.specs.Prelude.{ℕ, ◌^◌, List, [], ◌∷◌, Option, None, Some, Bool, true, not, ◌&&◌, ◌||◌, if◌then◌else◌, map, nat_eq, nat_lt, slice_index}
 use Rattle.std.specs.List.{filter, list_all, list_any}
 use Rattle.std.specs.Option.{option_and_then, option_map_or}
@@ -22,11 +22,12 @@ tested widths _ = None
 abbrev pub tests : ℕ → Op → Bool
 tests c o = list_any (λ (l : Literal). nat_eq l.field c) o.guard
 
--- In the guard of each operation that tests field c stand all these literals.
+-- The guard of each operation that tests field c has all these literals.
 abbrev pub covers : List Op → ℕ → List Literal → Bool
 covers ops c guard = list_all (λ o. not (tests c o) || includes o.guard guard) ops
 
--- What field c stands for: just one operation writes it, which compares a field, and whose guard stands in that of each that tests c.
+-- The test that field c represents: just one operation writes it, which compares a field, and whose guard is part of that of each that
+-- tests c.
 abbrev pub direct_from : List ℕ → List Op → ℕ → Option Test
 direct_from widths ops c = option_and_then (λ w. if covers ops c w.guard then tested widths w.act else None) (only_writer ops c)
 
@@ -45,7 +46,7 @@ without_repeats before (l ∷ ls) = if list_any (same_literal l) before then wit
 abbrev pub direct_op : (ℕ → Option Test) → Op → Op
 direct_op d o = record o { guard = without_repeats [] (map (direct_literal d) o.guard) }
 
--- What writes a field that stands for a test stays only if an operation reads the field.
+-- The writer of a field that represents a test stays only if an operation reads the field.
 abbrev pub still_needed : (ℕ → Option Test) → List Op → Op → Bool
 still_needed d ops o = option_map_or (λ k. option_map_or (λ t. is_read ops k) (d k) true) (written_by o.act) true
 

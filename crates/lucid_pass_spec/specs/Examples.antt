@@ -194,7 +194,7 @@ pub record PassExamples : Type 0 where
   pub copies_of_cases : changed (copy_op cases_widths) [] cases_then_fold ≡ cases_then_copies
   pub dead_of_cases : live cases_then_copies ≡ cases_then_dead
   pub direct_of_cases : direct_ops cases_widths cases_then_dead ≡ cases_then_direct
-  -- `Fold`: 300 is 44 in 8 bits, and 44 + 250 is 38; what it becomes is a move, which the next reader looks through
+  -- `Fold`: 300 is 44 in 8 bits, and 44 + 250 is 38; the result is a move, which the next reader looks through
   pub folds_on : fold (bare (act.Move (fixed 300) 4) ∷ bare (act.Bin Add 8 (field 4) (fixed 250) 6) ∷ reader [] 6 ∷ [])
       ≡ bare (act.Move (fixed 300) 4) ∷ bare (act.Move (fixed 38) 6) ∷ bare (act.Say 0 3 (fixed 38 ∷ [])) ∷ []
   pub folds_comparison : fold (bare (act.Cmp Lt 8 (fixed 256) (fixed 1) 5) ∷ []) ≡ bare (act.Move (fixed 1) 5) ∷ []
@@ -208,10 +208,10 @@ pub record PassExamples : Type 0 where
   pub copies_on : copy (bare (act.Move (field 3) 7) ∷ reader [] 7 ∷ []) ≡ bare (act.Move (field 3) 7) ∷ reader [] 3 ∷ []
   pub narrow_stays : copy (bare (act.Move (field 3) 4) ∷ reader [] 4 ∷ []) ≡ bare (act.Move (field 3) 4) ∷ reader [] 4 ∷ []
   pub number_stays : copy (bare (act.Move (fixed 3) 4) ∷ reader [] 4 ∷ []) ≡ bare (act.Move (fixed 3) 4) ∷ reader [] 4 ∷ []
-  -- `Dead`: with what reads it goes what it reads; a call of an array stays
+  -- `Dead`: with the reader of a field its writer is removed; a call of an array stays
   pub dead_with_reader : live (move 4 ∷ bare (act.Move (field 4) 6) ∷ reader [] 3 ∷ []) ≡ reader [] 3 ∷ []
   pub call_stays : live (bare (add (fixed 0) (fixed 1) (Some 7)) ∷ []) ≡ bare (add (fixed 0) (fixed 1) (Some 7)) ∷ []
-  -- `Direct`: the four literals of a comparison's field, and a literal that then stands twice
+  -- `Direct`: the four literals of a comparison's field, and a literal that then occurs twice
   pub says_it_holds : test (equals_seven ∷ reader (is 5 1 ∷ []) 3 ∷ reader (isnt 5 0 ∷ []) 3 ∷ []) ≡ reader (is 3 7 ∷ []) 3 ∷ reader (is 3 7 ∷ []) 3 ∷ []
   pub says_it_does_not : test (equals_seven ∷ reader (is 5 0 ∷ []) 3 ∷ reader (isnt 5 1 ∷ []) 3 ∷ []) ≡ reader (isnt 3 7 ∷ []) 3 ∷ reader (isnt 3 7 ∷ []) 3 ∷ []
   pub once_only : test (equals_seven ∷ reader (is 3 7 ∷ is 0 1 ∷ is 5 1 ∷ []) 3 ∷ []) ≡ reader (is 3 7 ∷ is 0 1 ∷ []) 3 ∷ []

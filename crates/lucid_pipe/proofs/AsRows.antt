@@ -84,7 +84,7 @@ module _ (code : CodeParts) where
   made_leaves s (t ∷ stages) cells zero p g keeps apart i = keeps.0.others (meets cells p) g (apart.0 g i)
   made_leaves s (t ∷ stages) cells (suc k) p g keeps apart i = made_leaves s stages cells k p g keeps.1 apart.1 i
 
-  -- stages that are apart from s see nothing of what s did
+  -- stages that are apart from s see no effect of s
   rows_stay : (s : StageCode) (stages : List StageCode) (slots : List (Option Packet)) (cells : Cells) (p : Packet) → KeepsToItsArrays code s → AllByRecursion (IsApart s) stages →
       rows_of stages slots (stage code (meets cells p) s).cells ≡ rows_of stages slots cells
   rows_stay s [] slots cells p keeps apart = refl

@@ -1,4 +1,4 @@
--- What runs on registers is what runs on fields.
+-- A run on registers is a run on fields.
 use Rattle.std.proofs.Common.{◌≡◌, ℕ, ◌<◌, List, [], ◌∷◌, Bool, true, not, ◌&&◌, if◌then◌else◌, Option, None, Some, is_some, IsSome, length, nat_eq, slice_get, slice_index, slice_index_or, slice_set, refl, sym, ap, ap₂, ◌∙◌, arith}
 use Rattle.std.specs.List.{fold}
 use Rattle.std.specs.Option.{option_map, option_map_or}
@@ -41,7 +41,7 @@ use Rattle.lucid_pipe.proofs.Carried.{written_carried, written_same}
 use Rattle.lucid_pipe.proofs.Fields.{field_held, field_put, put_within}
 use Rattle.lucid_pipe.proofs.Together.{stage_at}
 
--- What registers stand for.
+-- The fields of registers.
 abbrev seen : CodeParts → Machine → Machine
 seen code m = machine code m.fields m.cells m.outs
 

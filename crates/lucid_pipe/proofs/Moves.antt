@@ -1,4 +1,4 @@
--- What a move of a packet leaves of a pipe.
+-- The pipe after a move of a packet.
 use Rattle.std.proofs.Common.{◌≡◌, ℕ, zero, suc, ◌+◌, ◌<◌, ◌≤◌, List, [], ◌∷◌, Option, None, Some, IfSome, if◌then◌else◌, Bool, true, false, not, cond, length, map, nat_eq, nat_lt, replicate, slice_get, slice_set, slice_index_or, refl, sym, ap, ap₂, subst, ◌∙◌, arith}
 use Rattle.std.specs.List.{AllByRecursion, cons_option, filter, filter_map, range_with_len}
 use Rattle.std.specs.Option.{option_map}
@@ -69,7 +69,7 @@ module _ (placed : PlacedParts) (cells later : List (List ℕ)) (blocks : List B
   out_is : Runs → (if nat_lt (k + 1) (length slots) then None else Some (passed_of y)) ≡ comes_out (pipe_of placed cells blocks slots) k (packet_of placed.code x)
   out_is r = ap₂ (λ (n : ℕ) (p : Packet). if nat_lt (k + 1) n then None else Some (told p)) (sym (length-map slots (in_slot placed.code blocks))) r.packet
 
-  -- as the code tells it, once the block was handed on
+  -- as the code returns it, once the block was passed on
   pub told_so : Runs → (count : ℕ) (answer : Option ℕ) → count ≡ length (handed slots k) → answer ≡ (if nat_lt (k + 1) count then None else Some b) →
       told_by (slice_set blocks b y) answer ≡ (if nat_lt (k + 1) (length slots) then None else Some (passed_of y))
   told_so r count answer long is =
@@ -147,7 +147,7 @@ module _ (placed : PlacedParts) (cells : List (List ℕ)) (blocks : List Block) 
         ∙ entered_view placed.code blocks b y below here f.0 (sym r.block_is) (sym (ap (λ ss. all_differ (blocks_of ss)) f.1) ∙ r.pipe.apart)
         ∙ ap₂ (λ (ss : List Slot) (q : Packet). slice_set (map (in_slot placed.code blocks) ss) 0 (Some q)) (sym f.1) r.packet
 
-    -- what a pipe with these slots settles to
+    -- the settled state of a pipe with these slots
     pub enters_settled : Enters p → (event : Event) (now me : ℕ) → p ≡ entering placed.code event now me → block_at slots 0 ≡ None → MovesKeep placed →
         settled (pipe_of placed cells (slice_set blocks b y) taken_first) ≡ with_pass placed event now me (settled (pipe_of placed cells blocks slots))
     enters_settled r event now me is free law =

@@ -115,7 +115,7 @@ part_length n from part registers own fits =
     )
 
 module _ (code : CodeParts) where
-  -- Blocks of so many registers each are blocks for packets of the code.
+  -- Blocks of this many registers each are blocks for packets of the code.
   pub are_blocks : (n : ℕ) (registers : List ℕ) (heads : List Head) → n ≡ length (registers_of code) → length registers ≡ length heads * n →
       AllByRecursion (IsBlock code) (blocks_of n registers heads)
   are_blocks n registers [] each long = tt
@@ -208,7 +208,7 @@ module _ (placed : PlacedParts) (n : ℕ) (registers : List ℕ) (heads : List H
           packet_of placed.code (block_with h part) ≡ left_by (machine placed.code part now h.sent) (packet_of placed.code was)
       packet_same e t m = cc
 
--- What is told of the packet of a block is told of its head.
+-- The record of a block's packet is that of its head.
 pub head_told : (n : ℕ) (registers : List ℕ) (heads : List Head) (blocks : List Block) (b : ℕ) (h : Head) (outs : List Out) → blocks_of n registers heads ≡ blocks →
     b < length blocks → h ≡ slice_index_or heads b h → outs ≡ sent_by h.sent →
     option_map passed_of (slice_get blocks b) ≡ Some (record { event = h.event; now = h.tick; me = h.me; outs = outs })

@@ -1,4 +1,4 @@
--- Moves in any order come to whole passes.
+-- Moves in any order have the effect of whole passes.
 use Rattle.std.proofs.Common.{◌≡◌, ℕ, zero, suc, ◌+◌, List, [], ◌∷◌, ◌++◌, Option, None, Some, length, replicate, refl, sym, ap, ap₂, ◌∙◌, append_assoc}
 use Rattle.std.specs.List.{fold}
 use Rattle.std.proofs.lemmas.List.{length-set}

@@ -1,4 +1,4 @@
--- Lists of moves, in any order, and the whole passes that they come to.
+-- Lists of moves, in any order, and the whole passes with the same effect.
 use Rattle.std.specs.Prelude.{ℕ, ◌+◌, List, [], ◌∷◌, ◌++◌, Option, None, Some}
 use Rattle.std.specs.List.{fold}
 use Rattle.lucid_base.specs.Cells.{zero_cells}
@@ -15,8 +15,8 @@ pub data Move : Type 0 where
   enter : Event → ℕ → ℕ → Move
   go : ℕ → Move
 
--- How far moves came: the pipe; what the packets that left had sent out, in the order in which they left; and what whole passes of the
--- events that entered come to, one after another.
+-- The state after some moves: the pipe; the outs of the packets that left, in the order in which they left; and the result of whole
+-- passes of the events that entered, one after another.
 pub record Flight : Type 0 where
   pub pipe : PipeParts
   pub left : List (List Out)
@@ -25,7 +25,7 @@ pub record Flight : Type 0 where
 abbrev pub no_moves : PlacedParts → Flight
 no_moves placed = record { pipe = empty_pipe placed; left = []; passes = record { cells = zero_cells placed.code.arrays; outs = [] } }
 
--- what was sent out by the packet that left, if one did
+-- the outs of the packet that left, if one did
 abbrev pub outs_left : Option Passed → List (List Out)
 outs_left None = []
 outs_left (Some passed) = passed.outs ∷ []

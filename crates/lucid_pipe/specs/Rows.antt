@@ -26,13 +26,13 @@ abbrev pub owns : List StageCode → List (List ℕ) → List (List (List ℕ))
 owns [] cells = []
 owns (s ∷ stages) cells = own s cells ∷ owns stages cells
 
--- What stage k makes of cells and a packet.
+-- The effect of stage k on cells and a packet.
 abbrev pub steps_of : CodeParts → List StageCode → Steps (List (List ℕ)) Packet
 steps_of code stages k cells p =
     let m = runs_stage code stages cells k p in
     (m.cells, left_by m p)
 
--- Each stage's own cells, and what is in its slot.
+-- Each stage's own cells, and the content of its slot.
 abbrev pub rows_of : List StageCode → List (Option Packet) → List (List ℕ) → List (Row (List (List ℕ)) Packet)
 rows_of [] slots cells = []
 rows_of (s ∷ stages) [] cells = []
@@ -41,7 +41,7 @@ rows_of (s ∷ stages) (slot ∷ slots) cells = row (own s cells) slot ∷ rows_
 abbrev pub pipe_rows : PipeParts → List (Row (List (List ℕ)) Packet)
 pipe_rows pipe = rows_of pipe.placed.stages pipe.slots pipe.cells
 
--- The cells of array g: those of the stage in which it stands, and all 0 where it stands in none.
+-- The cells of array g: those of its stage, and all 0 if it is in none.
 abbrev pub array_cells : List ArrayDef → List StageCode → List (List (List ℕ)) → ℕ → List ℕ
 array_cells arrays stages cells g = option_map_or (λ k. row_of (slice_index_or cells k []) g) (stage_of stages g) (row_of (zero_cells arrays) g)
 

@@ -1,4 +1,4 @@
--- What a look in the middle of flight sees.
+-- The result of a look in the middle of flight.
 use Rattle.std.proofs.Common.{◌≡◌, ℕ, zero, suc, ◌+◌, ◌≤◌, List, [], ◌∷◌, ◌++◌, length, take, get_or, Option, None, Some, refl, sym, ◌∙◌, ap, subst, arith, length-append}
 use Rattle.std.proofs.lemmas.List.{append-nil, take_all, take_at}
 use Rattle.lucid_pipe_laws.specs.Rows.{Row, row, Steps, after_first, whole, settled, settled_row}
@@ -11,7 +11,7 @@ take-take (suc n) (suc m) [] le = refl
 take-take {P = P} (suc n) (suc m) (p ∷ ps) le = ap (λ (l : List P). p ∷ l) (take-take n m ps (omega (arith, le)))
 
 module _ {C P : Type 0} where
-  -- the first stage's cells, and the other stages' over what became of the packets there
+  -- the first stage's cells, and the other stages' over the packets after it
   pub after_first_stage : (step : Steps C P) (c : C) (cs : List C) (ps : List P) → after step (c ∷ cs) ps ≡ cells_after (step 0) c ps ∷ after (after_first step) cs (outs_of (step 0) c ps)
   after_first_stage step c cs [] = refl
   after_first_stage step c cs (p ∷ ps) = after_first_stage step (step 0 c p).0 (whole (after_first step) cs (step 0 c p).1).0 ps

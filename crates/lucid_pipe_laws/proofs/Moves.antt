@@ -56,7 +56,7 @@ module _ {C P : Type 0} where
   backs_free step (suc k) [] = refl
   backs_free step (suc k) (r ∷ rs) = backs_free (after_first step) k rs
 
-  -- where no packet is and none stands ahead, nothing moves
+  -- if no packet is there and none is ahead, nothing moves
   goes_none_at : (step : Steps C P) (k : ℕ) (rows : List (Row C P)) → option_and_then (λ r. r.slot) (slice_get rows k) ≡ None → option_and_then (λ r. r.slot) (slice_get rows (suc k)) ≡ None →
       goes step k rows ≡ (rows, None)
   goes_none_at step k [] here next = refl

@@ -1,4 +1,4 @@
--- Where packets stand in a picture.
+-- The positions of packets in a picture.
 use Rattle.std.proofs.Common.{◌≡◌, ℕ, zero, suc, ◌<◌, List, [], ◌∷◌, ◌++◌, length, take, get_or, Option, None, Some, is_some, nat_lt, true, refl, sym, ◌∙◌, ap, subst, arith, length-append}
 use Rattle.std.proofs.lemmas.List.{get_or-take, get_or_at}
 use Rattle.lucid_pipe_laws.proofs.LooksLaw.{after_first_stage, take-outs_of, take-take, after_none}

@@ -48,7 +48,7 @@ module _ {C P : Type 0} where
       ∙ ap (λ (l : List C). (passed step (ran (step 0) c run t ∷ l) (run t)).0) (settles_to (after_first step) cs (next (step 0) c run) t)
       ∙ ap (λ (l : List C × Option P). l.0) (passes step (c ∷ cs) run t)
 
-  -- entering after the move is moving with what enters
+  -- entering after the move is moving with the entering packet
   enters_moved : (step : Steps C P) (cs : List C) (run : ℕ → Option P) (t k : ℕ) (came : Option P) → length cs ≡ suc k →
       (let rows = picture step cs run t in (entered_by came (advance step None rows).0 ≡ (advance step came rows).0) × ((advance step None rows).1 ≡ (advance step came rows).1))
   enters_moved step [] run t k came long = cc
@@ -70,7 +70,7 @@ module _ {C P : Type 0} where
   picture-start step (c ∷ cs) run = ap (λ (l : List (Row C P)). row c None ∷ l) (picture-start (after_first step) cs (next (step 0) c run))
 
 module _ {P R : Type 0} where
-  -- what is late, made into something else
+  -- a late packet, turned into something else
   pub late_done : (done : P → R) (es : ℕ → Option P) (g : ℕ → Option R) (t k : ℕ) → ((e : ℕ) → option_map done (es e) ≡ g e) → option_map done (late es t k) ≡ late g t k
   late_done done es g t zero same = same t
   late_done done es g zero (suc k) same = refl

@@ -1,9 +1,9 @@
--- A pipe as the picture of what entered it and of how many packets passed each stage.
+-- A pipe as the picture of the packets that entered it and of the number of packets that passed each stage.
 use Rattle.std.specs.Prelude.{◌≡◌, ℕ, ◌+◌, ◌<◌, List, [], ◌∷◌, ◌++◌, length, take, Option, None, Some, slice_get, slice_set, slice_index}
 use Rattle.std.proofs.Common.{suc, get_or}
 use Rattle.lucid_pipe_laws.specs.Rows.{Row, row, Steps, after_first, whole, settled}
 
--- one stage's cells after packets that came one after another, and what became of these
+-- one stage's cells after packets that came one after another, and the packets after it
 abbrev pub cells_after : {C P : Type 0} → (C → P → C × P) → C → List P → C
 cells_after f c [] = c
 cells_after f c (p ∷ ps) = cells_after f (f c p).0 ps

@@ -1,4 +1,4 @@
--- What the picture says of places, and of what leaves.
+-- The places and the leaving packets of a picture.
 use Rattle.std.specs.Prelude.{◌≡◌, ℕ, ◌<◌, List, length, take, None, Some, is_some, nat_lt}
 use Rattle.std.proofs.Common.{zero, suc, get_or}
 use Rattle.lucid_pipe_laws.specs.Rows.{Row, row, Steps, whole}
@@ -9,12 +9,12 @@ abbrev pub came : ℕ → List ℕ → ℕ → ℕ
 came entered ms zero = entered
 came entered ms (suc k) = get_or ms k 0
 
--- A packet stands before stage k where one more came than passed.
+-- A packet is in front of stage k if one more came than passed.
 abbrev pub Places : {C P : Type 0} → Steps C P → Type 0
 Places {C} {P} step = (cs : List C) (ins : List P) (ms : List ℕ) (rows : List (Row C P)) (k : ℕ) (d : Row C P) → IsPicture step cs ins ms rows → k < length rows →
     is_some (get_or rows k d).slot ≡ nat_lt (get_or ms k 0) (came (length ins) ms k)
 
--- What leaves the last stage is what a whole pass makes of it, over the cells after those that left before.
+-- The packet that leaves the last stage is the result of a whole pass, over the cells after those that left before.
 abbrev pub Leaves : {C P : Type 0} → Steps C P → Type 0
 Leaves {C} {P} step = (cs : List C) (ins : List P) (ms : List ℕ) (rows : List (Row C P)) (k : ℕ) (c : C) (p e : P) → IsPicture step cs ins ms rows → get_or rows k (row c None) ≡ row c (Some p) → suc k ≡ length rows →
     (step k c p).1 ≡ (whole step (after step cs (take (get_or ms k 0) ins)) (get_or ins (get_or ms k 0) e)).1

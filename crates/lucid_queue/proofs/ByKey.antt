@@ -1,4 +1,4 @@
--- What waits at each switch stays in the order of keys.
+-- The queue of each switch stays in the order of keys.
 use Rattle.std.proofs.Common.{◌≡◌, ℕ, zero, suc, ◌<◌, List, [], ◌∷◌, ◌++◌, length, slice_index_or, slice_set, Bool, true, false, if◌then◌else◌, not, nat_lt, sym, subst, arith}
 use Rattle.std.specs.List.{AllByRecursion}
 use Rattle.std.specs.List.Sorted.{IsStrictlySortedBy}

@@ -1,4 +1,4 @@
--- What waits is in order, so the first that is ready has the least key.
+-- The queue is in order, so the first ready event has the least key.
 use Rattle.std.proofs.Common.{◌≡◌, ℕ, suc, ◌<◌, List, [], ◌∷◌, ◌++◌, map, Option, None, Some, IfSome, Bool, true, false, cond, not, ◌&&◌, nat_eq, nat_lt, refl, sym, ◌∙◌, ap, subst, arith}
 use Rattle.std.specs.List.{All, AllByRecursion, find}
 use Rattle.std.specs.List.Sorted.{IsStrictlySortedBy}

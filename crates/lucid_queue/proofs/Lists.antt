@@ -1,4 +1,4 @@
--- What is found in a list that begins with another, which places it has, and how long it becomes.
+-- Members of a list that begins with another, its places, and its length.
 use Rattle.std.proofs.Common.{◌≡◌, ℕ, suc, ◌<◌, List, [], ◌∷◌, ◌++◌, length, None, Some, Bool, true, false, ◌||◌, if◌then◌else◌, cond, refl, ap, arith}
 use Rattle.std.specs.List.{find, list_any}
 use Rattle.lucid_queue.specs.Waiting.{put_in, without_first}

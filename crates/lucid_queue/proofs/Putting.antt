@@ -1,4 +1,4 @@
--- What is put into its place at its switch is put into its place among all.
+-- An event that is inserted at its place at its switch is at its place among all.
 use Rattle.std.proofs.Common.{◌≡◌, ℕ, zero, suc, ◌+◌, ◌<◌, ◌≤◌, ◌⊎◌, inl, inr, List, [], ◌∷◌, ◌++◌, map, length, slice_index_or, slice_set, Option, Some, is_some, Bool, true, false, ◌||◌, if◌then◌else◌, cond, is_eq, refl, sym, ◌∙◌, ap, subst, arith}
 use Rattle.std.specs.BTreeMap.{insert_entry}
 use Rattle.std.specs.List.{list_any}
@@ -15,7 +15,7 @@ use Rattle.lucid_queue.specs.declared.pending.PendKey.{PendKey}
 use Rattle.lucid_queue.specs.declared.pending.Pending.{Pending}
 use Rattle.lucid_queue.proofs.Lists.{any_behind, none_within}
 
--- what the map says of a key
+-- the answer of the map for a key
 pub taken : (key : PendKey) (es : Entries) → is_some (lookup (λ q. is_eq (key_cmp key q)) es) ≡ list_any (has_key key) es
 taken key [] = refl
 taken key (e ∷ es) = at (is_eq (key_cmp key e.0)) (taken key es)

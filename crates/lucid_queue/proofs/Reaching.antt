@@ -1,4 +1,4 @@
--- One more switch, at which nothing waits, changes nothing of what waits.
+-- One more switch, with an empty queue, changes nothing of the queue.
 use Rattle.std.proofs.Common.{◌≡◌, ℕ, suc, List, [], ◌∷◌, ◌++◌, map, refl, ap}
 use Rattle.lucid_queue.specs.Kept.{Entries, all_from, pending_at}
 use Rattle.lucid_queue.specs.declared.pending.Pending.{Pending}

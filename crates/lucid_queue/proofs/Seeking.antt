@@ -1,4 +1,4 @@
--- The first event of a switch that is ready stands at the front of what waits there.
+-- The first ready event of a switch is at the front of its queue.
 use Rattle.std.proofs.Common.{◌≡◌, ℕ, zero, suc, ◌+◌, ◌<◌, ◌≤◌, List, [], ◌∷◌, ◌++◌, map, length, slice_index_or, slice_set, Option, None, Some, Bool, true, false, if◌then◌else◌, cond, not, ◌&&◌, nat_eq, nat_lt, option_map, refl, sym, ◌∙◌, ap, subst, arith}
 use Rattle.std.specs.List.{find, AllByRecursion}
 use Rattle.std.specs.List.Sorted.{IsStrictlySortedBy}

@@ -8,15 +8,15 @@ use Rattle.lucid_queue.specs.Order.{key_cmp}
 use Rattle.lucid_queue.specs.declared.pending.PendKey.{PendKey}
 use Rattle.lucid_queue.specs.declared.pending.Pending.{Pending}
 
--- an entry of what waits at the switch
+-- an entry of the queue of the switch
 abbrev pub pending_at : ℕ → PendKey × Event → Pending
 pending_at switch e = record { key = e.0; switch = switch; event = e.1 }
 
--- what waits at one switch
+-- the queue of one switch
 abbrev pub Entries : Type 0
 Entries = List (PendKey × Event)
 
--- what waits at the switches from this one on
+-- the queues of the switches from this one on
 abbrev pub all_from : ℕ → List Entries → List Pending
 all_from switch [] = []
 all_from switch (es ∷ others) = map (pending_at switch) es ++ all_from (suc switch) others

@@ -1,4 +1,4 @@
--- The order in which pending events stand: by their switches, and at one switch by their keys.
+-- The order of pending events: by their switches, and at one switch by their keys.
 use Rattle.std.specs.Prelude.{Bool}
 use Rattle.std.specs.Cmp.{IsTotalOrder, then_total, on_total, nat_cmp_total, bool_cmp_total}
 use Rattle.std.specs.Ordering.{nat_cmp, bool_cmp, ordering_then, is_lt, is_eq}
@@ -14,7 +14,7 @@ key_cmp k q =
 abbrev pub pending_cmp : Pending → Pending → Ordering
 pending_cmp p q = ordering_then (nat_cmp p.switch q.switch) (key_cmp p.key q.key)
 
--- p stands before q
+-- p precedes q
 abbrev pub is_before : Pending → Pending → Bool
 is_before p q = is_lt (pending_cmp p q)
 

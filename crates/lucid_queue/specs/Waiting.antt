@@ -1,8 +1,8 @@
--- The list of what waits.
+-- The list of pending events.
 use Rattle.std.specs.Prelude.{ℕ, List, [], ◌∷◌, Bool, if◌then◌else◌, nat_eq, nat_lt, not, ◌&&◌}
 use Rattle.lucid_queue.specs.declared.pending.Pending.{Pending}
 
--- x put in its place
+-- x inserted at its place
 abbrev pub put_in : {X : Type 0} → (X → X → Bool) → X → List X → List X
 put_in before x [] = x ∷ []
 put_in before x (y ∷ ys) = if before x y then x ∷ y ∷ ys else y ∷ put_in before x ys

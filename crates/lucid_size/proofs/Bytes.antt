@@ -1,4 +1,4 @@
--- What is written of a step is the bytes of its pieces.
+-- The text of a step is the bytes of its pieces.
 use Rattle.std.proofs.Common.{◌≡◌, ℕ, zero, suc, ◌+◌, ◌-◌, ◌<◌, ◌≤◌, List, [], ◌∷◌, ◌++◌, length, get_or, take, drop, refl, sym, ◌∙◌, ap, arith, append_assoc}
 use Rattle.std.specs.Prelude.{slice_range, codes, unwrap_or}
 use Rattle.std.specs.List.{repeat}

@@ -132,7 +132,7 @@ module _ (outside : List Step) (bodies : List (List Step)) where
       let whole : take at found ≡ found = Rattle.std.proofs.lemmas.List.take_all at found end in
       record { used = s.used; all = closed found s.outer (subst (All (HasUses bodies found)) whole s.inner) }
 
--- ---- the sum over what is found is no more than that over all
+-- ---- the sum over the found instances is no more than that over all
 
 removed : (ys : List Instance) (x : Instance) → Contains ys x → (front bs : List Instance) × (ys ≡ front ++ x ∷ bs)
 removed [] x has = absurd (let e = has.1 in omega arith)

@@ -13,7 +13,7 @@ use Rattle.lucid_size.specs.Templates.{Cut, templates}
 use Rattle.lucid_size.proofs.Read.{expansion_reads}
 use Rattle.lucid_size.proofs.Unique.{one_expansion, same_ok}
 
--- what is known of a result
+-- facts of a result
 pub record Sound {T : Type 0} (text : List ℕ) (ts : List Token) (items : T → List ℕ) (r : Result T SizeError) : Type 0 where
   pub ok : IfOk r (λ o. ExpandsTo text ts (items o))
   pub small : IfOk r (λ o. length (items o) ≤ most)

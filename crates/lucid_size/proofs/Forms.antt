@@ -1,4 +1,4 @@
--- What becomes of tokens is read as the definition says, step by step.
+-- The replacements of tokens are read as the definition says, step by step.
 use Rattle.std.proofs.Common.{◌≡◌, ℕ, zero, suc, ◌<◌, ◌^◌, Bool, true, false, ◌&&◌, ◌||◌, List, [], ◌∷◌, ◌++◌, length, take, drop, Option, Some, None, refl, sym, ◌∙◌, ap, subst, arith, append_assoc, length-append, if◌then◌else◌}
 use Rattle.std.specs.Prelude.{◌==◌, slice_range, codes, decimal, unwrap_or}
 use Rattle.std.specs.List.{repeat}
@@ -40,19 +40,19 @@ same_head (a ∷ []) (b ∷ c ∷ t) h none = absurd (cc)
 same_head (a ∷ d ∷ r) (b ∷ []) h none = absurd (cc)
 same_head (a ∷ d ∷ r) (b ∷ c ∷ t) h none = let same : a ≡ b = cc in subst (λ z. is_name_byte z ≡ false) same none
 
--- a name that stands before a text ends before one that is close to it
+-- a name that is followed by a text ends before one that is close to it
 no_name_close : (r t : List ℕ) → Close r t → NoName r → NoName t
 no_name_close r t (Close.Same _ _ h) none = same_head r t h none
 no_name_close r t (Close.Feed _ _) none = refl
 no_name_close r t (Close.First _ _ _ h) none = none
 
--- what a name is written in place of begins alike
+-- the replacements of a name begin alike
 close_name : (bytes r s : List ℕ) → 0 < length bytes → Close (bytes ++ r) (bytes ++ (95 ∷ s))
 close_name [] r s some = absurd (omega arith)
 close_name (a ∷ []) r s some = Close.First a r (95 ∷ s) (neither (a == 120) (a == 43 || a == 45))
 close_name (a ∷ b ∷ bytes) r s some = Close.Same (a ∷ b ∷ (bytes ++ r)) (a ∷ b ∷ (bytes ++ (95 ∷ s))) refl
 
--- where a name stands no byte of a name is next
+-- after a name no byte of a name is next
 name_ends : (bytes r : List ℕ) → Stands (record { bytes = bytes; kind = Some kinds.Name }) r → NoName r
 name_ends bytes [] stands = tt
 name_ends bytes (b ∷ r) stands = by_test (is_name_byte b) refl
@@ -63,11 +63,11 @@ name_ends bytes (b ∷ r) stands = by_test (is_name_byte b) refl
 
 -- ---- one step
 
--- what is read of pieces before the others
+-- the reading of pieces before the others
 abbrev pub Behind : List ℕ → ℕ → List Piece → Type 0
 Behind text at ps = AllRun ps × Close (drop at text) (joined ps [])
 
--- what a form asks of its token and of what is written behind it
+-- the conditions of a form on its token and on the text after it
 abbrev pub FormIs : List ℕ → ℕ → Token → List Piece → Form → Type 0
 FormIs text n t later forms.Kept = Close (drop t.span.end text) (joined later [])
 FormIs text n t later forms.Width = t.kind ≡ kinds.Sign signs.ShiftLeft
@@ -126,7 +126,7 @@ one_step text m n at t later (forms.Use k size) small led runs is =
 
 -- ---- all steps
 
--- the tokens of a part stand one behind another, up to this offset
+-- the tokens of a part follow one another, up to this offset
 abbrev pub LedTo : List ℕ → ℕ → List Token → ℕ → Type 0
 LedTo text at [] end = at ≡ end
 LedTo text at (t ∷ ts) end = Led text at t × LedTo text t.span.end ts end
@@ -201,7 +201,7 @@ form_is text names width n t ts end later w (Some form) small led is_w is_o clos
 form_is text names width n t ts end later true None small led is_w is_o close = width_is text width t ts is_w
 form_is text names width n t ts end later false None small led is_w is_o close = close refl
 
--- the steps of a part are read, before what is read behind them
+-- the steps of a part are read, before the rest
 pub steps_run : (text : List ℕ) (names : List (List ℕ)) (width : Width) (m n at more : ℕ) (ts : List Token) (end : ℕ) (tail : List Piece) → n < 2 ^ 64 → LedTo text at ts end → Behind text end tail →
     AllRun (pieces_of text (suc m) n (steps_from text names width at more ts) ++ tail)
     × (more ≡ 0 → Close (drop at text) (joined (pieces_of text (suc m) n (steps_from text names width at more ts) ++ tail) []))

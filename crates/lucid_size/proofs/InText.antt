@@ -1,4 +1,4 @@
--- The parts of a text stand in it, one behind another.
+-- The parts of a text are in it, one after another.
 use Rattle.std.proofs.Common.{◌≡◌, ℕ, zero, suc, ◌+◌, ◌-◌, ◌<◌, ◌≤◌, List, [], ◌∷◌, ◌++◌, length, get_or, take, drop, Some, None, Ok, refl, sym, ◌∙◌, ap, subst, ⊎_elim, arith}
 use Rattle.std.specs.Prelude.{All, map, slice_get, slice_range}
 use Rattle.std.proofs.str.Laws.{order}

@@ -1,4 +1,4 @@
--- An expansion has the bytes of what is outside its templates, and of each used instance.
+-- An expansion has the bytes of the text outside its templates, and of each used instance.
 use Rattle.std.proofs.Common.{◌≡◌, ℕ, zero, suc, ◌+◌, ◌<◌, ◌≤◌, List, [], ◌∷◌, ◌++◌, length, None, Ok, refl, sym, ◌∙◌, ap, subst, arith, length-append}
 use Rattle.std.specs.Prelude.{All, codes, map, slice_get}
 use Rattle.std.specs.List.{Contains, sum_by}
@@ -113,7 +113,7 @@ module _ (text : List ℕ) (ts : List Token) (m : ℕ) (names : List (List ℕ))
       ap length (first_bytes text ts m names widths i k x xs) ∙ length-append P (g ++ (I ++ W)) ∙ ap (λ n. length P + n) (length-append g (I ++ W) ∙ ap (λ n. length g + n) (length-append I W)) in
       omega (arith, s, inst, part, later, outer, whole)
 
--- ---- what is found is what is used
+-- ---- the found instances are the used ones
 
 pub found_widths : (text : List ℕ) (ts : List Token) (xs : List Template) (found : List Instance) → templates ts ≡ Ok xs → first_repeat [] (names_of text ts xs) ≡ None →
     AreUsed (outside_from text (names_of text ts xs) ts 0 xs) (map (body_steps text (names_of text ts xs) ts) xs) found → IsExpansion text ts (written text ts xs (widths_in found))
@@ -135,7 +135,7 @@ found_widths text ts xs found whole distinct are =
       pieces_are = refl;
     }
 
--- what the parts of a text are
+-- the parts of a text
 pub record AreParts (text : List ℕ) (ts : List Token) (xs : List Template) (names : List (List ℕ)) (outside : List Step) (bodies : List (List Step)) (m : ℕ) : Type 0 where
   pub whole : templates ts ≡ Ok xs
   pub distinct : first_repeat [] (names_of text ts xs) ≡ None

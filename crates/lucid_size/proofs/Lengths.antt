@@ -55,7 +55,7 @@ steps_length text m width (s ∷ ss) inside =
 
 -- ---- all used instances are a list
 
--- the sizes that stand in steps
+-- the sizes in steps
 abbrev sizes_of : Form → List ℕ
 sizes_of (forms.Use k (Some n)) = n ∷ []
 sizes_of form = []
@@ -88,7 +88,7 @@ in_rows (suc n) ws k w low has = ⊎_elim
     (λ top. let same : n ≡ k = omega arith in Contains-append_left (row ws n) (rows n ws) (record { template = k; width = w }) (subst (λ j. Contains (row ws j) (record { template = k; width = w })) (sym same) (in_row ws k w has)))
     (order k n)
 
--- a use has the width of the instance, or a size that stands in the steps
+-- a use has the width of the instance, or a size of the steps
 abbrev FromSteps : ℕ → List ℕ → Instance → Type 0
 FromSteps w ns i = (i.width ≡ w) ⊎ Contains ns i.width
 

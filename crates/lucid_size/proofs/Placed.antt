@@ -1,4 +1,4 @@
--- Where the templates of a text stand, and that the widths of used instances fit.
+-- The positions of the templates of a text, and that the widths of used instances fit.
 use Rattle.std.proofs.Common.{◌≡◌, ℕ, zero, suc, ◌+◌, ◌-◌, ◌<◌, ◌≤◌, Bool, true, false, ◌&&◌, List, [], ◌∷◌, length, drop, length-drop, Option, Some, None, Ok, Err, refl, sym, ◌∙◌, ap, subst, arith, if◌then◌else◌}
 use Rattle.std.specs.Prelude.{◌==◌, slice_get}
 use Rattle.std.proofs.lemmas.Bool.{and_parts}
@@ -176,6 +176,6 @@ finds ts (t ∷ us) i opened zero xs is within h =
     let place : i ≡ i + zero = omega arith in
     subst (λ n. Placed ts n xs) place (found_here ts us i t opened xs (opened == 0) (begins_template (t ∷ us)) is refl (λ o more ys. finds ts us (i + 1) o more ys (rest_of ts i t us is)) h)
 
--- the templates of a text stand one behind another
+-- the templates of a text follow one another
 pub templates_placed : (ts : List Token) (xs : List Template) → templates ts ≡ Ok xs → Placed ts 0 xs
 templates_placed ts xs h = finds ts ts 0 0 0 xs refl (omega arith) h

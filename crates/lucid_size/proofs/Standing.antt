@@ -1,4 +1,4 @@
--- What is written anew stands where it is written.
+-- New text is valid where it is written.
 use Rattle.std.proofs.Common.{◌≡◌, ℕ, zero, suc, ◌+◌, ◌*◌, ◌^◌, ◌<◌, Bool, true, false, ◌||◌, List, [], ◌∷◌, ◌++◌, length, Option, Some, None, refl, sym, ◌∙◌, ap, subst, inl, inr, ⊎_elim, arith}
 use Rattle.std.specs.Prelude.{codes, ◌==◌, not, decimal}
 use Rattle.std.specs.List.{AllPass, list_all, repeat, fold}
@@ -25,7 +25,7 @@ use Rattle.lucid_lex.proofs.Shapes.{shape_at}
 use Rattle.lucid_size.specs.Suffix.{suffix}
 use Rattle.lucid_size.proofs.Seams.{Grows, is_pair, grows, longer_front, long_sign, IsLong, AllPass-right}
 
--- a piece that no byte and no pair makes longer stands
+-- a piece that no byte and no pair makes longer is valid
 abbrev pub NoOne : List ℕ → List ℕ → Type 0
 NoOne bytes rest = (b : ℕ) (more : List ℕ) (j : Option Kind) → rest ≡ b ∷ more → IsPiece (bytes ++ b ∷ []) j → ⊥
 
@@ -154,7 +154,7 @@ number_bytes : (bytes : List ℕ) (n : ℕ) → IsNumber bytes n → AllPass in_
 number_bytes bytes n (inl h) = weaker (λ c. is_digit c 10) in_number bytes (λ b h. grind (arith, nat_tests)) h.1
 number_bytes bytes n (inr h) = subst (AllPass in_number) (sym h.1) (All-cons (λ b. in_number b ≡ true) 48 (120 ∷ h.0) refl (All-cons (λ b. in_number b ≡ true) 120 h.0 refl (weaker (λ c. is_digit c 16) in_number h.0 (λ b h. grind (arith, nat_tests)) h.2.1)))
 
--- what begins with a decimal digit and is a piece is a number
+-- a piece that begins with a decimal digit is a number
 numeral_shape : (ds s : List ℕ) (j : Option Kind) (n : ℕ) → IsNumeral 10 ds n → IsPiece (ds ++ s) j → AllPass in_number (ds ++ s)
 numeral_shape [] s j n is piece = absurd (omega (arith, is.0))
 numeral_shape (d ∷ ds) s j n is piece =

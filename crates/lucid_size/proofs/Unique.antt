@@ -28,7 +28,7 @@ pub rises : (xs : List ℕ) → ((k : ℕ) → k + 1 < length xs → get_or xs k
 rises [] h = tt
 rises (x ∷ xs) h = (rises_first x xs h, rises xs (rises_tail x xs h))
 
--- the elements of a list that rises are told by what it contains
+-- a rising list is determined by its members
 first_least : (x y : ℕ) (xs ys : List ℕ) → Rises (y ∷ ys) → Contains (y ∷ ys) x → y ≤ x
 first_least x y xs ys rise (zero, within, is) = omega (arith, is)
 first_least x y xs ys rise (suc k, within, is) = let low = rise.0 k (omega arith) in omega (arith, low, is, default_get ys k x (omega arith))

@@ -8,7 +8,7 @@ use Rattle.lucid_size.specs.Suffix.{suffix}
 use Rattle.lucid_size.specs.Search.{body_in}
 use Rattle.lucid_size.specs.declared.step.Form.TheVariants as forms
 
--- what is written behind a token
+-- the text after a token
 abbrev pub form_bytes : ℕ → ℕ → Form → List ℕ
 form_bytes m width forms.Kept = []
 form_bytes m width forms.Width = decimal width ++ codes ">>"

@@ -1,4 +1,4 @@
--- What is kept while templates are looked for: those that were found, and why one isn't taken.
+-- The state of the search for templates: those found, and why one isn't taken.
 use Rattle.std.specs.Prelude.{◌≡◌, ℕ, ◌+◌, List, ◌++◌, Option, None, Ok, Err}
 use Rattle.lucid_size.specs.declared.template.Template.{Template}
 use Rattle.lucid_size.specs.declared.error.SizeError.{SizeError}
@@ -10,7 +10,7 @@ abbrev pub before_those : List Template → Cut → Cut
 before_those xs (Ok ys) = Ok (xs ++ ys)
 before_those xs (Err n) = Err n
 
--- what an error says of the templates
+-- the meaning of an error for the templates
 abbrev pub Tells : Cut → SizeError → Type 0
 Tells c (errors.Broken n) = c ≡ Err n
 Tells c (errors.Twice name) = ⊥

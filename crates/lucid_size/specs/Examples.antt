@@ -101,14 +101,14 @@ mutual_uses = codes "fun <<w>> int f() { g<<w>>(); } f<<1>>(); fun <<w>> int g()
 abbrev pub mutual_expanded : List ℕ
 mutual_expanded = line (codes "fun  int f_1() { g_1(); }") ++ (codes "fun  int f_2() { g_2(); } f_1(); " ++ (line (codes "fun  int g_1() { f_1(); g_2(); }") ++ codes "fun  int g_2() { f_2(); g_2(); }"))
 
--- two underscores in a row stand in a name
+-- two underscores in a row are part of a name
 abbrev pub underscored : List ℕ
 underscored = codes "fun <<w>> int f() { } int a__b; int _c = f<<7>>(f, f<<w>>(1));"
 
 abbrev pub underscored_expanded : List ℕ
 underscored_expanded = codes "fun  int f___7() { } int a__b; int _c = f___7(f, f<<w>>(1));"
 
--- what stands in braces, or behind a bracket that is never closed, is no template
+-- a `fun` in braces, or after a bracket that is never closed, is no template
 abbrev pub inner : List ℕ
 inner = codes "handle h() { fun <<w>> int f() { } } ( fun <<w>> int f() { } f<<1>>()"
 

@@ -1,7 +1,7 @@
--- The expansion of a text, as a substitution on its tokens. In place of each template stand the instances of it that are used, by
--- rising width; in an instance each `<< w >>` has the width in place of `w`, and the name has the suffix of the width. Each use of an
--- instance becomes its name. All else stays, blanks and comments too. What is written is a list of pieces: their bytes are the
--- expanded text, and the tokens among them are its tokens.
+-- The expansion of a text, as a substitution on its tokens. Each template is replaced by its used instances, by rising width; in an
+-- instance each `<< w >>` has the width in place of `w`, and the name has the suffix of the width. Each use of an instance becomes its
+-- name. All else stays, blanks and comments too. The result is a list of pieces: their bytes are the expanded text, and the tokens among
+-- them are its tokens.
 use Rattle.std.specs.Prelude.{◌≡◌, ℕ, ◌+◌, ◌<◌, if◌then◌else◌, List, [], ◌∷◌, ◌++◌, length, Option, Some, None, Ok, Err, codes, slice_get, bytes_eq, position}
 use Rattle.std.specs.Option.{is_some}
 use Rattle.std.specs.List.{Contains}

@@ -1,4 +1,4 @@
--- What templates and uses are made of: tests on what a token is, and the count of open brackets.
+-- The tokens of templates and uses: tests on the kind of a token, and the count of open brackets.
 use Rattle.std.specs.Prelude.{ℕ, ◌+◌, ◌-◌, Bool, true, false}
 use Rattle.lucid_lex.specs.declared.token.Kind.{Kind}
 use Rattle.lucid_lex.specs.declared.token.Kind.TheVariants as kinds

@@ -52,7 +52,7 @@ steps_between text names width ts i j = steps_from text names width (end_before 
 abbrev pub named : List Token → ℕ → List Step
 named ts i = map (λ t. record { from = end_before i ts; token = t; form = forms.Named }) (slice_range ts i (i + 1))
 
--- what becomes of a template's tokens behind its first `>>`
+-- the steps of a template's tokens after its first `>>`
 abbrev pub body_steps : List ℕ → List (List ℕ) → List Token → Template → List Step
 body_steps text names ts t =
     let width : Width = Some (bytes_at text ts (t.first + 2)) in

@@ -1,5 +1,4 @@
--- What is written in place of a token, as pieces of a text: their bytes are what is written, and the tokens among them are what is
--- read of it.
+-- The replacement of a token, as pieces of a text: their bytes are the written text, and the tokens among them are its tokens.
 use Rattle.std.specs.Prelude.{ℕ, List, [], ◌∷◌, ◌++◌, Option, Some, None, codes, decimal, unwrap_or, slice_range}
 use Rattle.std.specs.List.{flat_map}
 use Rattle.lucid_lex.specs.declared.token.Kind.{Kind}
@@ -20,8 +19,8 @@ piece bytes kind = record { bytes = bytes; kind = kind }
 abbrev pub name_piece : List ℕ → Piece
 name_piece bytes = piece bytes (Some kinds.Name)
 
--- The token and what stands behind it, in the instance of a width: a kept token alone; `<<` with the width and `>>`; the template's
--- own name with the suffix; the name of a use with the suffix of its width, and `(`. `m` is the number of underscores.
+-- The token and its continuation, in the instance of a width: a kept token alone; `<<` with the width and `>>`; the template's own name
+-- with the suffix; the name of a use with the suffix of its width, and `(`. `m` is the number of underscores.
 abbrev pub form_pieces : ℕ → ℕ → List ℕ → Kind → Form → List Piece
 form_pieces m width bytes kind forms.Kept = piece bytes (Some kind) ∷ []
 form_pieces m width bytes kind forms.Width =
@@ -34,7 +33,7 @@ form_pieces m width bytes kind (forms.Use k size) =
 abbrev pub gap : List ℕ → Piece
 gap bytes = piece bytes None
 
--- what stands before the token, and then what becomes of it
+-- the bytes before the token, and then its replacement
 abbrev pub step_pieces : List ℕ → ℕ → ℕ → Step → List Piece
 step_pieces text m width s = gap (slice_range text s.from s.token.span.start) ∷ form_pieces m width (bytes_of text s.token) s.token.kind s.form
 

@@ -1,4 +1,4 @@
--- What is kept while used instances are looked for: those that were found, each once, and so many of them looked into.
+-- The state of the search for used instances: those found, each once, and how many of them were looked into.
 use Rattle.std.specs.Prelude.{◌≡◌, ℕ, ◌<◌, ◌≤◌, ◌==◌, ◌&&◌, if◌then◌else◌, Bool, List, [], ◌∷◌, ◌++◌, length, take, Option, Some, None, All, slice_get}
 use Rattle.std.specs.List.{Contains, IsDistinct, list_any}
 use Rattle.std.specs.HashSet.{HashSet, contains}
@@ -10,7 +10,7 @@ use Rattle.lucid_size.specs.Used.{uses, Used}
 abbrev pub same_instance : Instance → Instance → Bool
 same_instance i j = i.template == j.template && i.width == j.width
 
--- the set has what the list has
+-- the set has the members of the list
 abbrev pub Sees : {S : Type 0} → List Instance → HashSet Instance S → Type 0
 Sees found seen = (i : Instance) → contains same_instance seen i ≡ list_any (same_instance i) found
 
@@ -49,7 +49,7 @@ pub record AreUsed (outside : List Step) (bodies : List (List Step)) (found : Li
 abbrev pub HasUses : List (List Step) → List Instance → Instance → Type 0
 HasUses bodies found i = All (Contains found) (uses i.width (body_in bodies i.template))
 
--- while instances are looked for: so many of those that are found were looked into
+-- during the search for instances: the number of found ones that were looked into
 pub record Searching (outside : List Step) (bodies : List (List Step)) (found : List Instance) (at : ℕ) : Type 0 where
   pub used : All (IsUsed outside bodies) found
   pub outer : All (Contains found) (uses 0 outside)

@@ -1,5 +1,5 @@
--- What becomes of the tokens of a part of a text, be it a template's or what stands outside all templates: a use of a template is
--- replaced, within a template its width too, and all other tokens stay. A step is a token with what stands before it.
+-- The replacements of the tokens of a part of a text, a template or the text outside all templates: a use of a template is replaced,
+-- within a template its width too, and all other tokens stay. A step is a token with the bytes before it.
 use Rattle.std.specs.Prelude.{ℕ, zero, suc, Bool, true, false, ◌&&◌, if◌then◌else◌, List, [], ◌∷◌, Option, Some, None, bytes_eq, position}
 use Rattle.lucid_lex.specs.declared.token.Kind.{Kind}
 use Rattle.lucid_lex.specs.declared.token.Kind.TheVariants as kinds
@@ -19,7 +19,7 @@ abbrev pub is_width : List ℕ → Width → Token → Bool
 is_width text None t = false
 is_width text (Some w) t = is_name t.kind && bytes_eq (bytes_of text t) w
 
--- The size that a use has by what stands between its `<<` and `>>`: this number, or, for `Some None`, the width. Else it is no use.
+-- The size of a use by the token between its `<<` and `>>`: this number, or, for `Some None`, the width. Otherwise it is no use.
 abbrev pub size_by : Bool → Kind → Option (Option ℕ)
 size_by own (kinds.Number n) = Some (Some n)
 size_by own k = if own then Some None else None
@@ -56,7 +56,7 @@ or_width width (Some form) = form
 or_width true None = forms.Width
 or_width false None = forms.Kept
 
--- what becomes of the first token
+-- the replacement of the first token
 abbrev pub form_at : List ℕ → List (List ℕ) → Width → List Token → Form
 form_at text names width ts = or_width (width_at text width ts) (use_at text names width ts)
 
@@ -67,7 +67,7 @@ more_of forms.Width = 2
 more_of forms.Named = 0
 more_of (forms.Use k size) = 4
 
--- The steps of these tokens, where the one before them ends at this offset, and so many of them are still part of an earlier step.
+-- The steps of these tokens, if the one before them ends at this offset, and this many of them are still part of an earlier step.
 abbrev pub steps_from : List ℕ → List (List ℕ) → Width → ℕ → ℕ → List Token → List Step
 steps_from text names width at more [] = []
 steps_from text names width at (suc more) (t ∷ ts) = steps_from text names width t.span.end more ts

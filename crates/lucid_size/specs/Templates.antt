@@ -19,7 +19,7 @@ name_from i (t ∷ u ∷ ts) =
     else if is_name t.kind && opens_paren u.kind then Some i
     else name_from (i + 1) (u ∷ ts)
 
--- The number of the token behind the `}` that closes the first `{`, where so many braces are open.
+-- The number of the token after the `}` that closes the first `{`, if this many braces are open.
 abbrev pub end_from : ℕ → ℕ → List Token → Option ℕ
 end_from i n [] = None
 end_from i n (t ∷ ts) =
@@ -57,7 +57,7 @@ abbrev pub more_of : ℕ → Option Template → ℕ
 more_of i None = 0
 more_of i (Some t) = t.end - (i + 1)
 
--- The templates among these tokens, of which the first has this number; so many brackets are open before it, and so many tokens are
+-- The templates among these tokens, of which the first has this number; this many brackets are open before it, and this many tokens are
 -- still part of an earlier template.
 abbrev pub templates_from : ℕ → ℕ → ℕ → List Token → Cut
 templates_from i opened more [] = Ok []

@@ -1,4 +1,4 @@
--- What the calls of a snapshot do.
+-- The effects of the calls of a snapshot.
 use Rattle.std.specs.Prelude.{◌≡◌, ℕ, suc, ◌+◌, ◌-◌, ◌<◌, List, [], None, ◌&&◌, if◌then◌else◌, length, nat_eq, slice_index_or}
 use Rattle.lucid_base.specs.Cells.{row_of}
 use Rattle.lucid_tables.specs.Numbers.{is_in}

@@ -9,14 +9,14 @@ use Rattle.lucid_drive.specs.State.{progress_at}
 abbrev pub entered_by : Drive → ℕ → ℕ
 entered_by d steps = (progress_at d steps 0).entered
 
--- How many had entered, and the cells that aren't 0 once so many ran whole.
+-- The number of events that had entered, and the cells that aren't 0 after these ran whole.
 abbrev pub snap_text : Drive → ℕ → List ℕ
 snap_text d n = line (codes "snap after ") n ++ cells_text 0 d.parts.arrays (after d.parts (entries d.scene) n)
 
--- The drive log, as it is without a snapshot, and then the snapshot, which is taken after so many steps.
+-- The drive log, as it is without a snapshot, and then the snapshot, which is taken after this many steps.
 abbrev pub snap_log : Drive → ℕ → List ℕ
 snap_log d steps = drive_log d ++ snap_text d (entered_by d steps)
 
--- What a drive writes after its first steps.
+-- The text of a drive after its first steps.
 abbrev pub log_after : Drive → ℕ → List ℕ
 log_after d steps = text_from d (progress_at d steps 0) (drop steps d.scene.steps) ++ end_text d (after_steps d)

@@ -7,7 +7,7 @@ use Rattle.lucid_pipe.specs.Packets.{Packet}
 use Rattle.lucid_pipe.specs.Pipe.{PipeParts, sizes}
 use Rattle.lucid_pipe.specs.Settled.{settled_from}
 
--- How many packets stand in these slots.
+-- The number of packets in these slots.
 abbrev pub many : List (Option Packet) → ℕ
 many [] = 0
 many (None ∷ slots) = many slots
@@ -18,7 +18,7 @@ abbrev pub oldest : ℕ → List (Option Packet) → List (Option Packet)
 oldest n [] = []
 oldest n (slot ∷ slots) = (if nat_lt (many slots) n then slot else None) ∷ oldest n slots
 
--- How many slots are free before the first packet: no packet of these has still to execute just so many stages.
+-- The number of free slots before the first packet: no packet of these has still to execute exactly this many stages.
 abbrev pub free_first : List (Option Packet) → ℕ
 free_first [] = 0
 free_first (None ∷ slots) = suc (free_first slots)
@@ -36,7 +36,7 @@ pub record SnapParts : Type 0 where
   pub copied : ℕ
   pub old : ℕ
 
--- What the n oldest packets leave when they alone run their remaining stages, those that are further on first.
+-- The cells after the n oldest packets alone run their remaining stages, the most advanced first.
 abbrev pub left_by_oldest : PipeParts → ℕ → List (List ℕ)
 left_by_oldest pipe n = (settled_from pipe.placed.code pipe.placed.stages (oldest n pipe.slots) pipe.cells).cells
 
@@ -53,7 +53,7 @@ pub record Follows (snap : SnapParts) (pipe : PipeParts) (cells : List (List ℕ
   pub copies : (g k : ℕ) → stage_of pipe.placed.stages g ≡ Some k → k < snap.copied → row_of snap.copies g ≡ row_of cells g
   -- the oldest packets make the other stages' arrays the given cells
   pub others : (g k : ℕ) → stage_of pipe.placed.stages g ≡ Some k → snap.copied ≤ k → row_of (left_by_oldest pipe snap.old) g ≡ row_of cells g
-  -- an array that stands in no stage holds 0
+  -- an array that is in no stage holds 0
   pub idle : (g : ℕ) → stage_of pipe.placed.stages g ≡ None → (row_of cells g ≡ row_of (zero_cells pipe.placed.code.arrays) g) × (row_of snap.copies g ≡ row_of (zero_cells pipe.placed.code.arrays) g)
   -- there are given cells for each array
   pub given : length cells ≡ length snap.copies

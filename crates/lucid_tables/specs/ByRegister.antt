@@ -1,5 +1,5 @@
--- Stages and acts by register: what a machine that keeps registers alone executes. Each field is replaced by its register; one that has
--- none by the number of registers, past the last, where any list of registers holds 0.
+-- Stages and acts by register: the form that a machine with registers alone executes. Each field is replaced by its register; one that
+-- has none by the number of registers, past the last, where any list of registers holds 0.
 use Rattle.std.specs.Prelude.{ℕ, List, map, length, slice_index}
 use Rattle.std.specs.Option.{option_map, option_map_or}
 use Rattle.lucid_code.specs.declared.op.Act.{Act}

@@ -27,7 +27,7 @@ byte n = roll-Expr (Expr-F.Fixed (bits_of 8 n))
 abbrev pub low_byte : Expr
 low_byte = roll-Expr (Expr-F.Cast 8 (local 0))
 
--- Memops over bytes: what is stored; the argument; and the stored number and 1 while it is less than the argument, else 0.
+-- Memops over bytes: the stored number; the argument; and the stored number plus 1 while it is less than the argument, otherwise 0.
 abbrev pub keep : MemAlu
 keep = record { width = 8; test = None; yes = One Stored; no = One Stored }
 

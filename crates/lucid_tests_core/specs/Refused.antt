@@ -1,4 +1,4 @@
--- Programs that break a rule: each is valid but for what is written, and the rule that it is tested by refuses it.
+-- Programs that break a rule: each is valid except for the comment's fault, and the rule under test refuses it.
 use Rattle.std.specs.Prelude.{◌≡◌, ℕ, ◌^◌, List, [], ◌∷◌, ◌++◌, None, Some, Bool, true, false, not, replicate}
 use Rattle.std.specs.List.{list_all}
 use Rattle.lucid_base.specs.declared.array.ArrayName.TheVariants.{Global, Param}
@@ -74,8 +74,8 @@ refuses_exprs rule program xs = list_all (λ x. not (rule (program (drop_value x
 abbrev pub refuses_stmts : (CoreParts → Bool) → (List Stmt → CoreParts) → List Stmt → Bool
 refuses_stmts rule program ss = list_all (λ s. not (rule (program (s ∷ [])))) ss
 
--- What each rule refuses wherever it stands: no such local, two widths, a return that isn't the last, nine prints, a local that isn't assigned yet,
--- a hash of nothing, a print without its number, a call with its body put in, and a call.
+-- The faults that each rule refuses everywhere: no such local, two widths, a return that isn't the last, nine prints, a local that isn't
+-- assigned yet, a hash of nothing, a print without its number, an inlined call, and a call.
 abbrev pub nine_prints : Expr
 nine_prints = inlined [] (replicate 9 (say 0 (one ∷ [])))
 
@@ -92,7 +92,7 @@ hash_of_nothing = roll-Expr (Expr-F.Hash 32 [])
 abbrev pub flat_with : ℕ → List Stmt → CoreParts
 flat_with more ss = record small { funs = []; handlers = record (handler ss) { locals = 32 ∷ 32 ∷ 32 ∷ replicate more 32 } ∷ [] }
 
--- bump(bump(i)) with both bodies put in: the inner one is the argument of the outer one.
+-- bump(bump(i)) with both bodies inlined: the inner one is the argument of the outer one.
 abbrev pub nested : List Stmt
 nested = drop_value (inlined ((2, inlined ((3, local 0) ∷ []) (return (Some (local 3)) ∷ [])) ∷ []) (return (Some (local 2)) ∷ [])) ∷ []
 

@@ -1,4 +1,4 @@
--- What the step makes of one program, worked by hand from the language.
+-- The step on one program, worked by hand from the language.
 use Rattle.std.specs.Prelude.{◌≡◌, ℕ, ◌+◌, List, [], ◌∷◌, Option, None, Some, Bool, true, false}
 use Rattle.lucid_base.specs.declared.array.ArrayName.TheVariants.{Global}
 use Rattle.lucid_base.specs.declared.event.Event.{Event}
@@ -68,7 +68,7 @@ handlers =
 abbrev pub worked : CoreParts
 worked = made_of (array 4 ∷ array 8 ∷ []) (record { name = []; alu = plus } ∷ []) events (bump bumps ∷ []) handlers ((110 ∷ 32 ∷ 37 ∷ 100 ∷ []) ∷ [])
 
--- { printf("n %d", bump(first, i)); printf("n %d", bump(first, i)); } with the bodies put in.
+-- { printf("n %d", bump(first, i)); printf("n %d", bump(first, i)); } with the bodies inlined.
 abbrev pub twice_put_in : List Stmt
 twice_put_in = say 0 (bump_put_in ∷ []) ∷ say 0 (bump_put_in ∷ []) ∷ []
 
@@ -76,14 +76,14 @@ twice_put_in = say 0 (bump_put_in ∷ []) ∷ say 0 (bump_put_in ∷ []) ∷ []
 abbrev pub say_indexed : Stmt
 say_indexed = say 0 (update (Global 0) (update (Global 1) (local 0) plus) plus ∷ [])
 
--- The cells of `first`, and what `second` holds in its cell 1, the other cells 0.
+-- The cells of `first`, and cell 1 of `second`, whose other cells are 0.
 abbrev pub cells_of : List ℕ → ℕ → List (List ℕ)
 cells_of first n = first ∷ (0 ∷ n ∷ 0 ∷ 0 ∷ 0 ∷ 0 ∷ 0 ∷ 0 ∷ []) ∷ []
 
 abbrev pub start : List (List ℕ)
 start = cells_of (10 ∷ 20 ∷ 30 ∷ 40 ∷ []) 60
 
--- What an event does at tick 7 on switch 3, and the arrays that it calls.
+-- The effect of an event at tick 7 on switch 3, and the arrays that it calls.
 abbrev pub does : CoreParts → Event → Stepped × List ℕ
 does parts event = (step parts start 7 3 event, touches parts start 7 3 event)
 
@@ -99,7 +99,7 @@ sent i delay to = Gen (record { id = 6; args = i ∷ [] }) delay (At to)
 abbrev pub two_events : List Entry
 two_events = record { now = 7; me = 3; event = record { id = 1; args = 1 ∷ [] } } ∷ record { now = 8; me = 2; event = record { id = 1; args = 1 ∷ [] } } ∷ []
 
--- What each event does, and what two do, one after the other.
+-- The effect of each event, and of two, one after the other.
 pub record StepExamples : Type 0 where
   pub index_comes_round : Gives 0 5 (10 ∷ 22 ∷ 30 ∷ 40 ∷ []) 60 (Say 0 (120 ∷ []) ∷ Say 0 (121 ∷ []) ∷ []) (0 ∷ 0 ∷ [])
   pub both_memops_see_the_old_value : Gives 0 2 (10 ∷ 20 ∷ 32 ∷ 40 ∷ []) 60 (Say 0 (130 ∷ []) ∷ Say 0 (131 ∷ []) ∷ []) (0 ∷ 0 ∷ [])

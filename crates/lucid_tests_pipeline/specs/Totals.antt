@@ -1,5 +1,5 @@
--- Totals: the first array adds up the arguments, the second holds the total that came last, and each packet tells the total with its own
--- argument and the one that the second array held before.
+-- Totals: the first array adds up the arguments, the second holds the total that came last, and each packet prints the total with its own
+-- argument and the previous value of the second array.
 use Rattle.std.specs.Prelude.{List, [], ◌∷◌, Some, None}
 use Rattle.lucid_base.specs.declared.memory_alu.MemAlu.{MemAlu}
 use Rattle.lucid_base.specs.declared.memory_alu.MemArg.TheVariants.{Arg}

@@ -1,5 +1,5 @@
--- What words, the contents of files and passes determine. A command is a line in `CommandAnswers`, in `MayStop`, and where it runs the
--- passes or shows the watch something, in `CommandRuns` and `CommandShows`.
+-- The answer that words, the contents of files and passes determine. A command is a line in `CommandAnswers`, in `MayStop`, and if it
+-- runs the passes or shows the watch something, in `CommandRuns` and `CommandShows`.
 use Rattle.std.specs.Prelude.{◌≡◌, ℕ, List, [], Option, None, Some, Result, Ok, Err, IsSome}
 use Rattle.lucid_code.specs.Parts as code
 use Rattle.lucid_gen.specs.Limits.{limits_text}
@@ -29,7 +29,7 @@ use Rattle.lucid_top_words.specs.Views.{Held}
 use Rattle.lucid_top_words.specs.Words.{Bytes, word_at}
 use Rattle.lucid_top_words.specs.Writing.{anywhere, nowhere}
 
--- what a command is given: the words of the call, the texts of the files that they name, in word order, and the passes
+-- the inputs of a command: the words of the call, the texts of the files that they name, in word order, and the passes
 pub record Given : Type 0 where
   pub words : List Bytes
   pub texts : List Bytes
@@ -39,7 +39,7 @@ pub record Given : Type 0 where
 abbrev pub text : ℕ → Given → Bytes
 text n g = word_at g.texts n
 
--- what a command answers
+-- the answer of a command
 abbrev pub CommandAnswers : Command → Given → Outcome → Type 0
 CommandAnswers command.Check g o = CheckAnswers (text 0 g) o
 CommandAnswers (command.Once arguments) g o = OnceAnswers (text 0 g) (word_at g.words 2) arguments o
@@ -103,39 +103,39 @@ abbrev pub command_files : Option Command → List NamedFile
 command_files None = []
 command_files (Some c) = files_of c
 
--- ---- the same over what the files hold
+-- ---- the same over the contents of files
 
--- what determines the answer of a call: its words, what the names of files hold, where that is told, and the passes
+-- the inputs that determine the answer of a call: its words, the contents of names, if they are specified, and the passes
 pub record Question : Type 0 where
   pub words : List Bytes
   pub held : Held
   pub passes : List PassView
 
--- what a command is given where these are the texts of its files
+-- the inputs of a command if these are the texts of its files
 abbrev pub given : Question → List Bytes → Given
 given q texts = record { words = q.words; texts = texts; passes = q.passes }
 
--- what the files of these words hold, or the first that is too long; None where one doesn't tell
+-- the contents of the files of these words, or the first that is too long; None if one is unspecified
 abbrev pub told_texts : Question → Option Texts
 told_texts q = contents q.held q.words (command_files (command_of q.words))
 
--- nothing is an answer where a file doesn't tell what it holds; a file that is too long is the answer
+-- no answer is required if the content of a file is unspecified; a file that is too long is the answer
 abbrev pub OverTexts : Option Texts → (List Bytes → Outcome → Type 0) → Outcome → Type 0
 OverTexts None answers o = ⊥
 OverTexts (Some (Err r)) answers o = o ≡ Err r
 OverTexts (Some (Ok texts)) answers o = answers texts o
 
--- over any texts, where a file doesn't tell what it holds
+-- over any texts, if the content of a file is unspecified
 abbrev pub StopsOver : Option Texts → (List Bytes → Type 0) → Type 0
 StopsOver None stops = (texts : List Bytes) × stops texts
 StopsOver (Some (Err r)) stops = ⊥
 StopsOver (Some (Ok texts)) stops = stops texts
 
--- this is what the words ask for over these files: the text that is written, or the reason why there is none
+-- the answer of the words over these files: the text that is written, or the reason why there is none
 abbrev pub Answers : Question → Outcome → Type 0
 Answers q o = OverTexts (told_texts q) (λ texts. AnswersTo (command_of q.words) (given q texts)) o
 
--- the files that the words name tell what they hold
+-- the contents of the files that the words name are specified
 abbrev pub IsTold : Question → Type 0
 IsTold q = IsSome (told_texts q)
 

@@ -1,4 +1,4 @@
--- What a call does, and how it ended: `Ended` is all that `lucid` promises.
+-- The effect of a call, and its end: `Ended` is all that `lucid` promises.
 use Rattle.std.specs.Prelude.{◌≡◌, ℕ, List, [], Option, Some, None, Result, Ok, Err, map, String, Vec, string_bytes}
 use Rattle.std.specs.declared.alloc.Global.{Global}
 use Rattle.lucid_code.specs.Parts as code
@@ -33,7 +33,7 @@ pub record Call : Type 0 where
   pub seen : Seen
   pub seen' : Seen
 
--- what determines its answer
+-- the inputs that determine its answer
 abbrev pub question : Call → Question
 question c = record { words = c.words; held = c.files.held; passes = c.passes }
 
@@ -60,8 +60,8 @@ abbrev pub EndSaid : SinkView → SinkView → List Bytes → End → Type 0
 EndSaid err err' words (Ok u) = Untouched SinkView.written SinkView.faults err err'
 EndSaid err err' words (Err r) = Said SinkView.written SinkView.faults err err' (line_of words r)
 
--- what a call did, up to this end: it read the files that the words name, and performed the command over their texts; what it made of
--- the passes, and what it showed the watch
+-- the effect of a call up to this end: it read the files that the words name, and performed the command over their texts; with its effect
+-- on the passes, and the sights of the watch
 pub record Done (c : Call) (end : End) : Type 0 where
   pub texts : Texts
   pub reads : FilesRead c.words c.files c.files' (command_files (command_of c.words)) texts
@@ -69,7 +69,7 @@ pub record Done (c : Call) (end : End) : Type 0 where
   pub ran : PassesRun (RunsOver (command_of c.words) (question c) texts) c.passes c.passes' end
   pub shown : Shown (ShowsOver (command_of c.words) (question c) texts) c.seen c.seen' end
 
--- how a call ended: its status, what it did, and what it wrote to `err`
+-- the end of a call: its status, its effect, and its text on `err`
 pub record Ended (c : Call) (err err' : SinkView) (result : Status) : Type 0 where
   pub end : End
   pub status : result ≡ end_status end
@@ -106,10 +106,10 @@ abbrev pub Unfailed : {F : Type 0} → (F → Bytes → ℕ) → F → F → Wor
 Unfailed counts old new words =
     (file : NamedFile) → Names words file → ¬ Rose (counts old (name_of words file)) (counts new (name_of words file))
 
--- what determines the answer of these words, over what files hold and over passes
+-- the inputs that determine the answer of these words, over the contents of files and over passes
 abbrev pub asked : Words → Held → List PassView → Question
 asked words held passes = record { words = bytes_of words; held = held; passes = passes }
 
--- what a command is given, as the code holds it
+-- the inputs of a command, as the code has them
 abbrev pub given' : Words → List (Vec ℕ Global) → List PassView → Given
 given' words texts passes = record { words = bytes_of words; texts = texts_in texts; passes = passes }

@@ -1,4 +1,4 @@
--- `check P`: what a program declares, where all its functions and handlers touch arrays in order.
+-- `check P`: the declarations of a program, if all its functions and handlers call arrays in order.
 use Rattle.std.specs.Prelude.{◌≡◌, ◌++◌, Ok, codes, decimal, length}
 use Rattle.lucid_core.specs.Parts.{CoreParts}
 use Rattle.lucid_top_words.specs.Outcome.{Outcome, FollowedBy}

@@ -1,4 +1,4 @@
--- `drive P L T`: the steps of a scenario on one pipeline. What it writes is the log of handlers that run whole.
+-- `drive P L T`: the steps of a scenario on one pipeline. Its text is the log of handlers that run whole.
 use Rattle.std.specs.Prelude.{◌≡◌, List, Result, Ok}
 use Rattle.lucid_drive.specs.Drive.{Drive, drive_log}
 use Rattle.lucid_drive.specs.Sights.{sights}
@@ -9,7 +9,7 @@ use Rattle.lucid_top_words.specs.declared.refusal.Refusal.{Refusal}
 use Rattle.lucid_top_words.specs.Outcome.{FollowedBy, Outcome}
 use Rattle.lucid_top_words.specs.Words.{Bytes}
 
--- what is driven
+-- the inputs of the drive
 abbrev pub driven : Ready → Drive
 driven r = record { parts = r.pipes.under.core; stages = r.pipes.fitted.placed.stages; scene = r.scene }
 
@@ -17,6 +17,6 @@ driven r = record { parts = r.pipes.under.core; stages = r.pipes.fitted.placed.s
 abbrev pub DriveAnswers : Bytes → Bytes → Bytes → List PassView → Outcome → Type 0
 DriveAnswers program limits scenario passes o = FollowedBy (IsReady program limits scenario passes) (λ r p. p ≡ Ok (drive_log (driven r))) o
 
--- what a watch is shown: after each step the pipe
+-- the sights of a watch: after each step the pipe
 abbrev pub DriveShows : Bytes → Bytes → Bytes → List PassView → Result (List Sight) Refusal → Type 0
 DriveShows program limits scenario passes o = FollowedBy (IsReady program limits scenario passes) (λ r p. p ≡ Ok (sights (driven r))) o

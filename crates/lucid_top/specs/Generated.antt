@@ -23,7 +23,7 @@ gen_text kind.Scene seed n = scene_text seed n
 abbrev pub GenAnswers : GenKind → ℕ → ℕ → Outcome → Type 0
 GenAnswers k seed n o = o ≡ Ok (gen_text k seed n)
 
--- the line that tells the log of `run pipe` over the generated texts
+-- the line that summarizes the log of `run pipe` over the generated texts
 abbrev pub BenchAnswers : ℕ → ℕ → List PassView → Outcome → Type 0
 BenchAnswers seed n passes o =
     FollowedBy (IsReady (program_text seed) limits_text (scene_text seed n) passes) (λ r p. p ≡ Ok (bench_line seed n (log (network_of r)))) o

@@ -1,4 +1,4 @@
--- What is written on pipelines is what the handlers write that run whole, one event after another, in the order in which the events entered.
+-- The text of a run on pipelines is that of handlers that run whole, one event after another, in the order in which the events entered.
 use Rattle.std.specs.Prelude.{◌≡◌, ℕ, ◌≤◌, ◌⊎◌, List, [], ◌∷◌, Option, Some, Ok, codes, length}
 use Rattle.std.specs.Io.KnownBytes.{Keeps}
 use Rattle.lucid_audit.specs.declared.plan.Plan.{Plan}
@@ -59,7 +59,7 @@ snap names steps = codes "snap" ∷ names.program ∷ names.limits ∷ names.sce
 abbrev pub bench_texts : ℕ → ℕ → Three
 bench_texts seed n = record { program = program_text seed; limits = limits_text; scenario = scene_text seed n }
 
--- the name holds the text, which has at most so many bytes
+-- the name has this content, of at most `most` bytes
 abbrev pub Holds : Held → Bytes → Bytes → ℕ → Type 0
 Holds held name text limit = (held name ≡ Some text) × (length text ≤ limit)
 
@@ -78,12 +78,12 @@ pub record Accepted (texts : Three) : Type 0 where
   pub scene : Scene
   pub scenario_is : IsScenario core texts.scenario (Ok scene)
 
--- first fit places what the passes make of the program
+-- first fit places the code that the passes make of the program
 pub record FirstFitPlaces (passes : List PassView) {texts : Three} (a : Accepted texts) : Type 0 where
   pub fitted : Fit
   pub places : IsFitted a.core a.limits passes (Ok fitted)
 
--- the audit accepts the places that a file gives to what the passes make of the program
+-- the audit accepts the places that a file assigns to the code that the passes make of the program
 pub record AuditAccepts (passes : List PassView) {texts : Three} (a : Accepted texts) (placement : Bytes) : Type 0 where
   pub made : Composed
   pub made_is : IsComposed a.core passes (Ok made)
@@ -105,11 +105,11 @@ audited_of {passes} {texts} {a} {placement} p = ready (piped (target a.core a.li
 abbrev pub network_log : {texts : Three} → Accepted texts → Bytes
 network_log a = log (whole a.core a.scene a.limits)
 
--- the log of the steps on one pipeline, told by handlers that run whole
+-- the log of the steps on one pipeline, by handlers that run whole
 abbrev pub steps_log : {passes : List PassView} {texts : Three} {a : Accepted texts} → FirstFitPlaces passes a → Bytes
 steps_log f = drive_log (driven (ready_of f))
 
--- the pipe after each step, told by handlers that run whole
+-- the pipe after each step, by handlers that run whole
 abbrev pub steps_sights : {passes : List PassView} {texts : Three} {a : Accepted texts} → FirstFitPlaces passes a → List Sight
 steps_sights f = sights (driven (ready_of f))
 

@@ -1,4 +1,4 @@
--- How the code holds what it sets up, and what is known of that.
+-- The setup of commands as the code has it, and its invariants.
 use Rattle.std.specs.Prelude.{◌≡◌, length}
 use Rattle.lucid_conf.specs.Kept.{AreLimits, IsScene}
 use Rattle.lucid_effects_spec.specs.Order.{IsAccepted}
@@ -26,7 +26,7 @@ ready_view r = seen.ready (pipes_view r.pipes) r.scene
 abbrev pub measured_view : Measured → placed.Measured
 measured_view m = placed.measured (target_view m.target) (made_view m.made)
 
--- ---- what is known
+-- ---- invariants
 
 pub record TargetKeeps (t : Target) : Type 0 where
   pub accepted : IsAccepted t.core
@@ -35,7 +35,7 @@ pub record TargetKeeps (t : Target) : Type 0 where
 pub record NetworkKeeps (n : Network) : Type 0 where
   pub scene : IsScene n.target.core n.scene
 
--- the placed code stands for the program, and is what a pipeline of the target asks for
+-- the placed code represents the program, and meets the conditions of a pipeline of the target
 pub record PipesKeep (p : Pipes) : Type 0 where
   pub limits : AreLimits p.target.limits
   pub stands : StandsFor p.fitted.placed.code p.target.core
@@ -46,7 +46,7 @@ pub record ReadyKeeps (r : Ready) : Type 0 where
   pub pipes : PipesKeep r.pipes
   pub scene : IsScene r.pipes.target.core r.scene
 
--- the code may stand in place of the program's normal form, and its counts keep their limits
+-- the code may replace the program's normal form, and its counts keep their limits
 pub record MeasuredKeeps (m : Measured) : Type 0 where
   pub limits : AreLimits m.target.limits
   pub replaces : MayReplace (normal_of m.target.core) m.made.code

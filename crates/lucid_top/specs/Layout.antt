@@ -1,4 +1,4 @@
--- `layout P L`: what first fit places in the stages of a target, and how many operations went in each pass on the way to it.
+-- `layout P L`: first fit in the stages of a target, and the number of operations that each pass removed before.
 use Rattle.std.specs.Prelude.{◌≡◌, ℕ, List, [], ◌∷◌, ◌++◌, Ok, codes, decimal, map}
 use Rattle.lucid_layout_text.specs.Text.{layout_text}
 use Rattle.lucid_top.specs.Pipes.{IsPiped}

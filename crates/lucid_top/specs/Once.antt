@@ -14,7 +14,7 @@ use Rattle.lucid_top_words.specs.Outcome.{Outcome, FollowedBy}
 use Rattle.lucid_top_program.specs.Program.{IsProgram}
 use Rattle.lucid_top_words.specs.Words.{Bytes}
 
--- the last of these events with this name, the first of which has this number, or else what was found before
+-- the last of these events with this name, the first of which has this number, or otherwise the earlier one
 abbrev pub last_of : Bytes → ℕ → Option ℕ → List EventDef → Option ℕ
 last_of name id found [] = found
 last_of name id found (e ∷ rest) = last_of name (id + 1) (if bytes_eq e.name name then Some id else found) rest
@@ -37,11 +37,11 @@ event_of core name arguments = event_at core arguments (last_of name 0 None core
 abbrev pub shown : CoreParts → Event → List Out → List (List ℕ) → Bytes
 shown core event outs cells = block_text core 0 0 event outs 0 ++ cells_text 0 core.arrays cells
 
--- what the event does
+-- the effect of the event
 abbrev pub ran : CoreParts → Option Event → Outcome
 ran core None = Err refusal.Usage
 ran core (Some event) = let after = step core (zero_cells core.arrays) 0 0 event in Ok (shown core event after.outs after.cells)
 
--- what the event of this name with these arguments does in the program of this text
+-- the effect of the event of this name with these arguments in the program of this text
 abbrev pub OnceAnswers : Bytes → Bytes → Option (List ℕ) → Outcome → Type 0
 OnceAnswers text name arguments o = FollowedBy (IsProgram text) (λ core p. p ≡ ran core (event_of core name arguments)) o

@@ -1,4 +1,4 @@
--- What a call leaves as it was of the passes that it was handed.
+-- The unchanged parts of the passes after a call.
 use Rattle.std.specs.Prelude.{◌≡◌, List, map}
 use Rattle.lucid_top_fit.specs.Passes.{PassView}
 

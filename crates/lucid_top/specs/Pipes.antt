@@ -1,4 +1,4 @@
--- What is set up for commands over pipelines: a program under the limits of a target, what is placed in its stages, and a scenario.
+-- The setup of commands over pipelines: a program under the limits of a target, its layout, and a scenario.
 use Rattle.std.specs.Prelude.{◌≡◌, List, Some, Result, Ok}
 use Rattle.lucid_code.specs.Parts as code
 use Rattle.lucid_conf.specs.declared.limits.Limits.{Limits}
@@ -28,7 +28,7 @@ target core limits = record { core = core; limits = limits }
 abbrev pub IsUnder : CoreParts → Bytes → Result Target Refusal → Type 0
 IsUnder core limits o = FollowedBy (IsLimits limits) (λ l p. p ≡ Ok (target core l)) o
 
--- what the texts of a program and of limits set up
+-- the setup of the texts of a program and of limits
 abbrev pub IsTarget : Bytes → Bytes → Result Target Refusal → Type 0
 IsTarget program limits o = FollowedBy (IsProgram program) (λ core. IsUnder core limits) o
 
@@ -48,7 +48,7 @@ pub record Piped : Type 0 where
 abbrev pub piped : Target → Fit → Piped
 piped under fitted = record { under = under; fitted = fitted }
 
--- first fit places what the passes make of the program
+-- first fit places the code that the passes make of the program
 abbrev pub IsPlacedIn : List PassView → Target → Result Piped Refusal → Type 0
 IsPlacedIn passes under o = FollowedBy (IsFitted under.core under.limits passes) (λ fitted p. p ≡ Ok (piped under fitted)) o
 
@@ -69,7 +69,7 @@ ready pipes scene = record { pipes = pipes; scene = scene }
 abbrev pub IsSet : Bytes → Piped → Result Ready Refusal → Type 0
 IsSet scenario pipes o = FollowedBy (IsScenario pipes.under.core scenario) (λ scene p. p ≡ Ok (ready pipes scene)) o
 
--- what the texts of a program, of limits and of a scenario set up
+-- the setup of the texts of a program, of limits and of a scenario
 abbrev pub IsReady : Bytes → Bytes → Bytes → List PassView → Result Ready Refusal → Type 0
 IsReady program limits scenario passes o = FollowedBy (IsPiped program limits passes) (IsSet scenario) o
 
@@ -77,6 +77,6 @@ IsReady program limits scenario passes o = FollowedBy (IsPiped program limits pa
 abbrev pub network_of : Ready → Network
 network_of r = whole r.pipes.under.core r.scene r.pipes.under.limits
 
--- what a watch is shown of a network: after each tick the pipe of each switch
+-- the sights of a network: after each tick the pipe of each switch
 abbrev pub sights_of : Ready → List Sight
 sights_of r = sights_to (network_of r) (Some r.pipes.fitted.placed) r.scene.stop

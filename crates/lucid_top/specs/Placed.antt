@@ -1,4 +1,4 @@
--- Placements that come from a file: `audit P L Q` tells them as a layout, and `run placed P L T Q` runs a network on them.
+-- Placements from a file: `audit P L Q` prints them as a layout, and `run placed P L T Q` runs a network on them.
 use Rattle.std.specs.Prelude.{◌≡◌, List, Result, Ok, length, map}
 use Rattle.lucid_code.specs.Nodes.{nodes}
 use Rattle.lucid_conf.specs.declared.scene.Scene.{Scene}
@@ -15,7 +15,7 @@ use Rattle.lucid_top_words.specs.declared.refusal.Refusal.{Refusal}
 use Rattle.lucid_top_words.specs.Outcome.{FollowedBy, IsTheAnswer, Outcome}
 use Rattle.lucid_top_words.specs.Words.{Bytes}
 
--- a target, and what passes make of its program, of which the counts keep their limits
+-- a target, and the code that passes make of its program, of which the counts keep their limits
 pub record Measured : Type 0 where
   pub under : Target
   pub made : Composed

@@ -1,4 +1,4 @@
--- `run pipe P L T`: the network of a scenario on pipelines. What it writes is the log of handlers that run whole.
+-- `run pipe P L T`: the network of a scenario on pipelines. Its text is the log of handlers that run whole.
 use Rattle.std.specs.Prelude.{◌≡◌, List, Result, Ok}
 use Rattle.lucid_net.specs.Wanting.{StopsAt}
 use Rattle.lucid_net_spec.specs.Log.{log}
@@ -19,6 +19,6 @@ pub record StopsPiped (program limits scenario : Bytes) (passes : List PassView)
   pub is : IsTheAnswer (IsReady program limits scenario passes) (Ok runs)
   pub stops : StopsAt (network_of runs) begun
 
--- what a watch is shown
+-- the sights of a watch
 abbrev pub RunPipeShows : Bytes → Bytes → Bytes → List PassView → Result (List Sight) Refusal → Type 0
 RunPipeShows program limits scenario passes o = FollowedBy (IsReady program limits scenario passes) (λ r p. p ≡ Ok (sights_of r)) o

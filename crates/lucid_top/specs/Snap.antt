@@ -1,4 +1,4 @@
--- `snap P L T K`: `drive P L T` with a snapshot that is taken after so many steps.
+-- `snap P L T K`: `drive P L T` with a snapshot that is taken after K steps.
 use Rattle.std.specs.Prelude.{◌≡◌, ℕ, List, Ok}
 use Rattle.lucid_snap.specs.Log.{snap_log}
 use Rattle.lucid_top.specs.Drive.{driven}

@@ -1,15 +1,15 @@
--- What a watch is shown.
+-- The sights of a watch.
 use Rattle.std.specs.Prelude.{◌≡◌, ◌⊎◌, List, [], ◌++◌, Option, Result, Ok, Err, IsSome}
 use Rattle.lucid_net.specs.Sights.{ShowsAll}
 use Rattle.lucid_pipe.specs.declared.sight.Sight.{Sight}
 use Rattle.lucid_top_words.specs.declared.refusal.Refusal.{Refusal}
 use Rattle.lucid_top_words.specs.Outcome.{IsTheAnswer}
 
--- what a watch has seen, where it tells it
+-- the sights of a watch so far, if they are specified
 abbrev pub Seen : Type 0
 Seen = Option (List Sight)
 
--- told after only where told before
+-- specified after only if specified before
 abbrev pub ToldBefore : Seen → Seen → Type 0
 ToldBefore old new = IsSome new → IsSome old
 

@@ -1,4 +1,4 @@
--- What a refusal names of an error: the refusal that each error is told by.
+-- The refusal for each error.
 use Rattle.std.specs.Prelude.{ℕ, [], Option, None, Some, option_map, slice_get}
 use Rattle.std.specs.Option.{unwrap_or}
 use Rattle.lucid_audit.specs.declared.error.AuditError.{AuditError}

@@ -1,4 +1,5 @@
--- From a program to its placed code, part by part: calls put in and normal form, passes, first fit. Every command that lays out goes so.
+-- From a program to its placed code, part by part: inlining and normal form, passes, first fit. Every command with a layout uses these
+-- definitions.
 use Rattle.std.specs.Prelude.{◌≡◌, ℕ, ◌<◌, ◌≤◌, List, [], Result, Ok, Err, length, map}
 use Rattle.lucid_code.specs.Parts as code
 use Rattle.lucid_conf.specs.declared.limits.Limits.{Limits}
@@ -39,7 +40,7 @@ RunsOn core from = HasNormal core × (from ≡ normal_of core)
 
 -- ---- the composed code
 
--- what passes make of the normal form, and how many operations went in each
+-- the code that passes make of the normal form, and the number of operations that each removed
 pub record Composed : Type 0 where
   pub code : code.CodeParts
   pub gone : List ℕ
@@ -48,7 +49,7 @@ abbrev pub composed : CoreParts → List PassView → Composed
 composed core passes = let gives = map PassView.gives passes in
     record { code = through gives (normal_of core); gone = gone gives (normal_of core) }
 
--- what a call gives
+-- the result of a call
 abbrev pub made_view : Composition → Composed
 made_view c = record { code = c.code; gone = c.gone.items }
 
@@ -87,7 +88,7 @@ pub record Fit : Type 0 where
 abbrev pub fit_of : List ℕ → PlacedParts → Fit
 fit_of gone placed = record { placed = placed; gone = gone }
 
--- what a call gives
+-- the result of a call
 abbrev pub fit_view : Fitting → Fit
 fit_view f = fit_of f.gone.items f.placed
 

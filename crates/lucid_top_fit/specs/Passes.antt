@@ -1,4 +1,4 @@
--- What contracts see of passes in boxes, and what a call makes of those that it runs.
+-- The model of passes in boxes, and the effect of a call on those that it runs.
 use Rattle.std.specs.Prelude.{◌≡◌, ◌⊎◌, ℕ, List, Result, Err, length, map, take}
 use Rattle.std.specs.List.{AllByRecursion}
 use Rattle.lucid_code.specs.Parts as code
@@ -9,7 +9,7 @@ use Rattle.lucid_top_words.specs.declared.refusal.Refusal.{Refusal}
 use Rattle.lucid_top_words.specs.declared.refusal.Refusal.TheVariants as refusal
 use Rattle.lucid_top_words.specs.Words.{Bytes}
 
--- a pass: its name, what it makes of code, and how many operations went in all its runs
+-- a pass: its name, its result for code, and the number of operations removed in all its runs
 pub record PassView : Type 0 where
   pub name : Bytes
   pub gives : Rewrite
@@ -22,7 +22,7 @@ abbrev pub passes_view : {B : Type 0} → (B → Bytes) → (B → Rewrite) → 
 passes_view name gives removed passes = map (pass_view name gives removed) passes
 
 -- The first n of the old passes ran, one after another, from this code on: the new are the same in the same order, and of those that ran
--- the counts rose by what went in each.
+-- the counts rose by the number of operations removed in each.
 pub record Ran (n : ℕ) (from : code.CodeParts) (old new : List PassView) : Type 0 where
   pub names : map PassView.name new ≡ map PassView.name old
   pub same : map PassView.gives new ≡ map PassView.gives old
@@ -33,13 +33,13 @@ abbrev pub RanOut : {X : Type 0} → Result X Refusal → Type 0
 RanOut (Err refusal.Memory) = Unit {0}
 RanOut other = ⊥
 
--- What a call makes of its passes that runs them on code with `runs`: where there is none, or memory ran out, they may be as they were;
--- else they ran on it, all of them unless memory ran out.
+-- The effect of a call on its passes that runs them on code with `runs`: if there is none, or memory ran out, they may be unchanged;
+-- otherwise they ran on it, all of them unless memory ran out.
 abbrev pub PassesRun : {X : Type 0} → (code.CodeParts → Type 0) → List PassView → List PassView → Result X Refusal → Type 0
 PassesRun runs old new end =
     ((new ≡ old) × ((from : code.CodeParts) → runs from → RanOut end))
     ⊎ ((from : code.CodeParts) × runs from × (n : ℕ) × Ran n from old new × (RanOut end ⊎ (n ≡ length old)))
 
--- where nodes stand behind what they read, they do so in what each of these makes
+-- if nodes follow their reads, they do so in the result of each of these
 abbrev pub KeepNodes : List Rewrite → Type 0
 KeepNodes gives = AllByRecursion (λ (p : Rewrite). KeepsNodes p.makes) gives

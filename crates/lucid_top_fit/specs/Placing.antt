@@ -35,7 +35,7 @@ IsCounted core limits from (Err r) = ⊥
 
 -- ---- places
 
--- the places that the text writes for so many nodes, or the first fault of the file, of a list the first bad item
+-- the places of the text for this many nodes, or the first fault of the file, of a list the first bad item
 abbrev pub IsPlan : Bytes → ℕ → Result Plan Refusal → Type 0
 IsPlan text nodes (Ok plan) = Answers (Ok plan) (plan_read nodes) text
 IsPlan text nodes (Err (refusal.Placement placement.NotJson)) = Refuses error.NotJson (plan_read nodes) text

@@ -12,8 +12,8 @@ use Rattle.lucid_top_fit.specs.Passes.{KeepNodes, PassView}
 use Rattle.lucid_top_words.specs.declared.no_fit.NoFit.TheVariants as fit
 use Rattle.lucid_top_words.specs.declared.refusal.Refusal.TheVariants as refusal
 
--- If the passes keep each node behind what it reads, a node is refused only because no place has room for it: the nodes before it are in
--- their least places, and behind them every place exceeds a limit.
+-- If the passes keep each node after its reads, a node is refused only because no place has room for it: the nodes before it are in their
+-- least places, and after them every place exceeds a limit.
 abbrev pub RefusedForRoom : CoreParts → Type 0
 RefusedForRoom core =
     (limits : Limits) (passes : List PassView) → KeepNodes (map PassView.gives passes) → (i : ℕ) → IsFitted core limits passes (Err (refusal.NoFit (fit.Node i))) →

@@ -1,4 +1,4 @@
--- What is so of every program that a text writes.
+-- Properties of every program of a text.
 use Rattle.std.specs.Prelude.{ℕ, List, Ok}
 use Rattle.lucid_core.specs.Parts.{CoreParts}
 use Rattle.lucid_core.specs.Valid.{IsValid}

@@ -1,4 +1,4 @@
--- The files that set up what a program runs in: the limits of a target, and the scenario of a network.
+-- The settings of a program's run: the limits of a target, and the scenario of a network.
 use Rattle.std.specs.Prelude.{ℕ, Option, Result, Ok, Err}
 use Rattle.lucid_conf.specs.Answers.{Answers, Refuses}
 use Rattle.lucid_conf.specs.Tables.{limits_read, scene_read}

@@ -1,4 +1,4 @@
--- What the words of a call ask for, and which of them name files: a line a command in each table.
+-- The command of the words of a call, and the words that name files: a line for each command in each table.
 use Rattle.std.specs.Prelude.{ℕ, ◌<◌, List, [], ◌∷◌, Option, None, Some, if◌then◌else◌, codes, option_map, option_and_then}
 use Rattle.std.specs.Str.{bytes_eq}
 use Rattle.lucid_top_words.specs.declared.command.Command.{Command}
@@ -28,7 +28,7 @@ abbrev pub layout_words : List Bytes → Option Command
 layout_words (program ∷ limits ∷ []) = Some command.Layout
 layout_words words = None
 
--- what `run` does in this mode
+-- the `run` command of this mode
 abbrev pub run_mode : Bytes → Option Command
 run_mode mode =
     if bytes_eq mode (codes "whole") then Some command.RunWhole

@@ -1,5 +1,5 @@
--- The files that the words name: how they are read in word order, and what they are told to hold. This page owns all that is said
--- of statuses 2 and 3.
+-- The files that the words name: how they are read in word order, and their specified contents. All claims about statuses 2 and 3 are on
+-- this page.
 use Rattle.std.specs.Prelude.{◌≡◌, ◌≢◌, ℕ, ◌+◌, ◌<◌, ◌≤◌, ◌⊎◌, List, [], ◌∷◌, ◌++◌, Option, Some, None, Result, Ok, Err, IfSome, if◌then◌else◌}
 use Rattle.std.specs.Prelude.{length, map, nat_lt, option_map, Vec}
 use Rattle.std.specs.declared.alloc.Global.{Global}
@@ -79,7 +79,7 @@ held_with file None rest = None
 held_with file (Some text) rest =
     if nat_lt file.limit (length text) then Some (Err (refusal.TooLong file.word)) else option_map (before text) rest
 
--- What the files hold, or the first that is too long; None where one doesn't tell.
+-- The contents of the files, or the first that is too long; None if one is unspecified.
 abbrev pub contents : Held → List Bytes → List NamedFile → Option Texts
 contents held words [] = Some (Ok [])
 contents held words (file ∷ rest) = held_with file (held (word_at words file.word)) (contents held words rest)

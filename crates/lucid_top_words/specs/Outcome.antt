@@ -1,4 +1,4 @@
--- What a call comes to, and when an outcome is the answer.
+-- The outcome of a call, and when an outcome is the answer.
 use Rattle.std.specs.Prelude.{◌≡◌, Result, Ok, Err}
 use Rattle.lucid_top_words.specs.declared.refusal.Refusal.{Refusal}
 use Rattle.lucid_top_words.specs.declared.refusal.Refusal.TheVariants as refusal
@@ -23,8 +23,8 @@ abbrev pub end_status : End → Status
 end_status (Ok u) = status.Ok
 end_status (Err r) = status_of r
 
--- Either refusal may be given for the other. They are the same, but that a declaration which isn't in order may have several cycles,
--- of which any is told.
+-- Either refusal may be given for the other. They are the same, except that a declaration which isn't in order may have several cycles,
+-- of which any may be reported.
 abbrev pub SameRefusal : Refusal → Refusal → Type 0
 SameRefusal (refusal.NoOrder decl line cycle) (refusal.NoOrder decl' line' cycle') = (decl ≡ decl') × (line ≡ line')
 SameRefusal r s = r ≡ s
@@ -40,7 +40,8 @@ pub record IsTheAnswer {X : Type 0} (answers : Result X Refusal → Type 0) (o :
   pub is : answers o
   pub only : (p : Result X Refusal) → answers p → Alike p o
 
--- What a part of the work owes that refuses: the refusal is the answer. Want of memory is free, and it meets no file and writes nothing.
+-- The obligation of a part of the work that refuses: the refusal is the answer. Memory is free, and the part meets no file and writes
+-- nothing.
 abbrev pub Declines : {X : Type 0} → (Result X Refusal → Type 0) → Refusal → Type 0
 Declines answers refusal.Memory = Unit {0}
 Declines answers refusal.WriteFault = ⊥
@@ -48,16 +49,16 @@ Declines answers (refusal.ReadFault word) = ⊥
 Declines answers (refusal.TooLong word) = ⊥
 Declines answers r = IsTheAnswer answers (Err r)
 
--- what a part of the work owes that gives a value, or refuses: what it gives, as `view` sees it, is the answer
+-- the obligation of a part of the work that returns a value or refuses: the value, as `view` sees it, is the answer
 abbrev pub Prepares : {P X : Type 0} → (Result X Refusal → Type 0) → (P → X) → Result P Refusal → Type 0
 Prepares answers view (Ok p) = IsTheAnswer answers (Ok (view p))
 Prepares answers view (Err r) = Declines answers r
 
--- what comes after a part
+-- the outcome after a part
 abbrev pub After : {X Y : Type 0} → Result X Refusal → (X → Result Y Refusal → Type 0) → Result Y Refusal → Type 0
 After (Ok x) rest o = rest x o
 After (Err r) rest o = o ≡ Err r
 
--- one part, and then another over what it gives; where it refuses, that is the outcome
+-- one part, and then another over its result; if it refuses, that is the outcome
 abbrev pub FollowedBy : {X Y : Type 0} → (Result X Refusal → Type 0) → (X → Result Y Refusal → Type 0) → Result Y Refusal → Type 0
 FollowedBy {X} part rest o = (end : Result X Refusal) × part end × After end rest o

@@ -61,7 +61,7 @@ abbrev pub scene_line : Key → Option ℕ → Bytes
 scene_line key None = codes "scene: " ++ name_of key ++ codes "\n"
 scene_line key (Some place) = codes "scene: " ++ name_of key ++ codes " " ++ decimal place ++ codes "\n"
 
--- the line on the error stream, with its line feed; a file is told by the word that names it
+-- the line on the error stream, with its line feed; a file is named by the word that names it
 abbrev pub line_of : List Bytes → Refusal → Bytes
 line_of words refusal.Usage = codes "usage\n"
 line_of words (refusal.ReadFault word) = codes "read fault: " ++ word_at words word ++ codes "\n"

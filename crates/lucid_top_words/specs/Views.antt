@@ -1,8 +1,8 @@
--- What contracts see of the things that a call is handed.
+-- The models of the objects that a call gets.
 use Rattle.std.specs.Prelude.{ℕ, Option}
 use Rattle.lucid_top_words.specs.Words.{Bytes}
 
--- what a name holds, where that is told
+-- the content of a name, if it is specified
 abbrev pub Held : Type 0
 Held = Bytes → Option Bytes
 
@@ -10,13 +10,13 @@ Held = Bytes → Option Bytes
 abbrev pub Faults : Type 0
 Faults = Bytes → ℕ
 
--- files: what each name holds, where that is told; how many bytes the begun file gave; the count of faults of each name
+-- files: the content of each name, if it is specified; the number of bytes that the begun file gave; the count of faults of each name
 pub record FilesView : Type 0 where
   pub held : Held
   pub given : ℕ
   pub faults : Faults
 
--- a sink: what was written, where that is told, and the count of its faults
+-- a sink: the written bytes, if they are specified, and the count of its faults
 pub record SinkView : Type 0 where
   pub written : Option Bytes
   pub faults : ℕ

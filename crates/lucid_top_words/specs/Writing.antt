@@ -1,4 +1,4 @@
--- What a call writes to a sink. `written` and `faults` are those of the sink.
+-- The text that a call writes to a sink. `written` and `faults` are those of the sink.
 use Rattle.std.specs.Prelude.{◌≡◌, ℕ, ◌≤◌, ◌⊎◌, Option, Ok, Err, length, take}
 use Rattle.std.specs.Io.KnownBytes.{Appends, Keeps}
 use Rattle.lucid_io.specs.Puts.{PutsAll, PutsPart}
@@ -42,7 +42,7 @@ Refuses stops answers written faults old new (refusal.ReadFault word) = ⊥
 Refuses stops answers written faults old new (refusal.TooLong word) = ⊥
 Refuses stops answers written faults old new r = IsTheAnswer answers (Err r) × Untouched written faults old new
 
--- what a command does whose files were read: it writes the answer, or refuses
+-- the effect of a command after reading its files: it writes the answer, or refuses
 abbrev pub Performs : {T : Type 0} → (Bytes → Type 0) → (Outcome → Type 0) → (T → Option Bytes) → (T → ℕ) → T → T → End → Type 0
 Performs stops answers written faults old new (Ok u) =
     (text : Bytes) × IsTheAnswer answers (Ok text) × PutsAll written faults old new text

@@ -36,7 +36,7 @@ handle_event decl line i widths ps body m = do
     forms = b.1.forms;
   })
 
--- What is known is the same but for what is numbered.
+-- Known names and parts are unchanged, except the numbered locals and texts.
 abbrev pub Handles : Result Body Fault → Known → Known → Option (Body × Numbered) → Type 0
 Handles (Ok b) old new o = (o ≡ Some (b, numbered_of new.numbering)) × (new ≡ record old { numbering = new.numbering })
 Handles (Err f) old new o = Fails f o

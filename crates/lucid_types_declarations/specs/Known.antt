@@ -1,4 +1,4 @@
--- What is known while declarations are typed, as the rules have it.
+-- The known names and parts while declarations are typed, as the rules have them.
 use Rattle.std.specs.Prelude.{◌≡◌, Option, Some, Result, Ok, Err}
 use Rattle.lucid_types_spec.specs.Declaration.{Definitions}
 use Rattle.lucid_types_expressions.specs.declared.fault.Fault.{Fault}
@@ -16,7 +16,7 @@ made_of k = record {
   forms = k.numbering.forms;
 }
 
--- A declaration makes this of what was known.
+-- A declaration turns the known parts into these.
 abbrev pub Declares : Result (Unit {0}) Fault → Known → Option Definitions → Type 0
 Declares (Ok u) new o = o ≡ Some (made_of new)
 Declares (Err f) new o = Fails f o

@@ -7,7 +7,7 @@ use Rattle.lucid_parse_tree.specs.declared.tree.S.{S}
 use Rattle.lucid_types_spec.specs.Names.{Names}
 use Rattle.lucid_types_laws.specs.Memop.{choice_form, second_form}
 
--- An if, and what stands behind it.
+-- An if, and the statements after it.
 abbrev pub chosen : ℕ → Names → C → List S → Option (List Stmt)
 chosen w s c rest = choice_form w s (out-C c) rest
 

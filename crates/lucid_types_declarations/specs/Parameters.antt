@@ -1,4 +1,4 @@
--- What calls on parameters answer.
+-- The answers of calls on parameters.
 use Rattle.std.specs.Prelude.{◌≡◌, ℕ, ◌+◌, List, [], ◌∷◌, ◌++◌, Option, Some, Result, Ok, Err}
 use Rattle.lucid_base.specs.declared.array.ArrayName.TheVariants as array_name
 use Rattle.lucid_core.specs.Typing.{◌>>=◌}

@@ -1,4 +1,4 @@
--- What single functions give, in the words of the typing function.
+-- The results of single functions, in the terms of the typing function.
 use Rattle.std.specs.Prelude.{ℕ, List, ◌++◌, Option, Some, Bool, true, false, if◌then◌else◌}
 use Rattle.lucid_base.specs.Bits.{bits_of}
 use Rattle.lucid_base.specs.Bool.{bit_of}
@@ -21,7 +21,7 @@ is_int vt.Bool = false
 abbrev pub truth_core : Bool → ValueType → Option Expr
 truth_core b t = at_bool (Some (core.Fixed (bits_of 1 (bit_of b)))) t
 
--- What has 32 bits.
+-- An expression of 32 bits.
 abbrev pub word_core : Expr → ValueType → Option Expr
 word_core c t = given (same_type (Int 32) t) c
 
@@ -49,7 +49,7 @@ setm_of n i m x s = array_at (seen n s) >>= (λ a. setm_at a i m x s)
 abbrev pub update_of : List ℕ → Elaboration → List ℕ → Elaboration → List ℕ → Elaboration → Names → Option Touching
 update_of n i m x k y s = array_at (seen n s) >>= (λ a. update_at a i m x k y s)
 
--- ---- what loops have so far, before what is left
+-- ---- the results of loops so far, before the rest
 
 abbrev pub with_front : List Expr → Option (List Expr) → Option (List Expr)
 with_front front o = o >>= (λ cs. Some (front ++ cs))

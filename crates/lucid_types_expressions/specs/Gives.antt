@@ -7,7 +7,7 @@ abbrev pub Fails : {A : Type 0} → Fault → Option A → Type 0
 Fails NoRule o = o ≡ None
 Fails Memory o = Unit {0}
 
--- What is answered is what the function gives, unless memory ran out.
+-- The answer is the result of the function, unless memory ran out.
 abbrev pub Gives : {A : Type 0} → Result A Fault → Option A → Type 0
 Gives (Ok x) o = o ≡ Some x
 Gives (Err f) o = Fails f o

@@ -38,7 +38,7 @@ use Rattle.lucid_types_laws.specs.Statement.{body_of, type_of}
 abbrev pub int_of : Ty → Option ℕ
 int_of t = type_of t >>= int_width
 
--- What a written answer is; None is void.
+-- The type of a written answer; None is void.
 abbrev pub answer_of : Option Ty → Option (Option ValueType)
 answer_of None = Some None
 answer_of (Some t) = do
@@ -157,7 +157,7 @@ fun number line a n ps body m = do
 abbrev pub group : List ℕ → List ℕ → Definitions → Option Definitions
 group n members m = given (are_members members) (record m { names = called n (entry.Group members) ∷ m.names })
 
--- What declaration `number`, which begins on this line, makes behind what was made before.
+-- The definitions after declaration `number`, which begins on this line, from those before it.
 abbrev pub declaration : ℕ → ℕ → DeclKind → Definitions → Option Definitions
 declaration number line (d.Const t n v) m = constant t n v m
 declaration number line (d.Global short w n x) m = global w n x m

@@ -1,4 +1,4 @@
--- What the typing function promises: it gives exactly what the rules derive.
+-- The law of the typing function: it computes exactly the derivations of the rules.
 use Rattle.std.specs.Prelude.{◌≡◌, ◌↔◌, List, Option, Some}
 use Rattle.lucid_core.specs.declared.body.Expr.{Expr}
 use Rattle.lucid_parse_tree.specs.declared.tree.E.{E}
@@ -23,10 +23,10 @@ abbrev pub ComputesBlocks : Type 0
 ComputesBlocks = (a : Option ValueType) (s : Names) (m : Numbered) (xs : List S) (b : Body) (k : Numbered) →
     (body_of xs a s m ≡ Some (b, k)) ↔ Block a s m xs b k
 
--- Declarations behind what was made before.
+-- Declarations after earlier definitions.
 abbrev pub ComputesDeclarations : Type 0
 ComputesDeclarations = Computes declaration
 
--- Programs: what the rules make, or the first declaration that is refused, with its line and why.
+-- Programs: the result of the rules, or the first declaration that is refused, with its line and the reason.
 abbrev pub DecidesPrograms : Type 0
 DecidesPrograms = (tree : Tree) → Decides declaration tree

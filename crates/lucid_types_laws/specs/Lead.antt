@@ -19,7 +19,7 @@ abbrev pub int_width : ValueType → Option ℕ
 int_width (Int w) = Some w
 int_width vt.Bool = None
 
--- Of what a name or a call of it gives.
+-- The width of a name's value, or of that of its call.
 abbrev pub value_width : Option Entry → Option ℕ
 value_width (Some (entry.Constant b)) = Some b.width
 value_width (Some (entry.Local i t)) = int_width t

@@ -22,7 +22,7 @@ abbrev pub one_return : ℕ → Names → List S → Option (List Stmt)
 one_return w s (y ∷ []) = return_form w s (out-S y)
 one_return w s _ = None
 
--- The second branch: that of the if, or what stands behind it.
+-- The second branch: that of the if, or the statements after it.
 abbrev pub second_form : ℕ → Names → No-F No S C → List S → Option (List Stmt)
 second_form w s No-F.Absent zs = one_return w s zs
 second_form w s (No-F.Block ys) [] = one_return w s ys

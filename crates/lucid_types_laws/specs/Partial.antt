@@ -6,7 +6,7 @@ abbrev pub given : {A : Type 0} → Bool → A → Option A
 given true x = Some x
 given false x = None
 
--- What this answers, where the test holds.
+-- This answer, if the test holds.
 abbrev pub when : {A : Type 0} → Bool → Option A → Option A
 when true o = o
 when false o = None

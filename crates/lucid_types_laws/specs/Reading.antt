@@ -1,4 +1,4 @@
--- The rules of expressions as a function: what an expression is read as. It goes once over the tree, from the left.
+-- The rules of expressions as a function: the core of an expression. It goes once over the tree, from the left.
 use Rattle.std.specs.Prelude.{ℕ, ◌^◌, List, [], ◌∷◌, Option, None, Some, Bool, true, false, ◌&&◌, if◌then◌else◌, nat_eq, nat_lt, nat_le}
 use Rattle.lucid_base.specs.Bits.{bits_of}
 use Rattle.lucid_base.specs.Bool.{bit_of}
@@ -124,7 +124,7 @@ compared_at w op f g s = when (is_width w) (compared op (f.core s (Int w)) (g.co
 abbrev pub shared_width : Elaboration → Elaboration → Names → ℕ
 shared_width f g s = or_32 (either_lead f.lead g.lead s)
 
--- By what the sign is: of arithmetic, a comparison, or of logic.
+-- By the kind of the sign: of arithmetic, a comparison, or of logic.
 abbrev pub infix_core : Option BinOp → Option CmpOp → Option BinOp → Elaboration → Elaboration → Names → ValueType → Option Expr
 infix_core (Some op) c l f g s t = at_int (λ w. binary op (f.core s (Int w)) (g.core s (Int w))) t
 infix_core None (Some op) l f g s t = at_bool (compared_at (shared_width f g s) op f g s) t
@@ -157,7 +157,7 @@ abbrev pub memop_at : ℕ → Option Entry → Option MemAlu
 memop_at w (Some (entry.Memop m)) = given (nat_eq m.width w) m
 memop_at w _ = None
 
--- The array of this cell width that a bare name stands for.
+-- The array of this cell width that a bare name denotes.
 abbrev pub named_array : ℕ → Option (List ℕ) → Names → Option ArrayName
 named_array w None s = None
 named_array w (Some n) s = do
@@ -251,7 +251,7 @@ call_step x = record { lead = call_lead x; touch = touch_step x }
 abbrev pub no_condition : Names → ℕ → Option Expr
 no_condition s w = None
 
--- What is no bare name and no condition of a memop.
+-- An expression that is no bare name and no condition of a memop.
 abbrev pub plain : Lead → (Names → ValueType → Option Expr) → Elaboration
 plain lead core = record { lead = lead; bare = None; core = core; condition = no_condition }
 

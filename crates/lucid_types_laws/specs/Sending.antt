@@ -1,4 +1,4 @@
--- What a `generate` sends, as a function.
+-- The event of a `generate`, as a function.
 use Rattle.std.specs.Prelude.{ℕ, List, Option, None, Some, Bool, true, false, is_some, map}
 use Rattle.lucid_core.specs.Typing.{◌>>=◌}
 use Rattle.lucid_parse_tree.specs.declared.tree.V.{V, fold-V}
@@ -31,7 +31,7 @@ abbrev pub group_at : Option Entry → Option (List ℕ)
 group_at (Some (entry.Group members)) = Some members
 group_at _ = None
 
--- The members of the group that a bare name stands for.
+-- The members of the group that a bare name denotes.
 abbrev pub named_group : Option (List ℕ) → Names → Option (List ℕ)
 named_group None s = None
 named_group (Some n) s = group_at (seen n s)

@@ -37,13 +37,13 @@ use Rattle.lucid_types_laws.specs.Reading as read
 use Rattle.lucid_types_laws.specs.Reading.{all_free, core_of, free, is_width, reading, touch_of}
 use Rattle.lucid_types_laws.specs.Sending.{sending_of}
 
--- A statement in its block, and the names and what is numbered behind it.
+-- A statement in its block, and the names, numbered locals and texts after it.
 pub record Taken : Type 0 where
   pub part : Part
   pub names : Names
   pub numbered : Numbered
 
--- Of a statement, of a block and of what follows the first block of a choice, in a body with this answer.
+-- The form of a statement, of a block and of the part after the first block of a choice, in a body with this answer.
 abbrev pub Taking : Type 0
 Taking = Option ValueType → Names → Numbered → Option Taken
 
@@ -63,13 +63,13 @@ abbrev pub or_empty : Option Body → Body
 or_empty None = empty
 or_empty (Some b) = b
 
--- A part before what stands behind it, if something does. What returns on some path is the last.
+-- A part before the rest, if there is one. A part that returns on some path is the last.
 abbrev pub put : Part → Option Body → Option Body
 put (Does d) None = Some d
 put (Does d) (Some b) = when (goes_on d.ending) (Some (before d.steps b))
 put (Guard c ss) o = Some (one (core.If c ss (or_empty o).steps) (of_either Always (or_empty o).ending))
 
--- Parts before what stands behind them.
+-- Parts before the rest.
 abbrev pub onto : List Part → Option Body → Option (Option Body)
 onto [] o = Some o
 onto (p ∷ ps) o = do

@@ -1,4 +1,4 @@
--- What is proved of the typing rules.
+-- Laws of the typing rules.
 use Rattle.lucid_core.specs.Parts.{CoreParts}
 use Rattle.lucid_core.specs.Valid.{IsValid}
 use Rattle.lucid_parse_tree.specs.declared.tree.Tree.{Tree}

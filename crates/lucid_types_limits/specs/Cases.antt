@@ -1,4 +1,4 @@
--- Whether the matches of a choice, and of what follows its first block, have at most 32 cases.
+-- Whether the matches of a choice, and of the part after its first block, have at most 32 cases.
 use Rattle.std.specs.Prelude.{Bool}
 use Rattle.lucid_parse_tree.specs.declared.tree.C.{C, fold-C}
 use Rattle.lucid_parse_tree.specs.declared.tree.No.{No, fold-No}

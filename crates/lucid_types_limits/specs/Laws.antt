@@ -1,4 +1,4 @@
--- Which limit a declaration passes turns on what it makes anew, and on the outs of the functions before.
+-- The limit that a declaration exceeds depends on its own additions, and on the outs of the functions before.
 use Rattle.std.specs.Prelude.{◌≡◌, ℕ, ◌+◌, [], ◌∷◌, ◌++◌, Option, None, Some, length, slice_get, slice_set}
 use Rattle.lucid_base.specs.declared.array.ArrayDef.{ArrayDef}
 use Rattle.lucid_core.specs.declared.defs.EventDef.{EventDef}
@@ -12,7 +12,7 @@ use Rattle.lucid_types_spec.specs.Limits.{body_of, passed}
 use Rattle.lucid_types_spec.specs.Makes.{IsTyped}
 use Rattle.lucid_types_limits.specs.NewPart.{array_passes, event_passes, fun_passes, handler_passes}
 
--- The limit that any declaration passes which makes this behind what was made before. Memops and texts have no limit.
+-- The limit that any declaration exceeds with these additions to earlier definitions. Memops and texts have no limit.
 pub record NewAlone (m : CoreParts) : Type 0 where
   pub nothing : (x : DeclKind) → body_of x ≡ [] → passed x m ≡ None
   pub array : (x : DeclKind) (a : ArrayDef) → body_of x ≡ [] → passed x (record m { arrays = m.arrays ++ a ∷ [] }) ≡ array_passes (length m.arrays + 1)
@@ -23,6 +23,6 @@ pub record NewAlone (m : CoreParts) : Type 0 where
       ≡ handler_passes (funs_outs [] m.funs) h (body_of x)
   pub fun : (x : DeclKind) (f : FunDef) → passed x (record m { funs = m.funs ++ f ∷ [] }) ≡ fun_passes (funs_outs [] m.funs) f (body_of x)
 
--- What was made before is typed. So no limit was passed, and handlers call functions that were made, whose outs are not changed by others.
+-- The earlier definitions are typed. So no limit was exceeded, and handlers call earlier functions, whose outs are not changed by others.
 abbrev pub OnlyTheNew : Type 0
 OnlyTheNew = (tree : Tree) (m : CoreParts) → IsTyped tree m → NewAlone m

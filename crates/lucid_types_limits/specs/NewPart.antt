@@ -18,14 +18,14 @@ use Rattle.lucid_types_limits.specs.declared.tally.Tally.{Tally}
 abbrev pub Knows : List FunDef → Limits → Type 0
 Knows funs limits = limits.outs.items ≡ funs_outs [] funs
 
--- The last of so many arrays.
+-- The last of this many arrays.
 abbrev pub array_passes : ℕ → Option What
 array_passes arrays = first_passed ((what.Arrays, nat_le arrays 64) ∷ [])
 
 abbrev pub event_passes : EventDef → Option What
 event_passes e = first_passed ((what.ValueParameters, nat_le (length e.params) 8) ∷ [])
 
--- A body of the tree with its core, behind functions of so many outs.
+-- A body of the tree with its core, given the outs of the functions before it.
 abbrev pub body_limits : List ℕ → List Stmt → List S → List (What × Bool)
 body_limits outs core body =
     (what.Arguments, arguments_are_few core)
@@ -33,7 +33,7 @@ body_limits outs core body =
     ∷ (what.Cases, list_all cases_are_few body)
     ∷ []
 
--- The same, told from the tally of the core.
+-- The same, from the tally of the core.
 abbrev pub tally_limits : Tally → List S → List (What × Bool)
 tally_limits found body = (what.Arguments, found.few) ∷ (what.Outs, nat_le found.outs 8) ∷ (what.Cases, list_all cases_are_few body) ∷ []
 

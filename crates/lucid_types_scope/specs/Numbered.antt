@@ -1,4 +1,4 @@
--- What is numbered on the way through a body, and the number of a text.
+-- The locals and texts that a body numbers, and the number of a text.
 use Rattle.std.specs.Prelude.{◌≡◌, ℕ, List, [], Result, Ok, Err}
 use Rattle.lucid_base.specs.declared.memory.Memory.{Memory}
 use Rattle.lucid_types_spec.specs.Block.{Numbered, form_number, one_form}

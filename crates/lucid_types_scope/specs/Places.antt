@@ -9,7 +9,7 @@ use Rattle.lucid_types_scope.specs.declared.scope.Kept.{Kept}
 abbrev pub names_of : List Kept → Names
 names_of kept = map (λ (k : Kept). k.named) (reverse kept)
 
--- Of what is kept, the newest first: the place of the newest entry of this name, counted from the oldest.
+-- In a list with the newest first: the place of the newest entry of this name, counted from the oldest.
 abbrev pub place : List ℕ → List Kept → Option ℕ
 place name [] = None
 place name (k ∷ ks) = if bytes_eq k.named.name name then Some (length ks) else place name ks

@@ -1,4 +1,4 @@
--- The cores of expressions, of what is sent, and of names that hide others; and the limit that a program passes first.
+-- The cores of expressions, of sent events, and of names that hide others; and the limit that a program exceeds first.
 use Rattle.std.specs.Prelude.{◌≡◌, ℕ, List, [], ◌∷◌, Option, None, Some, true, false, codes, replicate}
 use Rattle.lucid_base.specs.Bits.{bits_of}
 use Rattle.lucid_base.specs.declared.array.ArrayName.TheVariants.{Global}
@@ -68,7 +68,7 @@ pub record TypedExpressions : Type 0 where
   pub cast_is_a_leaf :
       Has vt.Bool (e.Infix sign.Less (e.Number 256) (e.Cast (Some 16) n))
       (core.Cmp Lt (core.Fixed (bits_of 16 256)) (core.Cast 16 (core.Local 1)))
-  -- numbers alone have 32 bits, whatever signs are round them
+  -- numbers alone have 32 bits, with any signs round them
   pub numbers_alone :
       Has (Int 8) (e.Cast (Some 8) (e.Infix sign.Plus (e.Prefix Minus (e.Number 1)) (e.Prefix Tilde (e.Paren (e.Shift (e.Number 2) true 3)))))
       (core.Cast 8 (core.Bin Add (core.Un Neg (core.Fixed (bits_of 32 1))) (core.Un Flip (core.Un (Shl 3) (core.Fixed (bits_of 32 2))))))
@@ -113,7 +113,7 @@ pub record TypedStatements : Type 0 where
   pub else_if : Becomes None (if_of yes (to_n 1) (no.Cond (roll-C (record { test = yes; yes = to_n 2; no = no.Absent }))))
       (stmt.If (core.Local 2) (sets_n 1) (stmt.If (core.Local 2) (sets_n 2) [] ∷ []) ∷ []) Never
   pub both_return : Becomes (Some (Int 8)) (if_of yes (returns 1) (no.Block (returns 2))) (stmt.If (core.Local 2) (gives 1) (gives 2) ∷ []) Always
-  -- a return on some path stands last
+  -- a return on some path is last
   pub one_returns : Becomes (Some (Int 8)) (if_of yes (returns 1) (no.Block (to_n 2))) (stmt.If (core.Local 2) (gives 1) (sets_n 2) ∷ []) Sometimes
   -- also one inside an if without a second branch, which is no guard
   pub some_path_returns : Becomes (Some (Int 8)) (if_of yes (if_of yes (returns 1) (no.Block (to_n 2)) ∷ []) no.Absent)
@@ -147,10 +147,10 @@ IsMemop = MemopBody (memop_names 32 (codes "p") (codes "q") []) 32
 
 pub record TypedMemops : Type 0 where
   pub choice : IsMemop (if_of lesser (operand (codes "q")) (no.Block (operand (codes "p"))) ∷ []) chosen
-  -- the second return may stand behind the if
+  -- the second return may follow the if
   pub guard : IsMemop (if_of (e.Paren lesser) (operand (codes "q")) no.Absent ∷ operand (codes "p")) chosen
 
--- ---- what is sent
+-- ---- sent events
 
 abbrev pub sending : Sending
 sending = record { event = 1; args = []; delay = None; to = Here; delay_first = false }

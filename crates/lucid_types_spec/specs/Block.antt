@@ -31,7 +31,7 @@ use Rattle.lucid_types_spec.specs.Sends.{Sends, sent}
 use Rattle.lucid_types_spec.specs.Typed.{Typed, Free, AllFree, Touched, Called}
 use Rattle.lucid_types_spec.specs.Types.{Means, width_of}
 
--- ---- what is numbered on the way
+-- ---- numbered locals and texts
 
 -- The widths of a body's locals so far, and the texts of the program so far. A block's names end with it, these stay.
 pub record Numbered : Type 0 where
@@ -69,8 +69,8 @@ if_of test first second = statement.Cond (roll-C (record { test = test; yes = fi
 -- ---- rules
 
 mutual
-  -- In a body with this answer, with these names in scope and this numbered before, the statement has this core, which returns on these
-  -- paths, and this is numbered behind it. What a call gives is dropped.
+  -- In a body with this answer, with these names in scope and these numbered locals and texts, the statement has this core, which returns
+  -- on these paths, and these are numbered after it. The value of a call is dropped.
   pub data Statement (a : Option ValueType) : Names → Numbered → S → Body → Numbered → Type 0 where
     assign : (s : Names) (m : Numbered) (n : List ℕ) (i : ℕ) (t : ValueType) (x : E) (c : Expr) →
         seen n s ≡ Some (entry.Local i t) → Typed s t x c → Statement a s m (statement.Assign n x) (one (core.Assign i c) Never) m
@@ -102,7 +102,7 @@ mutual
         Block a s m (statement.Declare t n x ∷ xs) (before (core.Assign (length m.locals) c ∷ []) b) k
     goes_on : (s : Names) (m : Numbered) (x : S) (d : Body) (l : Numbered) (xs : List S) (b : Body) (k : Numbered) →
         Statement a s m x d l → d.ending ≡ Never → Block a s l xs b k → Block a s m (x ∷ xs) (before d.steps b) k
-    -- what returns on some path is the last of its block
+    -- a statement that returns on some path is the last of its block
     stops : (s : Names) (m : Numbered) (x : S) (d : Body) (k : Numbered) → Statement a s m x d k → d.ending ≢ Never →
         Block a s m (x ∷ []) d k
     -- `if (c) {A} rest`, where A always returns, means `if (c) {A} else {rest}`

@@ -30,7 +30,7 @@ use Rattle.lucid_types_spec.specs.Memop.{MemopBody, memop_names}
 use Rattle.lucid_types_spec.specs.Names.{Names, called, seen}
 use Rattle.lucid_types_spec.specs.Types.{Answers, IsWidth, Means, Parameters, answer_width, cell_widths, ints, value_widths}
 
--- What declarations make: the names in scope behind them, and the parts of a core.
+-- The definitions of declarations: the names in scope after them, and the parts of a core.
 pub record Definitions : Type 0 where
   pub names : Names
   pub arrays : List ArrayDef
@@ -51,7 +51,7 @@ pub data Sized (s : Names) : Size → ℕ → Type 0 where
   number : (k : ℕ) → Sized s (size.Number k) k
   constant : (n : List ℕ) (b : Bits) → seen n s ≡ Some (entry.Constant b) → Sized s (size.Named n) b.value
 
--- Declaration `number`, from 1, which begins on this line, makes this behind what was made before.
+-- Declaration `number`, from 1, which begins on this line, turns the earlier definitions into these.
 pub data Declared (number line : ℕ) (m : Definitions) : DeclKind → Definitions → Type 0 where
   constant : (t : Ty) (w : ℕ) (n : List ℕ) (v : ℕ) → Means t (Int w) → v < 2 ^ w →
       Declared number line m (d.Const t n v) (record m { names = called n (entry.Constant (bits_of w v)) ∷ m.names })

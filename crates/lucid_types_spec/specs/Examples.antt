@@ -108,7 +108,7 @@ count_steps =
 abbrev pub byte : ℕ → Expr
 byte n = roll-Expr (Expr-F.Fixed (bits_of 8 n))
 
--- Local 2 is `c`, local 3 the test of the match. What follows the first `if` has become its second branch.
+-- Local 2 is `c`, local 3 the test of the match. The statements after the first `if` have become its second branch.
 abbrev pub pkt_steps : List Stmt
 pkt_steps =
     assign 2 (call 0 (Global 0 ∷ []) (local 0 ∷ []))

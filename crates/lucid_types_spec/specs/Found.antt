@@ -1,4 +1,5 @@
--- What is found of a program by any function that computes the rules of declarations: what they make, or the first that is refused.
+-- The finding for a program by any function that computes the rules of declarations: its definitions, or the first declaration that is
+-- refused.
 use Rattle.std.specs.Prelude.{◌≡◌, ℕ, ◌+◌, List, [], ◌∷◌, Option, None, Some, Result, Ok, Err}
 use Rattle.lucid_core.specs.Parts.{CoreParts}
 use Rattle.lucid_parse_tree.specs.declared.tree.Decl.{Decl}
@@ -9,11 +10,11 @@ use Rattle.lucid_types_spec.specs.Declaration.{Declared, Definitions, parts_of, 
 use Rattle.lucid_types_spec.specs.Limits.{passed}
 use Rattle.lucid_types_spec.specs.Makes.{IsRefused, IsTyped}
 
--- From a declaration's number and line, itself and what was made before: what it makes, where it has a rule.
+-- From a declaration's number and line, itself and the earlier definitions: the new definitions, if it has a rule.
 abbrev pub Adds : Type 0
 Adds = ℕ → ℕ → DeclKind → Definitions → Option Definitions
 
--- It gives just what the rules derive.
+-- It computes just the derivations of the rules.
 pub record Computes (adds : Adds) : Type 0 where
   pub sound : (number line : ℕ) (m l : Definitions) (x : DeclKind) → adds number line x m ≡ Some l → Declared number line m x l
   pub complete : (number line : ℕ) (m l : Definitions) (x : DeclKind) → Declared number line m x l → adds number line x m ≡ Some l
@@ -40,7 +41,7 @@ found adds number m (x ∷ xs) = on_made number x (adds number x.line x.kind m) 
 
 -- ---- the law
 
--- A tree is typed with what is found and nothing else, or it is refused for what is found and nothing else; and never both.
+-- A tree is typed with the finding and nothing else, or it is refused for the finding and nothing else; and never both.
 pub record Decides (adds : Adds) (tree : Tree) : Type 0 where
   pub typed : (core : CoreParts) → IsTyped tree core → (m : Definitions) × (found adds 1 start tree.decls ≡ Ok m) × (parts_of m ≡ core)
   pub refused : (number line : ℕ) (limit : Option What) → IsRefused tree number line limit →

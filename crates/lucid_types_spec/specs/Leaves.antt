@@ -18,8 +18,8 @@ pub data OnlyNumbers : E → Type 0 where
   shift : (x : E) (left : Bool) (k : ℕ) → OnlyNumbers x → OnlyNumbers (e.Shift x left k)
   sum : (sign : Infix) (op : BinOp) (x y : E) → arithmetic sign ≡ Some op → OnlyNumbers x → OnlyNumbers y → OnlyNumbers (e.Infix sign x y)
 
--- A free place, which these expressions share, has the width of its leaves that are no numbers, and 32 where there are none.
--- That all such leaves have that width is asked by the rules of expressions, so the first of them tells it as well as any.
+-- A free place, which these expressions share, has the width of its leaves that are no numbers, and 32 if there are none. The rules of
+-- expressions require that all such leaves have that width, so the first of them decides it.
 pub data FreeWidth : List E → ℕ → Type 0 where
   of_leaves : (xs : List E) (w : ℕ) → IsWidth w → (AllByRecursion OnlyNumbers xs → ⊥) → FreeWidth xs w
   of_numbers : (xs : List E) → AllByRecursion OnlyNumbers xs → FreeWidth xs 32

@@ -1,4 +1,4 @@
--- The programs that the rules accept, and what a refusal of any other tells.
+-- The programs that the rules accept, and the meaning of a refusal of any other.
 use Rattle.std.specs.Prelude.{◌≡◌, ℕ, ◌+◌, List, [], ◌∷◌, ◌++◌, Option, None, Some, length}
 use Rattle.lucid_core.specs.Parts.{CoreParts}
 use Rattle.lucid_parse_tree.specs.declared.tree.Decl.{Decl}
@@ -17,7 +17,8 @@ pub data Makes : ℕ → Definitions → List Decl → Definitions → Type 0 wh
 abbrev pub IsTyped : Tree → CoreParts → Type 0
 IsTyped tree core = (m : Definitions) × Makes 1 start tree.decls m × (parts_of m ≡ core)
 
--- Why a declaration is refused behind what was made before: it has no rule; or it has one, and the limit that it passes first is this.
+-- The reason why a declaration is refused after earlier definitions: it has no rule; or it has one, and the limit that it exceeds first
+-- is this.
 pub data Because : ℕ → Definitions → Decl → Option What → Type 0 where
   no_rule : (number : ℕ) (m : Definitions) (x : Decl) → ((l : Definitions) → Declared number x.line m x.kind l → ⊥) → Because number m x None
   limit : (number : ℕ) (m l : Definitions) (x : Decl) (w : What) → Declared number x.line m x.kind l → passed x.kind (parts_of l) ≡ Some w →

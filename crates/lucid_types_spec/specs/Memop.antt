@@ -32,7 +32,7 @@ pub data Compared (s : Names) (w : ℕ) : E → Expr → Type 0 where
 pub data Returned (s : Names) (w : ℕ) : List S → List Stmt → Type 0 where
   returned : (x : E) (c : Expr) → Typed s (Int w) x c → Returned s w (statement.Return (Some x) ∷ []) (core.Return (Some c) ∷ [])
 
--- One return, or one if with one return in each branch, where the second may stand behind the if.
+-- One return, or one if with one return in each branch, where the second may follow the if.
 pub data MemopBody (s : Names) (w : ℕ) : List S → List Stmt → Type 0 where
   plain : (ys : List S) (cs : List Stmt) → Returned s w ys cs → MemopBody s w ys cs
   choice : (x : E) (ys zs : List S) (c : Expr) (cs ds : List Stmt) → Compared s w x c → Returned s w ys cs → Returned s w zs ds →

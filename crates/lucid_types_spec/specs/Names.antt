@@ -1,4 +1,4 @@
--- What a name stands for: the newest declaration of it that is in scope.
+-- The meaning of a name: the newest declaration of it that is in scope.
 use Rattle.std.specs.Prelude.{ℕ, List, [], ◌∷◌, Option, None, Some, bytes_eq, if◌then◌else◌}
 use Rattle.lucid_types_spec.specs.declared.scope.Entry.{Entry}
 use Rattle.lucid_types_spec.specs.declared.scope.Named.{Named}

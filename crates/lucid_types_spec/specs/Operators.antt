@@ -1,4 +1,4 @@
--- The operators between two operands, and what each is in the core.
+-- The operators between two operands, and the core of each.
 use Rattle.std.specs.Prelude.{Option, None, Some}
 use Rattle.lucid_base.specs.declared.ops.BinOp.{BinOp}
 use Rattle.lucid_base.specs.declared.ops.BinOp.TheVariants as bin

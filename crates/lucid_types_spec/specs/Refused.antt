@@ -32,7 +32,7 @@ use Rattle.lucid_types_spec.specs.Examples.{int, int_of, name}
 use Rattle.lucid_types_spec.specs.Names.{Names, called}
 use Rattle.lucid_types_spec.specs.Typed.{Typed, returning}
 
--- ---- what is in scope: constants, arrays, memops, events, functions, groups and locals
+-- ---- the scope: constants, arrays, memops, events, functions, groups and locals
 
 abbrev pub top : Names
 top =

@@ -1,4 +1,4 @@
--- The rules of what a `generate` sends.
+-- The rules for the event of a `generate`.
 use Rattle.std.specs.Prelude.{◌≡◌, ℕ, List, [], None, Some, false, is_some}
 use Rattle.lucid_core.specs.declared.body.Expr.{Expr}
 use Rattle.lucid_core.specs.declared.body.Stmt.{Stmt}

@@ -38,7 +38,7 @@ returning w x = record { width = w; test = None; yes = One x; no = One x }
 abbrev pub zero_of : ℕ → Expr
 zero_of w = core.Fixed (bits_of w 0)
 
--- A call of an array: what it answers by, and what it stores by.
+-- A call of an array: the memop of its answer, and that of its store.
 abbrev pub touching : ArrayName → Expr → MemAlu → Expr → MemAlu → Expr → Bool → Touch
 touching array i get x set y answers =
     roll-Touch (record { array = array; index = i; get = get; get_arg = x; set = set; set_arg = y; answers = answers })
@@ -105,7 +105,7 @@ mutual
     fun : (n : List ℕ) (k : ℕ) (ps : List Param) (t : Option ValueType) (xs : List E) (arrays : List ArrayName) (cs : List Expr) →
         seen n s ≡ Some (entry.Fun k ps t) → Given s ps xs arrays cs → Called s n xs t (core.Fun k arrays cs)
 
-  -- What is given for parameters, one for each: values, and arrays of the same cell width by their bare names.
+  -- The arguments for parameters, one for each: values, and arrays of the same cell width by their bare names.
   pub data Given (s : Names) : List Param → List E → List ArrayName → List Expr → Type 0 where
     nothing : Given s [] [] [] []
     value : (t : ValueType) (ps : List Param) (x : E) (xs : List E) (arrays : List ArrayName) (c : Expr) (cs : List Expr) →

@@ -25,12 +25,12 @@ abbrev pub stated : Option ℕ → ℕ
 stated None = 32
 stated (Some w) = w
 
--- What a written type is.
+-- The meaning of a written type.
 pub data Means : Ty → ValueType → Type 0 where
   int : (w : Option ℕ) → IsWidth (stated w) → Means (ty.Int w) (Int (stated w))
   bool : Means ty.Bool vt.Bool
 
--- What a function gives, where it returns on these paths: with a value it always returns.
+-- The answer of a function that returns on these paths: with a value it always returns.
 pub data Answers : Option Ty → Option ValueType → Ending → Type 0 where
   void : (r : Ending) → Answers None None r
   value : (t : Ty) (v : ValueType) → Means t v → Answers (Some t) (Some v) Always

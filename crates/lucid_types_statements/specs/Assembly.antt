@@ -16,7 +16,7 @@ abbrev pub GivesRest : Result Rest Fault → Option Body → Type 0
 GivesRest (Ok r) o = o ≡ Some (rest_of r)
 GivesRest (Err f) o = Fails f o
 
--- Where something stands behind.
+-- There are statements after it.
 abbrev pub GivesSome : Result Rest Fault → Option (Option Body) → Type 0
 GivesSome (Ok r) o = o ≡ Some (Some (rest_of r))
 GivesSome (Err f) o = Fails f o

@@ -1,4 +1,4 @@
--- What calls on bodies answer.
+-- The answers of calls on bodies.
 use Rattle.std.specs.Prelude.{◌≡◌, ℕ, Bool, ◌&&◌, nat_eq, Option, Some, Result, Ok, Err}
 use Rattle.lucid_types_spec.specs.Block.{Numbered}
 use Rattle.lucid_types_spec.specs.Names.{Names}
@@ -12,7 +12,7 @@ abbrev pub Takes : Result Part Fault → Names → Numbered → Option Taken →
 Takes (Ok p) s m o = o ≡ Some (record { part = p; names = s; numbered = m })
 Takes (Err f) s m o = Fails f o
 
--- What is given, with this numbered behind it.
+-- The result, and the locals and texts numbered after it.
 abbrev pub Leaves : {A : Type 0} → Result A Fault → Numbered → Option (A × Numbered) → Type 0
 Leaves (Ok x) m o = o ≡ Some (x, m)
 Leaves (Err f) m o = Fails f o

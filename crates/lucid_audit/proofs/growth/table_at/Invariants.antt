@@ -5,7 +5,7 @@ use Rattle.lucid_layout.specs.Search.{Within}
 use Rattle.lucid_audit.specs.Audit.{few_rows, grown, nodes_at}
 use Rattle.lucid_audit.proofs.growth.table_at.Given as goal
 
--- what is left gives, behind what was merged, what the whole gives
+-- the rest gives, after the merged seats, the result of the whole
 abbrev pub invariant-loop-seat : goal.invariant-loop-seat
 invariant-loop-seat l =
     AllByRecursion (λ s. Within (length l.code.ops) s.node.ops) (drop l.seat-index l.seats)

@@ -3,7 +3,7 @@ use Rattle.serde_json.specs.View.{items_view}
 use Rattle.lucid_audit.specs.PlanFile.{pairs_from}
 use Rattle.lucid_audit.proofs.plan_file.each_pair.Given as goal
 
--- what is left gives, behind what was read, what the whole gives
+-- the rest gives, after the read pairs, the result of the whole
 abbrev pub invariant-loop-value : goal.invariant-loop-value
 invariant-loop-value l =
     (length l.pairs ≡ l.value-index)

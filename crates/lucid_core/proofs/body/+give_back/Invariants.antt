@@ -1,4 +1,4 @@
--- What is left is no deeper than all of it.
+-- The rest is no deeper than all of it.
 use Rattle.std.proofs.Common.{◌≤◌}
 use Rattle.lucid_core.specs.declared.body.Expr.TheViews.{size-Stmt}
 use Rattle.lucid_core.proofs.body.+give_back.Given as goal

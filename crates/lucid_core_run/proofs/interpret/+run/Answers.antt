@@ -1,4 +1,4 @@
--- The call of an earlier function, and a call with its body put in.
+-- The call of an earlier function, and an inlined call.
 use Rattle.std.proofs.Common.{rules, ◌≡◌, ◌∙◌, ap, map, take, Some, refl, arith}
 use Rattle.std.specs.Prelude.{slice_get}
 use Rattle.lucid_core.specs.Computations.{all, array_of, begun_with}

@@ -1,4 +1,5 @@
--- Measures: five times the depth of what is left to run, and a rank among the functions. Invariants: what a loop has done and what is left make the whole.
+-- Measures: five times the depth of the remaining parts, and a rank among the functions. Invariants: the result so far and the rest make
+-- the whole.
 use Rattle.std.proofs.Common.{◌≡◌, ◌+◌, ◌*◌, ◌++◌, max, drop, map}
 use Rattle.lucid_core.specs.declared.body.Expr.TheViews.{size-Stmt}
 use denote.Param.Weighed.{most}

@@ -1,4 +1,4 @@
--- What a walk has taken where memory stopped it.
+-- The steps of a walk that ran out of memory.
 use Rattle.std.proofs.Common.{rules, ◌≡◌, ◌+◌, ◌≤◌, map, option_map, false, true}
 use Rattle.lucid_core.specs.declared.body.Stmt.TheVariants as s
 use Rattle.lucid_core.specs.declared.body.Touch.{out-Touch}

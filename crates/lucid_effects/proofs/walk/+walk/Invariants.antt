@@ -1,4 +1,4 @@
--- What a loop has walked and what is left make the whole.
+-- The walked part of a loop and the rest make the whole.
 use Rattle.std.proofs.Common.{◌≡◌, drop, map}
 use Rattle.lucid_effects_spec.specs.Evaluation.{sequence}
 use Rattle.lucid_effects.specs.Goes.{walked}

@@ -1,4 +1,5 @@
--- Measures: five times the depth of what is left, and a rank among the functions. Invariants: what a loop has made and what is left make the whole.
+-- Measures: five times the depth of the rest, and a rank among the functions. Invariants: the result of a loop so far and the rest make
+-- the whole.
 use Rattle.std.proofs.Common.{◌≡◌, ◌+◌, ◌*◌, ◌++◌, max, drop, map}
 use Rattle.lucid_core.specs.Weight.{weight}
 use Rattle.lucid_inline_spec.specs.Flat.{block, each, flat_expr, flat_stmt}

@@ -1,6 +1,6 @@
 use Rattle.std.proofs.Common.{◌≡◌, take}
 use Rattle.lucid_inline.proofs.program.copy_arrays.Given as goal
 
--- what was gone over is copied
+-- the visited items are copied
 abbrev pub invariant-loop-array : goal.invariant-loop-array
 invariant-loop-array l = l.copies.items ≡ take l.array-index l.arrays

@@ -1,4 +1,4 @@
--- What a loop has made and what is left make the whole; and what is held now leads back to what was held before.
+-- The result of a loop so far and the rest make the whole; and the notes lead back from the current flags to the earlier ones.
 use Rattle.std.proofs.Common.{◌≡◌, ◌++◌, ◌||◌, drop, fold, map}
 use Rattle.lucid_inline_count.specs.Flags.{put_back}
 use Rattle.lucid_inline_count.specs.Found.{any_returns, any_value, names_of, one_more, stmt_tally}

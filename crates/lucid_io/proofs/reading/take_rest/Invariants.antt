@@ -4,7 +4,7 @@ use Rattle.lucid_io.specs.Contents.{SameHeld}
 use Rattle.lucid_io.specs.Counts.{SameCounts}
 use Rattle.lucid_io.proofs.reading.take_rest.Given as goal
 
--- What was taken so far is what the begun file gave, no more than a byte past the limit, and each read took a byte of it.
+-- The bytes so far are those that the begun file gave, no more than a byte past the limit, and each read took a byte of it.
 abbrev pub invariant-fill : goal.invariant-fill
 invariant-fill g l = record {
   within : length l.bytes.items ≤ l.limit + 1;

@@ -2,7 +2,7 @@ use Rattle.std.proofs.Common.{◌≡◌, ◌-◌, ◌≤◌, length, take}
 use Rattle.std.specs.Io.KnownBytes.{Appends}
 use Rattle.lucid_io.proofs.writing.put_all.Given as goal
 
--- What was written so far is a beginning of the piece.
+-- The written bytes are a beginning of the piece.
 abbrev pub invariant-put : goal.invariant-put
 invariant-put g l = record {
   within : l.at ≤ length l.piece;

@@ -6,7 +6,7 @@ use Rattle.lucid_merge.specs.RowCounts.{patterns_of}
 use Rattle.lucid_layout.specs.Refusing.{fields_of}
 use Rattle.lucid_layout.proofs.growing.fields_of.Given as goal
 
--- what is left gives, with what was put, what the whole gives
+-- the rest gives, with the items so far, the result of the whole
 abbrev pub invariant-loop-row : goal.invariant-loop-row
 invariant-loop-row l =
     IsTrue (rises l.fields.items)

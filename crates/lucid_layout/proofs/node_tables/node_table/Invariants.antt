@@ -5,7 +5,7 @@ use Rattle.std.specs.List.{fold}
 use Rattle.lucid_merge.specs.Product.{product}
 use Rattle.lucid_layout.proofs.node_tables.node_table.Given as goal
 
--- what is left gives, behind what was merged, what the whole gives
+-- the rest gives, after the merged tables, the result of the whole
 abbrev pub invariant-loop-op : goal.invariant-loop-op
 invariant-loop-op l =
     Within (length l.code.ops) (drop l.op-index l.more)

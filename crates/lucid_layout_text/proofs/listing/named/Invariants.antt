@@ -5,7 +5,7 @@ use Rattle.lucid_tables.specs.Numbers.{with_numbers, rising, rises}
 use Rattle.lucid_tables.specs.Placed.{named_by}
 use Rattle.lucid_layout_text.proofs.listing.named.Given as goal
 
--- what is left gives, with what was put, what the whole gives
+-- the rest gives, with the items so far, the result of the whole
 abbrev pub invariant-loop-row : goal.invariant-loop-row
 invariant-loop-row l =
     IsTrue (rises l.named.items)

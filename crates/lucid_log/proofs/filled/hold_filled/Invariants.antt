@@ -4,7 +4,7 @@ use Rattle.lucid_io.specs.Puts.{Leaves}
 use Rattle.lucid_log.specs.Filled.{filled}
 use Rattle.lucid_log.proofs.filled.hold_filled.Given as goal
 
--- What is left: what waits, and the rest of the text, with the numbers that are left, one for each `%d`.
+-- The rest: the buffered bytes, and the rest of the text, with the remaining numbers, one for each `%d`.
 abbrev pub invariant-loop-number : goal.invariant-loop-number
 invariant-loop-number g l = record {
   left : Leaves g.S.Sink.written g.S.Sink.faults l.fn.sink l.sink (l.fn.room ++ filled l.text l.numbers) (l.room ++ filled l.rest (drop l.number-index l.numbers));

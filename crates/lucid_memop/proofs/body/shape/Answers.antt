@@ -1,4 +1,4 @@
--- What is found is the shape, fits, and means what the body does.
+-- The found memop is the shape, fits, and has the meaning of the body.
 use Rattle.lucid_memop.proofs.Finding.{exact}
 use Rattle.lucid_memop.proofs.Promises.{found_fits, found_means}
 use Rattle.lucid_memop.proofs.body.shape.Goals as goal

@@ -3,7 +3,7 @@ use Rattle.lucid_merge.specs.Product.{pairs_with, kept_of}
 use Rattle.lucid_merge.specs.Standing.{rows_at}
 use Rattle.lucid_merge.proofs.offer.offer_near.Given as goal
 
--- what is left gives, with what was kept, what the whole gives; there are not too many, at so many steps for each place
+-- the rest gives, with the kept rows, the result of the whole; there are not too many, at this many steps for each position
 abbrev pub invariant-loop-place : goal.invariant-loop-place
 invariant-loop-place g l =
     (kept_of l.kept (pairs_with l.a (rows_at l.rows (drop l.place-index l.places))) ≡ kept_of l.fn.kept (pairs_with l.a (rows_at l.rows l.places)))

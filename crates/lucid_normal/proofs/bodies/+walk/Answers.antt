@@ -1,4 +1,4 @@
--- Bodies that are put in, events and prints.
+-- Inlined bodies, events and prints.
 use Rattle.std.proofs.Common.{◌∙◌}
 use Rattle.std.proofs.lemmas.Result.{on_ok_weaker}
 use Rattle.lucid_normal.proofs.Forms.{gen_env, gen_ops, inlined_env, inlined_ops, inlined_value, say_ops}

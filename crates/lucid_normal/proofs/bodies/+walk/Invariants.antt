@@ -1,5 +1,5 @@
--- Measures: four times the depth of what is left, and a rank among the functions. Invariants: what a loop has made and what is left make the whole,
--- and what is noted leads back to what held the locals before.
+-- Measures: four times the depth of the rest, and a rank among the functions. Invariants: the result of a loop so far and the rest make
+-- the whole, and the notes lead back to the earlier operands of the locals.
 use Rattle.std.proofs.Common.{◌≡◌, ◌+◌, ◌*◌, ◌++◌, max, drop, map}
 use Rattle.lucid_normal.specs.Given.{given_codes}
 use Rattle.lucid_normal_steps.specs.Added.{added}

@@ -3,7 +3,7 @@ use Rattle.lucid_normal_steps.specs.Notes.{before}
 use Rattle.lucid_normal_spec.specs.Translate.{holding}
 use Rattle.lucid_normal_steps.proofs.calls.hold_all.Given as goal
 
--- what is left is held behind what was gone over; and what is noted leads back
+-- the rest is bound after the visited part; and the notes lead back
 abbrev pub invariant-loop-i : goal.invariant-loop-i
 invariant-loop-i l = record {
   held : holding l.held (drop l.i-index l.given) ≡ holding l.fn.held l.given;

@@ -3,7 +3,7 @@ use Rattle.lucid_normal_steps.specs.declared.changes.Change.{Change}
 use Rattle.lucid_normal_spec.specs.declared.env.Typed.{Typed}
 use Rattle.lucid_normal_steps.proofs.changes.at_both.Given as goal
 
--- what was gone over and what is left make the whole
+-- the visited part and the rest make the whole
 abbrev pub invariant-loop-local : goal.invariant-loop-local
 invariant-loop-local l =
     let made : ℕ × Option Typed → Change = λ f. record { local = f.0; first = f.1; second = slice_index_or l.held f.0 None } in

@@ -4,7 +4,7 @@ use Rattle.lucid_normal_steps.specs.Changes.{changes_joined, with_locals}
 use Rattle.lucid_normal_steps.specs.Notes.{before}
 use Rattle.lucid_normal_steps.proofs.joining.join_changes.Given as goal
 
--- what was joined so far and what is left make the whole, and what is noted leads back
+-- the joined part and the rest make the whole, and the notes lead back
 abbrev pub invariant-loop-change : goal.invariant-loop-change
 invariant-loop-change l = record {
   env : with_locals l.env (changes_joined l.at.level l.at.condition (drop l.change-index l.changes) l.env.held l.env.widths)

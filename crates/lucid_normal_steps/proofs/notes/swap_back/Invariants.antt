@@ -2,7 +2,7 @@ use Rattle.std.proofs.Common.{◌≡◌, ◌<◌, length}
 use Rattle.lucid_normal_steps.specs.Notes.{before}
 use Rattle.lucid_normal_steps.proofs.notes.swap_back.Given as goal
 
--- what is left leads to what held the locals before, and what was taken back leads again to what holds them at first
+-- the rest leads to the old operands of the locals, and the undone notes lead again to those at the start
 abbrev pub invariant-loop-note : goal.invariant-loop-note
 invariant-loop-note l = record {
   held : before l.left l.held ≡ before l.fn.notes l.fn.held;

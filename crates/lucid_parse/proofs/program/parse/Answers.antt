@@ -14,7 +14,7 @@ returns-in-Some-clause-one c = one_tree c.declarations_are_read_as_spelled.ensur
 pub returns-clause-one : goal.returns-clause-one
 returns-clause-one c = one_tree c.declarations_are_read_as_spelled.ensures c.args.text.now c.args.tokens.now
 
--- what is so is answered
+-- the truth is answered
 
 pub returns-clause-parses : goal.returns-clause-parses
 returns-clause-parses c = λ tree shallow is. finds c.declarations_are_read_as_spelled.ensures c.args.text.now c.args.tokens.now (lexemes_of c.args.text.now c.args.tokens.now) c.tree_of.result refl c.tree_of.ensures.read c.tree_of.ensures.why tree is

@@ -33,7 +33,7 @@ decreases-matched l = 6 * l.depth + 4
 abbrev pub decreases-statement_within : goal.decreases-statement_within
 decreases-statement_within l = 6 * l.depth + 5
 
--- what is left to read gives what the whole gives
+-- the rest gives the result of the whole
 
 abbrev pub invariant-statements-loop-turn : goal.invariant-statements-loop-turn
 invariant-statements-loop-turn l = repeat (before_brace (inner_at l.depth).statement) (l._turn-end - l._turn) l.all (said l.rest) ≡ statements (inner_at l.depth).statement (said l.fn.tokens)

@@ -4,6 +4,6 @@ use Rattle.lucid_parse_spec.specs.Reader.{after_comma, repeat, separated}
 use Rattle.lucid_parse_expression.specs.Reads.{ReadsAll}
 use Rattle.lucid_parse_expression.proofs.commas.separated.Given as goal
 
--- what is left to read gives what the whole gives
+-- the rest gives the result of the whole
 abbrev pub invariant-loop-turn : goal.invariant-loop-turn
 invariant-loop-turn g l = (reads : _) → ReadsAll (goal.F-post g l.fn.part) reads → repeat (after_comma reads) (l._turn-end - l._turn) l.all (said l.rest) ≡ separated reads (said l.fn.tokens)

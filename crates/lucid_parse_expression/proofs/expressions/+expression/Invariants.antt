@@ -27,7 +27,7 @@ decreases-named l = 5 * l.depth + 3
 abbrev pub decreases-operand : goal.decreases-operand
 decreases-operand l = 5 * l.depth + 4
 
--- what is left to read gives what the whole gives
+-- the rest gives the result of the whole
 
 abbrev pub invariant-expression_at-loop-turn : goal.invariant-expression_at-loop-turn
 invariant-expression_at-loop-turn l = climb (expression_at (l.depth - 1)) l.least (l._turn-end - l._turn) l.tight l.left (said l.rest) ≡ expression_at l.depth l.least (said l.fn.tokens)

@@ -3,7 +3,7 @@ use Rattle.lucid_pipe.specs.Blocks.{on_registers}
 use Rattle.lucid_pipe.specs.InPlace.{run_all_rows}
 use Rattle.lucid_pipe.proofs.stage.run_all_rows.Given as goal
 
--- what was done and what is left is the whole
+-- the done part and the rest are the whole
 abbrev pub invariant-loop-rows : goal.invariant-loop-rows
 invariant-loop-rows l =
     (run_all_rows l.placed.code (on_registers l.registers l.cells l.sent) (drop l.rows-index l.tables)

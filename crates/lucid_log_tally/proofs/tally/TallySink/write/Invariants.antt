@@ -1,7 +1,7 @@
 use Rattle.std.proofs.Common.{◌≡◌, ◌+◌, ◌++◌, length, take}
 use Rattle.lucid_log_tally.proofs.tally.TallySink.write.Given as goal
 
--- what is taken so far is a beginning of the piece
+-- the bytes so far are a beginning of the piece
 abbrev pub invariant-loop-byte : goal.invariant-loop-byte
 invariant-loop-byte l = record {
   bytes : l.self.bytes ≡ l.fn.self.bytes ++ take l.byte-index l.piece;

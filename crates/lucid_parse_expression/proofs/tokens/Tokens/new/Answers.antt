@@ -4,6 +4,6 @@ use Rattle.lucid_lex.proofs.Ascii.{token_ascii}
 use Rattle.lucid_parse_expression.specs.Within.{IsWithin}
 use Rattle.lucid_parse_expression.proofs.tokens.Tokens.new.Goals as goal
 
--- a token's bytes stand in the text, and are ASCII
+-- a token's bytes are in the text, and are ASCII
 pub invariant_of-result : goal.invariant_of-result
 invariant_of-result c = record { stand = All-weaker (IsTokenOf c.args.text.now) (IsWithin c.args.text.now) (λ t h. (h.in_order, h.within, token_ascii (bytes_of c.args.text.now t) t.kind h.written)) c.args.tokens.now c.requires }
