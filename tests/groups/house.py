@@ -1,7 +1,8 @@
 """The order of the house: names of files, names of definitions, links, English, and subjects of commits.
 
-Fails on a file of specs/ or proofs/ that is named after no source, on a trusted name that two pages define, on a dead link or path in a
-page, on worse English than the bounds, and on a commit subject that begins with Say or Tell or passes 72 characters. Today's exceptions
+Fails on a file of specs/ or proofs/ that is named after no source, on a trusted name that two pages define, on a head of a lib.rt that
+names other users than crates.txt or leaves out what may change, on a dead link or path in a page, on a row of a table with other cells
+than its head, on worse English than the bounds, and on a commit subject that begins with Say or Tell or passes 72 characters. Today's exceptions
 are in tests/house.exceptions, which may only shrink: `--fill` drops those that are gone. Sees nothing of what the names mean.
 """
 from __future__ import annotations
@@ -40,7 +41,9 @@ def run(group: Group) -> None:
         group.check(f"{key}: {'defined in two trusted pages' if key == 'names' else 'named after no source'}", not new, new)
         gone = sorted(known.get(key, set()) - names)
         group.check(f"{key}: tests/house.exceptions names nothing that is gone", not gone, gone)
+    heads(group)
     links(group)
+    tables(group)
     english(group)
     commits(group)
 
@@ -76,13 +79,44 @@ def misnamed() -> Dict[str, Set[str]]:
     return found
 
 
+def definitions() -> List[Tuple[str, str, str]]:
+    """The crate, the page and the name of each definition that clauses of `lucid` rest on."""
+    listed = subprocess.run([str(TESTS / "pages"), "--definitions"], stdout=subprocess.PIPE, check=True).stdout.decode()
+    return [(crate, page, name) for crate, page, name in (line.split(" ", 2) for line in listed.splitlines())]
+
+
 def repeated_names() -> Set[str]:
     """Names that clauses of `lucid` rest on and that more than one page of definitions has."""
-    listed = subprocess.run([str(TESTS / "pages"), "--definitions"], stdout=subprocess.PIPE, check=True).stdout.decode()
     pages: Dict[str, Set[str]] = defaultdict(set)
-    for crate, page, name in (line.split(" ", 2) for line in listed.splitlines()):
+    for crate, page, name in definitions():
         pages[name].add(f"{crate} {page}")
     return {name for name, where in pages.items() if len(where) > 1}
+
+
+def used_by(users: List[str]) -> str:
+    """The sentence of a head that names the crates that list a crate in crates.txt."""
+    if not users:
+        return "No crate uses it."
+    if len(users) > 6:
+        return "Used by many crates."
+    return f"Used by {' and '.join(filter(None, [', '.join(users[:-1]), users[-1]]))}."
+
+
+def heads(group: Group) -> None:
+    """The head of each lib.rt, but those of tests, names its users, whether promises rest on its definitions, and what may change."""
+    lines = [line.split(":") for line in (TOP / "crates.txt").read_text().splitlines() if ":" in line and not line.startswith("#")]
+    below = {name.split()[0]: needs.split() for name, needs in lines if not name.startswith("lucid_tests_")}
+    trusted = {crate for crate, _, _ in definitions()}
+    for crate in below:
+        source = TOP / f"crates/{crate}/src/lib.rt"
+        if not source.exists():
+            continue
+        comment = re.match(r"(?://.*\n)*", source.read_text())[0]
+        head = " ".join(line[2:].strip() for line in comment.splitlines())
+        wanted = used_by([user for user in below if crate in below[user]])
+        group.check(f"{crate}: its head says who uses it", wanted in head, wanted)
+        group.check(f"{crate}: its head says whether promises rest on it", ("(docs/TRUSTED.md)" in head) == (crate in trusted), crate in trusted)
+        group.check(f"{crate}: its head says what may change", bool(re.search(r"may change; a|It changes only to correct", head)))
 
 
 def links(group: Group) -> None:
@@ -101,6 +135,19 @@ def pages() -> List[Path]:
     listed = subprocess.run(["git", "ls-files", "-co", "--exclude-standard", "*.md"], cwd=TOP, stdout=subprocess.PIPE, check=True)
     paths = [TOP / name for name in listed.stdout.decode().split()]
     return [path for path in paths if path.exists() and "must-fail" not in path.parts]
+
+
+def tables(group: Group) -> None:
+    """Each row of a table has as many cells as the head of the table: a `|` within a cell needs a backslash."""
+    for page in pages():
+        text = re.sub(r"^```.*?^```", "", page.read_text(), flags=re.S | re.M)
+        found = [
+            row
+            for rows in re.findall(r"(?:^\|.*\n)+", text, flags=re.M)
+            for row in rows.splitlines()
+            if len(re.findall(r"(?<!\\)\|", row)) != len(re.findall(r"(?<!\\)\|", rows.splitlines()[0]))
+        ]
+        group.check(f"{page.relative_to(TOP)}: rows of tables have the cells of their heads", not found, found[:1])
 
 
 def english(group: Group) -> None:

@@ -1,8 +1,11 @@
-// Placements by hand or by another tool: read from a file, and audited. `plan_of` reads a placement file, or reports its first fault.
-// `audit` returns a placed code exactly if the counts of the code keep their limits and each node follows those that it reads from, in a
-// table and a stage that keep theirs; otherwise it returns the first cause. Places determine one placed code or one cause, and the places
-// of first fit are accepted as that very layout. Read specs/PlanFile, specs/Audit and specs/Refused. Depends on lucid_layout for nodes,
-// counts and tables of nodes, and on lucid_conf for the limits.
+// Placements by hand or by another tool: read from a file, and audited.
+// Promises: `plan_of` reads a placement file, or reports its first fault. `audit` returns a placed code exactly under two conditions, and
+// otherwise the first cause: the counts of the code keep their limits, and each node is in a later stage than those that it reads from, in
+// a table and a stage that keep theirs. Places determine one placed code or one cause. The places of first fit are accepted as that very
+// layout.
+// Read specs/PlanFile, specs/Audit and specs/Refused.
+// Used by lucid_top_fit, lucid_top and lucid_top_laws. Promises of the program rest on its definitions (docs/TRUSTED.md). Bodies and proofs
+// may change; a public clause may only get stronger.
 #![tactic(auto)]
 
 mod auditing;

@@ -1,6 +1,8 @@
 // The base types of all crates: numbers of a stated width, names, events and outs. Each type keeps its bounds as a fact of the type, and
-// each operation equals its formula in specs/. Depends only on std and libraries of list types and short vectors. Only the making of a
-// name and of cells allocates.
+// each operation equals its formula in specs/. Depends only on std and libraries of list types and short vectors. Only the making of a name
+// and of cells allocates.
+// Used by many crates. Promises of the program rest on its definitions (docs/TRUSTED.md). It changes only to correct a fault: README.md,
+// *Frozen*.
 #![tactic(auto)]
 
 mod args;

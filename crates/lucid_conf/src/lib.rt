@@ -1,8 +1,9 @@
-// The two JSON files: limits of a target, and scenarios of a network. `limits_of` and `scene_of` return exactly the result of the tables
-// in specs/Tables.antt for the JSON value of the bytes, or the first key that fails and, of a list, the first bad item (specs/Items.antt
-// has the rules of an item). The invariants of an accepted file, which no caller tests again, are in specs/Kept.antt. Depends on
-// lucid_base, lucid_core for programs and the fit of events, lucid_json for the value of the bytes, serde_json's definition of it, and
-// indexmap.
+// The two JSON files: limits of a target, and scenarios of a network.
+// Promises: `limits_of` and `scene_of` return exactly the result of the tables in specs/Tables.antt for the JSON value of the bytes. If a
+// key fails, they return the first such key and, if it is a list, its first bad item (specs/Items.antt has the rules of an item). The
+// invariants of an accepted file, which no caller tests again, are in specs/Kept.antt.
+// Used by many crates. Promises of the program rest on its definitions (docs/TRUSTED.md). Bodies and proofs may change; a public clause may
+// only get stronger.
 #![tactic(auto)]
 
 mod down;

@@ -1,7 +1,8 @@
 // The elaborated program (a core), the rules that make one valid, and its meaning: the effect of an event whose handler runs whole.
 // Promises: every value of type `Core` or `Flat` is valid (specs/Valid.antt). The laws of laws.rt hold for all cells, ticks, switches and events.
 // The meaning is `step` of specs/Step.antt, over specs/Meaning.antt and specs/Computations.antt. The interpreter is the crate lucid_core_run.
-// Nearly every crate depends on this one, so it changes only to correct a fault. A change of specs/ changes the main theorem.
+// Used by many crates. Promises of the program rest on its definitions (docs/TRUSTED.md). It changes only to correct a fault: README.md,
+// *Frozen*.
 #![tactic(auto)]
 
 mod body;

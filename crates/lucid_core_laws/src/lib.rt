@@ -1,7 +1,9 @@
-// Laws for crates that build bodies: a node of a body keeps all rules of a valid program if its parts do, and a program whose bodies do
-// is valid. It has laws alone: a field for each of the records in specs/ExprNodes.antt, StmtNodes.antt, AssigningNodes.antt and
-// InlinedNodes.antt, and the definitions of Programs.antt, for cores and for flat programs at once. They hold at every place that has the
-// named things, so nothing is carried from one scope to another. Depends on lucid_base and lucid_core.
+// Laws for crates that build bodies: a node of a body keeps all rules of a valid program if its parts do, and a program whose bodies do is
+// valid.
+// It has laws alone, for cores and for flat programs at once: a field for each of the records in specs/ExprNodes.antt, StmtNodes.antt,
+// AssigningNodes.antt and InlinedNodes.antt, and the definitions of Programs.antt. They hold at every place that has the named things, so
+// nothing is carried from one scope to another.
+// Used by lucid_types_laws, lucid_inline_spec and lucid_pass_laws. Proofs may change; a law may only get stronger.
 #![tactic(auto)]
 
 mod examples;

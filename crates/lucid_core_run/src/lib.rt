@@ -1,8 +1,7 @@
 // The interpreter of a core: runs the handler of an event whole.
 // Promises: `run_whole` and `run_into` compute exactly `step` of lucid_core (specs/Step.antt). If memory runs out, the cells are unchanged.
 // The outs fit the program, and cells that fit before still fit after.
-// Only lucid_net (`run whole`) and lucid_top (`once`) use it, so its bodies may change freely. The clauses of `run_whole` and `run_into`
-// are its whole surface.
+// Used by lucid_net and lucid_top. Bodies and proofs may change; a public clause may only get stronger.
 #![tactic(auto)]
 
 mod depth;

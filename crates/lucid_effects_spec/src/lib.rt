@@ -1,8 +1,9 @@
-// The order of arrays: the arrays that a body calls, their order, and when a program is accepted; and schemes, which decide it in one
-// walk. Laws of the order (specs/Laws.antt): in an accepted program every event calls each array at most once, in declared order. A body
-// is in order exactly if the numbering rises along each of its paths. Laws of schemes (specs/SchemeLaws.antt): the scheme that one walk
-// finds is principal, shows by its cycles whether the body is in order, and takes a bounded number of steps. It has no code but the type
-// `Scheme`. lucid_effects computes these definitions; the inlining and normal form crates cite the laws.
+// The order of arrays: the arrays that a body calls, their order, and when a program is accepted; and schemes, which decide it in one walk.
+// Laws of the order (specs/Laws.antt): in an accepted program every event calls each array at most once, in declared order. A body is in
+// order exactly if the numbering rises along each of its paths. Laws of schemes (specs/SchemeLaws.antt): the scheme that one walk finds is
+// principal, shows by its cycles whether the body is in order, and takes a bounded number of steps. It has no code but the type `Scheme`.
+// lucid_effects computes these definitions; the inlining and normal form crates cite the laws.
+// Used by many crates. Promises of the program rest on its definitions (docs/TRUSTED.md). Proofs may change; a law may only get stronger.
 #![tactic(auto)]
 
 mod examples;

@@ -1,6 +1,7 @@
 // Large inputs from a number: a program, the limits of a target and a scenario, as texts that specs/ defines (Program.antt, Limits.antt,
-// Scene.antt). The same seed gives the same text: its choices are in specs/Draws.antt and specs/Choices.antt. Depends on lucid_base for
-// the error of a failed allocation.
+// Scene.antt). The same seed gives the same text: its choices are in specs/Draws.antt and specs/Choices.antt.
+// Used by lucid_top and lucid_top_laws. Promises of the program rest on its definitions (docs/TRUSTED.md). Bodies and proofs may change; a
+// public clause may only get stronger.
 #![tactic(auto)]
 
 mod choices;

@@ -1,8 +1,9 @@
-// The flat form of a program: each call is replaced by the body of its function, and each group by its members (specs/Flat.antt). Laws of
-// this definition (specs/Laws.antt), each on a function that does nothing: the flat form of a valid core has the effect of the core at
-// each event, calls the same arrays in the same order, is in order exactly if the core is, and is a valid flat core. Its length and its
-// size are those that are counted over the core (specs/Counts.antt). Depends on lucid_base, lucid_core, lucid_effects_spec and
-// lucid_core_laws.
+// The flat form of a program: each call is replaced by the body of its function, and each group by its members (specs/Flat.antt).
+// Promises: laws of this definition (specs/Laws.antt), each on a function that does nothing. The flat form of a valid core has the effect
+// of the core at each event, and calls the same arrays in the same order. It is in order exactly if the core is, and is a valid flat core.
+// Its length and its size are those that are counted over the core (specs/Counts.antt).
+// Used by lucid_inline_count, lucid_inline, lucid_pass_laws, lucid_top_fit, lucid_top and lucid_top_laws. Promises of the program rest on
+// its definitions (docs/TRUSTED.md). Proofs may change; a law may only get stronger.
 #![tactic(auto)]
 
 mod examples;

@@ -1,6 +1,8 @@
-// Files that are read and sinks that are written, as every program above sees them: two traits whose clauses define the effect of each
-// call on the bytes and on a count of faults; in-memory fakes with fully specified contents; and OS adapters whose contents are
-// unspecified. A call returns a fault only if the count of its object rose in that call. Depends on lucid_base alone.
+// Files that are read and sinks that are written, as every program above sees them: two traits whose clauses define the effect of each call
+// on the bytes and on a count of faults; in-memory fakes with fully specified contents; and OS adapters whose contents are unspecified. A
+// call returns a fault only if the count of its object rose in that call.
+// Used by many crates. Promises of the program rest on its definitions (docs/TRUSTED.md). It changes only to correct a fault: README.md,
+// *Frozen*.
 #![tactic(auto)]
 
 mod counts;

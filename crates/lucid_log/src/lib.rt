@@ -1,6 +1,8 @@
 // The texts of a run: blocks, cells and endings. All of a text is written, or a proper prefix of it if the sink's count of faults rose in
-// that call. Pieces are buffered, and each call flushes its own buffer. The texts are defined in specs/, beside their formats. Depends on
-// lucid_base, lucid_io, lucid_core and itoa. Nothing here allocates.
+// that call. Pieces are buffered, and each call flushes its own buffer. The texts are defined in specs/, beside their formats. Nothing here
+// allocates.
+// Used by many crates. Promises of the program rest on its definitions (docs/TRUSTED.md). It changes only to correct a fault: README.md,
+// *Frozen*.
 #![tactic(auto)]
 
 mod block;

@@ -1,4 +1,6 @@
-// Memops: the bodies that the memory of one stage can compute, by specs/Shape.antt. Depends on lucid_base and lucid_core.
+// Memops: the bodies that the memory of one stage can compute, by specs/Shape.antt.
+// Used by lucid_types_spec, lucid_types_laws, lucid_types_statements and lucid_types_declarations. Promises of the program rest on its
+// definitions (docs/TRUSTED.md). Bodies and proofs may change; a public clause may only get stronger.
 #![tactic(auto)]
 
 mod body;

@@ -1,7 +1,7 @@
 // The normal form of a flat core, built: guarded operations with the effect of its handlers (lucid_normal_spec's specs/Translate.antt). A
 // body is walked once. Overwritten bindings are kept in an undo log (lucid_normal_steps), so an inlined call or an `if` costs its own
-// writes, not all locals of the handler. Depends on lucid_base, lucid_core, lucid_effects_spec, lucid_code, lucid_normal_spec,
-// lucid_normal_laws and lucid_normal_steps.
+// writes, not all locals of the handler.
+// Used by lucid_top_fit. Bodies and proofs may change; a public clause may only get stronger.
 #![tactic(auto)]
 
 mod bodies;

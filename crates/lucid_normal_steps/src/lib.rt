@@ -1,6 +1,6 @@
 // The translation of each form of a body from its translated parts, and the join of an if; lucid_normal walks bodies with it. Overwritten
-// bindings are kept in an undo log, so an inlined call or an `if` costs its own writes, not all locals of the handler. Depends on
-// lucid_base, lucid_core, lucid_code and lucid_normal_spec.
+// bindings are kept in an undo log, so an inlined call or an `if` costs its own writes, not all locals of the handler.
+// Used by lucid_normal. Bodies and proofs may change; a public clause may only get stronger.
 #![tactic(auto)]
 
 mod branches;

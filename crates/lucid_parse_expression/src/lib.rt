@@ -1,6 +1,7 @@
 // Parsers for the front of a token list: single tokens, widths and types, lists with commas, expressions. Each function takes a part off
-// the front of the tokens as lucid_parse_spec's definitions read it, and returns it with the rest, unless memory runs out. The grammar
-// sees the tokens as a list of lexemes (`said`). Depends on lucid_parse_spec, lucid_lex for tokens and lucid_parse_tree for trees.
+// the front of the tokens as lucid_parse_spec's definitions read it, and returns it with the rest, unless memory runs out. The grammar sees
+// the tokens as a list of lexemes (`said`).
+// Used by lucid_parse. Bodies and proofs may change; a public clause may only get stronger.
 #![tactic(auto)]
 
 mod array;

@@ -1,5 +1,6 @@
 // The syntax tree of a program, made by parsing and read by typing, and the induction over it for laws about trees (proofs/). It promises
-// nothing but its types; lucid_parse_spec defines the spelling of a tree. Depends on lucid_base for names and lists.
+// nothing but its types; lucid_parse_spec defines the spelling of a tree.
+// Used by many crates. It changes only to correct a fault: README.md, *Frozen*.
 #![tactic(auto)]
 
 mod tree;

@@ -1,10 +1,10 @@
 // The pipeline machine: stages with at most one packet in front of each. Packets move in any order, and moving one takes no memory.
-// Promises: the exact effect of each move (`enter`, `go`); that for any order of moves the cells and outs are those of whole traversals in the
-// order of entry; and the sights that a watch is shown.
-// Read specs/Packets and Pipe (a pipe, and how a packet enters and moves), Settled (the pipe once all packets in flight have departed), Moves
-// (lists of moves), Sights (slots and the watch), Laws (laws for callers) and Rows (a pipe as rows of lucid_pipe_laws). The layout of packets
-// in memory is internal: specs/Blocks, Slots, Outs, Views and InPlace, and all of proofs/.
-// Depends on lucid_base, lucid_code, lucid_tables and lucid_pipe_laws.
+// Promises: each move (`enter`, `go`) has exactly its defined effect. For any order of moves, the cells and outs are those of packets that
+// traverse all stages one after another, in the order of entry. A watch is shown the sights of specs/Sights.
+// Read specs/Packets and Pipe (a pipe, and how a packet enters and moves) and Settled (the pipe once all packets in flight have departed).
+// Moves has lists of moves, Sights the slots and the watch, Laws the laws for callers, and Rows a pipe as rows of lucid_pipe_laws.
+// The layout of packets in memory is internal: specs/Blocks, Slots, Outs, Views and InPlace, and all of proofs/.
+// Used by many crates. Bodies and proofs may change; a public clause may only get stronger.
 #![tactic(auto)]
 
 mod act;

@@ -1,9 +1,12 @@
-// Packets that move through stages, of any kind: each stage has cells of its own, and makes new cells and a new packet from these and a
-// packet. It has no code but the laws of it, each on a function that does nothing (specs/Picture, Places, Stream, Sights): for any order
-// of moves, cells, places and leaving packets are those of whole passes in the order of entry. The definitions are in specs/: Rows
-// (stages with their packets, a whole pass, the settled state of a pipe), Moves (one packet moves, one enters, all move), Picture and
-// Places (the pipe determined by the entered events and by the number of packets that passed each stage), Stream and Sights (all move
-// once a tick). Depends on no other crate.
+// Packets of any kind that move through stages: each stage has cells of its own, and makes new cells and a new packet from these and a
+// packet.
+// Promises, as laws on functions that do nothing (specs/Picture, Places, Stream, Sights): for any order of moves, cells, places and leaving
+// packets are those of whole passes in the order of entry.
+// Definitions: Rows has stages with their packets, a whole pass and the settled state of a pipe. Moves has the moves: one packet moves, one
+// enters, all move. Picture and Places determine the pipe by the entered events and the number of packets that traversed each stage. Stream
+// and Sights are about pipes in which all packets move once a tick.
+// Used by lucid_pipe, lucid_drive, lucid_net_laws, lucid_net and lucid_top_laws. Promises of the program rest on its definitions
+// (docs/TRUSTED.md). Proofs may change; a law may only get stronger.
 #![tactic(auto)]
 
 mod laws;

@@ -1,8 +1,10 @@
-// The top call, and its answer. Its effect on files, streams, passes and a watch, its status and its error line are tied to one
-// definition, `Ended` of specs/Call.antt: the files that the words name are read in word order, and the answer for the words and the
-// contents is written. Output of pipelines is the log of handlers that run whole, as specs/Headline.antt says. A command is one file in
-// commands/, and a line in each table of specs/Answer. Depends on lucid_top_words, lucid_top_program and lucid_top_fit, and on the crates
-// that run the prepared programs.
+// The one call of the program, `lucid`, with its contract.
+// Promises: docs/PROMISES.md explains each clause. The files that the words name are read in word order, and the answer for the words and the
+// contents is written. One definition, `Ended` of specs/Call.antt, covers files, streams, passes, the watch, the status and the error line.
+// The output of pipelines is the log of handlers that run whole, as specs/Headline.antt says.
+// A command is one file in commands/, and a line in each table of specs/Answer.
+// Used by lucid_top_laws and lucid_main. Promises of the program rest on its definitions (docs/TRUSTED.md). Bodies and proofs may change; a
+// public clause may only get stronger.
 #![tactic(auto)]
 
 mod causes;

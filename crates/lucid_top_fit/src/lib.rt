@@ -1,8 +1,9 @@
-// From a program to its placed code: inlining, normal form, passes in boxes, and first fit or audited places of a file. Each part gives
-// the answer of its definition, and otherwise the first cause (specs/Fit, specs/Placing). The passes run exactly on the normal form
-// (specs/Passes). For any passes the placed code represents the program: every event through it has the effect of the program. If each
-// pass keeps nodes after their reads, a node has no place only because no stage has room for it. Depends on lucid_inline, lucid_normal,
-// lucid_pass, lucid_layout and lucid_audit for the parts, and on lucid_top_words for refusals.
+// From a program to its placed code: inlining, normal form, passes in boxes, and first fit or audited places of a file. Each part gives the
+// answer of its definition, and otherwise the first cause (specs/Fit, specs/Placing). The passes run exactly on the normal form
+// (specs/Passes). For any passes the placed code represents the program: every event through it has the effect of the program. If each pass
+// keeps nodes after their reads, a node has no place only because no stage has room for it.
+// Used by lucid_top and lucid_top_laws. Promises of the program rest on its definitions (docs/TRUSTED.md). Bodies and proofs may change; a
+// public clause may only get stronger.
 #![tactic(auto)]
 
 mod causes;

@@ -1,7 +1,7 @@
 // The theorems above the single crates, each on a function that does nothing: serializability (specs/Moves.antt), one packet through the
-// stages (specs/Packet.antt), refusals of first fit (specs/Room.antt), and calls that were worked by hand from the bytes of their files
-// to the written text (specs/Calls.antt). No crate depends on this one. docs/THEOREMS.md cites it, so a change of its definitions changes
-// the claims of the project.
+// stages (specs/Packet.antt), refusals of first fit (specs/Room.antt), and calls that were worked by hand from the bytes of their files to
+// the written text (specs/Calls.antt). docs/THEOREMS.md cites it, so a change of its definitions changes the claims of the project.
+// No crate uses it. Proofs may change; a law may only get stronger.
 #![tactic(auto)]
 
 mod laws;

@@ -1,7 +1,8 @@
-// The content of the files of a call: the program of a text, by its expansion, its tokens, its tree, its types and the order of arrays;
-// the limits of a target; and the scenario of a network. Each part prepares something or refuses, as specs/Program and specs/Settings
-// define it. The result is the one answer of the text, unless memory runs out. Depends on the crates from lucid_lex to lucid_effects, on
-// lucid_size, and on lucid_conf; refusals are those of lucid_top_words.
+// The content of the files of a call: the program of a text, by its expansion, its tokens, its tree, its types and the order of arrays; the
+// limits of a target; and the scenario of a network. Each part prepares something or refuses, as specs/Program and specs/Settings define
+// it. The result is the one answer of the text, unless memory runs out.
+// Used by lucid_top and lucid_top_laws. Promises of the program rest on its definitions (docs/TRUSTED.md). Bodies and proofs may change; a
+// public clause may only get stronger.
 #![tactic(auto)]
 
 mod causes;

@@ -1,7 +1,6 @@
 // The elaborator: the core of a tree. `elaborate` succeeds exactly if the typing rules derive a core, with that core, which is valid;
-// otherwise it reports the first declaration that is refused, its line, and the limit that it exceeds, if any. Depends on
-// lucid_types_declarations for the result of each declaration, on lucid_types_limits for the limits, and on lucid_types_spec and
-// lucid_types_laws for the rules of the whole.
+// otherwise it reports the first declaration that is refused, its line, and the limit that it exceeds, if any.
+// Used by lucid_top_program and lucid_top_laws. Bodies and proofs may change; a public clause may only get stronger.
 #![tactic(auto)]
 
 mod depth;

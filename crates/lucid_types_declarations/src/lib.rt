@@ -1,5 +1,5 @@
-// Declarations: each is added to those before it, as the typing function does, or has no rule. Depends on lucid_base, lucid_parse_tree,
-// lucid_core, lucid_memop, lucid_types_spec, lucid_types_laws, lucid_types_scope, lucid_types_expressions and lucid_types_statements.
+// Declarations: each is added to those before it, as the typing function does, or has no rule.
+// Used by lucid_types. Bodies and proofs may change; a public clause may only get stronger.
 #![tactic(auto)]
 
 mod arrays;

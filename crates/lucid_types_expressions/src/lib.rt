@@ -1,5 +1,6 @@
-// The cores of expressions: the result of the typing function at a place that requires a type and at a free place, or none. Depends on
-// lucid_base, lucid_parse_tree, lucid_core, lucid_types_spec, lucid_types_laws and lucid_types_scope.
+// The cores of expressions: the result of the typing function at a place that requires a type and at a free place, or none.
+// Used by lucid_types_statements, lucid_types_declarations and lucid_types. Bodies and proofs may change; a public clause may only get
+// stronger.
 #![tactic(auto)]
 
 mod array;

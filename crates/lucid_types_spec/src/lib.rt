@@ -1,6 +1,6 @@
 // The typing rules of the language: the core of a tree, as relations with a constructor for each rule (specs/), and the content of a
-// refusal. It has no code but the types that the rules share with the crates that compute them. Depends on lucid_base, lucid_parse_tree,
-// lucid_core, lucid_core_laws for endings and few arguments, and lucid_memop for the shape of memops.
+// refusal. It has no code but the types that the rules share with the crates that compute them.
+// Used by many crates. Promises of the program rest on its definitions (docs/TRUSTED.md). Proofs may change; a law may only get stronger.
 #![tactic(auto)]
 
 mod body;
