@@ -23,8 +23,8 @@ use lucid_merge::{guards_contradict, products_act, products_name};
 use lucid_tables::Placed;
 use std::alloc::Global;
 
-/// Places the code in the stages and tables of a plan. The caller guarantees a place for each node. Returns Ok exactly if the counts of
-/// the code keep their limits and the places of its nodes the rules (`IsAudited` of specs/Audit), and otherwise the first cause
+/// Places the code in the stages and tables of a plan. The caller guarantees a place for each node. Returns Ok exactly if the counts of the
+/// code keep their limits and the places of its nodes keep the rules (`IsAudited` of specs/Audit). Otherwise it returns the first cause
 /// (`IsRefused` of specs/Refused). By `Placed::code`, a pass through the stages has the effect of the code.
 #[tactic(auto, using(crate::proofs::CountsRefuse::counts_refuse))]
 pub fn audit(alloc: Global, code: Code, limits: &Limits, plan: &Plan) -> Result<Placed, AuditError>
@@ -43,7 +43,7 @@ pub fn audit(alloc: Global, code: Code, limits: &Limits, plan: &Plan) -> Result<
     }
 }
 
-/// The stages of nodes at their places, where these keep the rules.
+/// Returns the stages of nodes at their places, if these keep the rules.
 fn audited(
     alloc: Global,
     code: &Code,
@@ -71,7 +71,7 @@ fn audited(
     Ok(stages)
 }
 
-/// The placed code of nodes that keep the rules.
+/// Returns the placed code of nodes that keep the rules.
 fn placed(
     alloc: Global,
     code: Code,

@@ -20,7 +20,7 @@ pub(crate) fn arrays_at(seats: &[Seat], k: u32) -> u32
     count
 }
 
-/// The first stage that has too many.
+/// Returns the first stage that has too many.
 pub(crate) fn first_full(seats: &[Seat], limits: &Limits) -> Option<u32>
     requires { length seats.now < 2 ^ 32 }
     ensures none { result ≡ None → (k : ℕ) → k < limits.now.stages → spec.arrays_at k seats.now ≤ limits.now.arrays }

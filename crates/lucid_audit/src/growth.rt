@@ -14,7 +14,7 @@ use lucid_merge::merge;
 use lucid_tables::Table;
 use std::alloc::Global;
 
-/// A table with the operations of one more node, and None where a product has more than `rows` rows.
+/// Returns a table with the operations of one more node, and None if a product has more than `rows` rows.
 fn with_node(
     alloc: Global,
     code: &Code,
@@ -33,7 +33,7 @@ fn with_node(
     }
 }
 
-/// The table of the nodes at a place, and None where it or a product on the way to it has more than `rows` rows.
+/// Returns the table of the nodes at a place, and None if it or a product on the way to it has more than `rows` rows.
 pub(crate) fn table_at(
     alloc: Global,
     code: &Code,

@@ -35,7 +35,7 @@ fn value_of(alloc: Global, bytes: &[u8]) -> Result<Value, PlanError>
     }
 }
 
-/// The fault of a key.
+/// Returns the fault of a key.
 fn bad<T>(key: PlanKey) -> Result<T, PlanError>
     ensures value { Gives result (Err (key, None)) }
     ensures never { IfOk result (λ _. ⊥) }
@@ -61,7 +61,7 @@ fn read_plan(alloc: Global, value: &Value, nodes: usize) -> Result<Items<(u32, u
     }
 }
 
-/// Whether the file has no key but `nodes`.
+/// Returns whether the file has no key but `nodes`.
 fn all_known(members: &Map<String, Value>) -> bool
     ensures { result ≡ spec.all_known (members_view members.now.entries) }
 {
@@ -73,7 +73,7 @@ fn all_known(members: &Map<String, Value>) -> bool
     true
 }
 
-/// The pairs of the list `nodes`.
+/// Returns the pairs of the list `nodes`.
 #[tactic(auto, using(crate::proofs::Counted::none_ok))]
 fn read_nodes(alloc: Global, value: &Value, nodes: usize) -> Result<Items<(u32, u32)>, PlanError>
     ensures value { Gives result (nodes_read nodes (option_and_then as_array (get (codes "nodes") (view value.now)))) }
@@ -101,7 +101,7 @@ fn counted(alloc: Global, values: &[Value], nodes: usize) -> Result<Items<(u32, 
     }
 }
 
-/// The pairs of a list.
+/// Returns the pairs of a list.
 #[tactic(auto, using(crate::proofs::Counted::none_ok))]
 fn each_pair(alloc: Global, values: &[Value]) -> Result<Items<(u32, u32)>, PlanError>
     ensures value { Gives result (pairs_from [] (items_view values.now)) }
@@ -117,7 +117,7 @@ fn each_pair(alloc: Global, values: &[Value]) -> Result<Items<(u32, u32)>, PlanE
     Ok(pairs)
 }
 
-/// The fault of an item of the list.
+/// Returns the fault of an item of the list.
 fn bad_at<T>(place: usize) -> Result<T, PlanError>
     ensures value { Gives result (Err (Nodes, Some place)) }
     ensures never { IfOk result (λ _. ⊥) }
@@ -144,7 +144,7 @@ fn pair(item: &Value) -> Option<(u32, u32)>
     Some((stage, table))
 }
 
-/// The number below 2^32 at a place of a list.
+/// Returns the number below 2^32 at a place of a list.
 fn small_at(item: &Value, place: usize) -> Option<u32>
     ensures { result ≡ spec.small_at place (view item.now) }
 {

@@ -7,7 +7,7 @@ ghost use Rattle.lucid_audit.specs.Refused.{FirstNot};
 use lucid_conf::Limits;
 use lucid_layout::{Pair, Seat};
 
-/// Whether the target has such a stage and such a table.
+/// Returns whether the target has such a stage and such a table.
 fn is_there(at: Pair, limits: &Limits) -> bool
     ensures there { result ≡ true → IsThere limits.now at }
     ensures absent { result ≡ false → IsThere limits.now at → ⊥ }
@@ -15,7 +15,7 @@ fn is_there(at: Pair, limits: &Limits) -> bool
     at.stage < limits.stages && at.table < limits.tables
 }
 
-/// The first node whose place isn't there.
+/// Returns the first node whose place isn't there.
 pub(crate) fn first_absent(seats: &[Seat], limits: &Limits) -> Option<u32>
     requires { length seats.now < 2 ^ 32 }
     ensures none { result ≡ None → AllByRecursion (λ s. IsThere limits.now s.at) seats.now }

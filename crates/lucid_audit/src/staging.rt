@@ -16,7 +16,7 @@ use lucid_layout::{Seat, Stage};
 use lucid_tables::Table;
 use std::alloc::Global;
 
-/// How many tables a stage has: one more than the number of the last that has a node.
+/// Returns how many tables a stage has: one more than the number of the last that has a node.
 fn tables_in(seats: &[Seat], k: u32, limits: &Limits) -> u32
     requires limits { AreLimits limits.now }
     requires there { AllByRecursion (λ s. spec.IsThere limits.now s.at) seats.now }
@@ -31,7 +31,7 @@ fn tables_in(seats: &[Seat], k: u32, limits: &Limits) -> u32
     count
 }
 
-/// The tables of a stage, or the first that has too many rows.
+/// Returns the tables of a stage, or the first that has too many rows.
 fn tables(
     alloc: Global,
     code: &Code,
@@ -57,7 +57,7 @@ fn tables(
     Ok(tables)
 }
 
-/// The stages, or the first table that has too many rows.
+/// Returns the stages, or the first table that has too many rows.
 pub(crate) fn stages(
     alloc: Global,
     code: &Code,

@@ -26,7 +26,7 @@ impl Model for Args {
 }
 
 impl Args {
-    /// No arguments.
+    /// Returns an empty list.
     pub fn new() -> Args
         ensures { result ≡ [] }
     {
@@ -36,7 +36,7 @@ impl Args {
         }
     }
 
-    /// These numbers, of which there are at most 8.
+    /// Returns these numbers, of which there are at most 8.
     pub fn from_slice(numbers: &[u64]) -> Args
         requires { length numbers.now ≤ 8 }
         ensures { result ≡ numbers.now }
@@ -48,7 +48,7 @@ impl Args {
         args
     }
 
-    /// Puts `v` at the end. There were fewer than 8.
+    /// Appends `v` to fewer than 8 numbers.
     pub fn push(&mut self, v: u64)
         requires { length self.old < 8 }
         ensures { self.new ≡ self.old ++ v ∷ [] }
@@ -57,7 +57,7 @@ impl Args {
         self.len += 1;
     }
 
-    /// The numbers, from the first to the last.
+    /// Returns the numbers, from the first to the last.
     pub fn as_slice(&self) -> &[u64]
         ensures value { result.now ≡ self.now }
         ensures bound { length result.now ≤ 8 }

@@ -13,7 +13,7 @@ pub struct ArrayDef {
 }
 
 impl ArrayDef {
-    /// The same array, its name in memory of its own.
+    /// Returns a copy of the declaration.
     pub fn copy(&self, alloc: Global) -> Result<ArrayDef, Memory>
         ensures { IfOk result (λ def. def ≡ self.now) }
     {

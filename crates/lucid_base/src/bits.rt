@@ -13,7 +13,7 @@ pub struct Bits {
 }
 
 impl Bits {
-    /// The bool as a number: 1 where it holds, else 0.
+    /// Returns the bool as a number: 1 if it holds, else 0.
     pub fn from_bool(b: bool) -> Bits
         ensures width { result.width ≡ 1 }
         ensures value { result.value ≡ bit_of b }

@@ -29,7 +29,7 @@ impl Model for Cells {
 }
 
 impl Cells {
-    /// The cells of these arrays, all 0.
+    /// Returns the cells of these arrays, all 0.
     pub fn zeros(alloc: Global, arrays: &[ArrayDef]) -> Result<Cells, Memory>
         ensures { IfOk result (λ cells. cells ≡ zero_cells arrays.now) }
     {
@@ -41,7 +41,7 @@ impl Cells {
         Ok(Cells { arrays: rows })
     }
 
-    /// No arrays.
+    /// Returns the cells of no arrays.
     pub fn none(alloc: Global) -> Cells
         ensures { result ≡ [] }
     {
@@ -67,7 +67,7 @@ impl Cells {
         }
     }
 
-    /// Lets a cell of an array hold `value`, where it is there. Cell `i` is `i` modulo the size.
+    /// Lets a cell of an array hold `value` if it exists. Cell `i` is `i` modulo the size.
     pub fn set(&mut self, array: u32, cell: u64, value: u64)
         ensures { self.new ≡ with_cell self.old array cell value }
     {

@@ -8,7 +8,7 @@ pub struct Event {
     pub args: Args,
 }
 
-/// Where a generated event goes: the switch that generates it, or the switch of that number.
+/// The destination of a generated event: the switch that generates it, or the switch of that number.
 #[derive(Clone, Copy, Debug, PartialEq, Eq)]
 pub enum Target {
     Here,

@@ -34,7 +34,7 @@ impl Model for Id {
 }
 
 impl Id {
-    /// The name of these bytes, which are ASCII. Memory is its one error.
+    /// Returns the name of these bytes, which are ASCII. Memory is its one error.
     pub fn new(alloc: Global, bytes: &[u8]) -> Result<Id, Memory>
         requires { All (λ b. b < 128) bytes.now }
         ensures { IfOk result (λ id. id ≡ bytes.now) }
@@ -43,7 +43,7 @@ impl Id {
         Ok(Id { bytes })
     }
 
-    /// The bytes of the name.
+    /// Returns the bytes of the name.
     pub fn bytes(&self) -> &[u8]
         ensures value { result.now ≡ self.now }
         ensures ascii { All (λ b. b < 128) result.now }
@@ -51,7 +51,7 @@ impl Id {
         self.bytes.as_slice()
     }
 
-    /// The name as a text.
+    /// Returns the name as a text.
     pub fn as_str(&self) -> &str
         ensures { result.now ≡ self.now }
     {
@@ -60,7 +60,7 @@ impl Id {
         unsafe { std::str::from_utf8_unchecked(bytes) }
     }
 
-    /// The same name, in memory of its own where it is longer than 23 bytes.
+    /// Returns a copy of the name, in memory of its own if it is longer than 23 bytes.
     pub fn copy(&self, alloc: Global) -> Result<Id, Memory>
         ensures { IfOk result (λ id. id ≡ self.now) }
     {

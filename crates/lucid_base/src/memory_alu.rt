@@ -19,7 +19,7 @@ pub enum MemSide {
     Two(BinOp, MemArg, MemArg),
 }
 
-/// A memop over cells of `width` bits: `yes` where the test holds or there is none, else `no`.
+/// A memop over cells of `width` bits: `yes` if the test holds or there is none, else `no`.
 #[derive(Clone, Copy, Debug, PartialEq, Eq)]
 pub struct MemAlu {
     pub width: Width,

@@ -5,7 +5,7 @@ ghost use Rattle.lucid_base.specs.Bits.{bits_of};
 use crate::{Bits, Width};
 
 impl Bits {
-    /// The number `value` of `width` bits, in which it fits (`Width::fits`).
+    /// Returns the number `value` of `width` bits, in which it fits (`Width::fits`).
     pub fn new(width: Width, value: u64) -> Bits
         requires { value < 2 ^ width }
         ensures { result ≡ bits_of width value }
@@ -13,7 +13,7 @@ impl Bits {
         Bits { width, value }
     }
 
-    /// The low bits of `n`, as a number of `width` bits.
+    /// Returns the low bits of `n`, as a number of `width` bits.
     pub fn low(width: Width, n: u64) -> Bits
         ensures { result ≡ bits_of width n }
     {

@@ -36,7 +36,7 @@ pub enum CmpOp {
     Ge,
 }
 
-/// The operation on `a`, at its width. A shift by the width or more gives 0.
+/// Computes the operation on `a`, at its width. A shift by the width or more gives 0.
 pub fn apply_un(op: UnOp, a: Bits) -> Bits
     ensures width { result.width ≡ a.width }
     ensures value { result.value ≡ un_of op a.width a.value }
@@ -62,7 +62,7 @@ fn un_value(op: UnOp, width: Width, a: u64) -> u64
     }
 }
 
-/// The operation on `a` and `b`, at their one width.
+/// Computes the operation on `a` and `b`, at their one width.
 pub fn apply_bin(op: BinOp, a: Bits, b: Bits) -> Bits
     requires { a.width ≡ b.width }
     ensures width { result.width ≡ a.width }
@@ -90,7 +90,7 @@ fn bin_value(op: BinOp, width: Width, a: u64, b: u64) -> u64
     }
 }
 
-/// Whether `a` and `b`, of one width, compare so.
+/// Returns whether `a` and `b`, of one width, compare so.
 pub fn compare(op: CmpOp, a: Bits, b: Bits) -> bool
     requires { a.width ≡ b.width }
     ensures { result ≡ cmp_of op a.value b.value }
@@ -106,7 +106,7 @@ pub fn compare(op: CmpOp, a: Bits, b: Bits) -> bool
     }
 }
 
-/// The low bits of `a`, at the width `to`. A wider `to` keeps the number.
+/// Returns the low bits of `a`, at the width `to`. A wider `to` keeps the number.
 pub fn cast(a: Bits, to: Width) -> Bits
     ensures width { result.width ≡ to }
     ensures value { result.value ≡ low_of to a.value }

@@ -29,7 +29,7 @@ impl Model for Outs {
 }
 
 impl Outs {
-    /// Nothing is sent out.
+    /// Returns an empty list.
     pub fn new() -> Outs
         ensures { result ≡ [] }
     {
@@ -43,7 +43,7 @@ impl Outs {
         }
     }
 
-    /// These outs, of which there are at most 8.
+    /// Returns these outs, of which there are at most 8.
     pub fn from_slice(sent: &[Out]) -> Outs
         requires { length sent.now ≤ 8 }
         ensures { result ≡ sent.now }
@@ -55,7 +55,7 @@ impl Outs {
         outs
     }
 
-    /// Puts `v` at the end. There were fewer than 8.
+    /// Appends `v` to fewer than 8 outs.
     pub fn push(&mut self, v: Out)
         requires { length self.old < 8 }
         ensures { self.new ≡ self.old ++ v ∷ [] }
@@ -64,7 +64,7 @@ impl Outs {
         self.len += 1;
     }
 
-    /// The outs, from the first to the last.
+    /// Returns the outs, from the first to the last.
     pub fn as_slice(&self) -> &[Out]
         ensures value { result.now ≡ self.now }
         ensures bound { length result.now ≤ 8 }

@@ -22,8 +22,8 @@ impl<L: Ledger> Model for Steps<L> {
     ghost invariant = { λ s. 0 < s.share.parts };
 }
 
-/// The start of a counter. A caller that counts nothing passes `uncounted()` with `Brand` for `L` to a function over `L: Ledger`, which
-/// makes a counter of it by `Steps::new`: `f::<Brand>(.., uncounted())`.
+/// Returns the start of a counter. A caller that counts nothing passes `uncounted()` with `Brand` for `L` to a function over `L: Ledger`,
+/// which makes a counter of it by `Steps::new`: `f::<Brand>(.., uncounted())`.
 pub fn uncounted() -> Blank
     ensures { result.parts ≡ 1 }
 {

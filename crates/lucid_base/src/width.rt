@@ -24,7 +24,7 @@ impl Model for Width {
 }
 
 impl Width {
-    /// The width of `w` bits, or None where `w` is 0 or above 64.
+    /// Returns the width of `w` bits, or None if `w` is 0 or above 64.
     pub fn new(w: u64) -> Option<Width>
         ensures valid { IsSome result ↔ ((1 ≤ w) × (w ≤ 64)) }
         ensures value { IfSome result (λ width. width ≡ w) }
@@ -36,21 +36,21 @@ impl Width {
         }
     }
 
-    /// The width of a bool.
+    /// Returns the width of a bool.
     pub fn bool() -> Width
         ensures { result ≡ 1 }
     {
         Width { bits: 1 }
     }
 
-    /// The width of an `int` that states none, of a time and of a switch's number.
+    /// Returns the width of an `int` that states none, of a time and of a switch's number.
     pub fn int() -> Width
         ensures { result ≡ 32 }
     {
         Width { bits: 32 }
     }
 
-    /// How many bits.
+    /// Returns the number of bits.
     pub fn get(self) -> u8
         ensures value { result ≡ self }
         ensures least { 1 ≤ result }
@@ -59,14 +59,14 @@ impl Width {
         self.bits as u8
     }
 
-    /// Whether `value` fits in this many bits.
+    /// Returns whether `value` fits in this many bits.
     pub fn fits(self, value: u64) -> bool
         ensures { result ≡ nat_lt value (2 ^ self) }
     {
         value <= self.most()
     }
 
-    /// The greatest number of this width, which has every bit set.
+    /// Returns the greatest number of this width, which has every bit set.
     pub(crate) fn most(self) -> u64
         ensures value { result ≡ 2 ^ self - 1 }
         ensures in_word { self ≤ 64 }
@@ -74,7 +74,7 @@ impl Width {
         u64::MAX >> (64 - self.bits)
     }
 
-    /// The low bits of `n`.
+    /// Returns the low bits of `n`.
     pub(crate) fn low(self, n: u64) -> u64
         ensures value { result ≡ low_of self n }
         ensures in_word { self ≤ 64 }

@@ -12,7 +12,7 @@ use lucid_base::{
 };
 
 impl Act {
-    /// The result for the written field, from the values of the fields and the cells of the arrays; a field past the last holds 0.
+    /// Returns the result for the written field, from the values of the fields and the cells of the arrays; a field past the last holds 0.
     /// Earlier outs do not matter.
     pub fn result(&self, fields: &[u64], cells: &Cells) -> u64
         ensures { (outs : List (ℕ × Out)) → result ≡ run.result self.now (record { fields = fields.now; cells = cells.now; outs = outs }) }
@@ -70,7 +70,7 @@ fn cmp(op: CmpOp, w: Width, a: u64, b: u64) -> u64
     Bits::from_bool(compare(op, Bits::low(w, a), Bits::low(w, b))).value
 }
 
-/// The hash of the operands' values.
+/// Returns the hash of the operands' values.
 fn hash(fields: &[u64], xs: &[Operand]) -> u64
     ensures { result ≡ fnv_1a (bytes_of (run.values fields.now xs.now)) }
 {

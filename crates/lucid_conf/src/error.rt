@@ -11,7 +11,7 @@ use std::alloc::{AllocError, AllocFailed};
 pub enum ConfError {
     /// The bytes are no JSON: not UTF-8, no JSON value, or more than 127 lists and objects within one another.
     NotJson,
-    /// The first key that fails, in the order of the table, and where that key is a list with a bad item the number of the first such item, from 0.
+    /// The first key that fails, in the order of the table, and if that key is a list with a bad item the number of the first such item, from 0.
     BadField { key: Key, place: Option<u32> },
     /// Memory ran out.
     Memory,

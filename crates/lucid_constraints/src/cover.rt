@@ -7,7 +7,7 @@ use crate::marks::{atom_number, name_number};
 use crate::pair::Atom;
 use lucid_base::ArrayName;
 
-/// The numbers of the arrays that the 8 parameters represent, if each has one.
+/// Returns the numbers of the arrays that the 8 parameters represent, if each has one.
 pub fn param_places(names: &[ArrayName]) -> Option<[usize; 8]>
     ensures places { IfSome result (λ places. ArePlacesTo names.now places 8) }
     ensures few { IfSome result (λ places. All (λ n. n < 72) places) }
@@ -22,7 +22,7 @@ pub fn param_places(names: &[ArrayName]) -> Option<[usize; 8]>
     Some(places)
 }
 
-/// The declared arrays of a row.
+/// Returns the declared arrays of a row.
 fn globals_held(theirs: &[bool], from: usize, ours: &[bool], to: usize) -> bool
     requires theirs { from + 72 ≤ length theirs.now }
     requires ours { to + 72 ≤ length ours.now }
@@ -35,7 +35,7 @@ fn globals_held(theirs: &[bool], from: usize, ours: &[bool], to: usize) -> bool
     all
 }
 
-/// The array parameters of a row.
+/// Returns the array parameters of a row.
 fn params_held(places: &[usize], theirs: &[bool], from: usize, ours: &[bool], to: usize) -> bool
     requires places { length places.now ≡ 8 }
     requires few { All (λ n. n < 72) places.now }
@@ -60,7 +60,7 @@ fn row_held(places: &[usize], theirs: &[bool], from: usize, ours: &[bool], to: u
     globals_held(theirs, from, ours, to) && params_held(places, theirs, from, ours, to)
 }
 
-/// The caller's number of a function's name.
+/// Returns the caller's number of a function's name.
 fn moved(places: &[usize], n: usize) -> usize
     requires places { length places.now ≡ 8 }
     requires few { All (λ n. n < 72) places.now }
@@ -71,7 +71,7 @@ fn moved(places: &[usize], n: usize) -> usize
     if n < 8 { places[n] } else { n }
 }
 
-/// The pairs of the function's names.
+/// Returns the pairs of the function's names.
 pub fn rows_held(places: &[usize], theirs: &[bool], ours: &[bool]) -> bool
     requires places { length places.now ≡ 8 }
     requires few { All (λ n. n < 72) places.now }
@@ -88,7 +88,7 @@ pub fn rows_held(places: &[usize], theirs: &[bool], ours: &[bool]) -> bool
     true
 }
 
-/// The pairs of the function with the start, at the places of the caller.
+/// Returns the pairs of the function with the start, at the places of the caller.
 pub fn start_held(places: &[usize], theirs: &[bool], ours: &[bool], start: &[Atom]) -> bool
     requires places { length places.now ≡ 8 }
     requires few { All (λ n. n < 72) places.now }

@@ -25,7 +25,7 @@ fn comes_first(x: ArrayName, y: ArrayName) -> bool
     }
 }
 
-/// The place of the earliest of the names, of which there is one.
+/// Returns the place of the earliest of the names, of which there is one.
 fn earliest(names: &[ArrayName]) -> usize
     requires { 0 < length names.now }
     ensures { IsEarliest names.now result }
@@ -65,8 +65,8 @@ impl Order {
         }
     }
 
-    /// A cycle among the names of the pairs and the first `arrays` declared arrays. A pair with `Start` asks nothing here.
-    /// The work is in proportion to the names times the pairs and names. Memory is the one error.
+    /// Returns a cycle among the names of the pairs and the first `arrays` declared arrays. A pair with `Start` asks nothing here. The work
+    /// is in proportion to the names times the pairs and names. Memory is the one error.
     pub fn cycle(&self, arrays: u32) -> Result<Option<Vec<ArrayName>>, Memory>
         ensures { IfOk result (FindsCycle (Needed arrays self.now)) }
     {

@@ -43,7 +43,7 @@ pub fn join_ends(ends: &mut Items<Atom>, more: &[Atom]) -> Result<(), Memory>
     Ok(())
 }
 
-/// The caller's name of a function's array, given the arrays of the call.
+/// Returns the caller's name of a function's array, given the arrays of the call.
 pub fn name_at(names: &[ArrayName], name: ArrayName) -> ArrayName
     ensures { result ≡ caller_name names.now name }
 {
@@ -75,7 +75,7 @@ fn join_atom_at(
     }
 }
 
-/// The places of a caller after a function with these ends, given these arrays and called at the places `start`.
+/// Returns the places of a caller after a function with these ends, given these arrays and called at the places `start`.
 pub fn ends_at(
     alloc: Global,
     ends: &[Atom],

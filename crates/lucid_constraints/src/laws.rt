@@ -6,8 +6,8 @@ pub fn pairs_keep_meaning()
     ensures { PairsKeepMeaning }
 {}
 
-/// A numbering that rises along the declared arrays allows the pairs exactly where it rises along all that must come first:
-/// no cycle is there exactly where such a numbering is.
+/// A numbering that rises along the declared arrays allows the pairs exactly if it rises along all that must come first:
+/// no cycle is there exactly if such a numbering is.
 pub fn allowed_numberings_rise()
     ensures { AllowedNumberingsRise }
 {}

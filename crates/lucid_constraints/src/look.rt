@@ -31,7 +31,7 @@ fn earlier(arrays: u32, x: ArrayName, y: ArrayName) -> bool
     }
 }
 
-/// The first name that the pairs put before `name`.
+/// Returns the first name that the pairs put before `name`.
 fn source(pairs: &[Pair], name: ArrayName) -> Option<ArrayName>
     ensures { result ≡ source_in name pairs.now }
 {
@@ -61,7 +61,7 @@ fn place_of(names: &[ArrayName], name: ArrayName) -> Option<usize>
     None
 }
 
-/// The place of the first that is declared earlier than `name`.
+/// Returns the place of the first that is declared earlier than `name`.
 fn place_of_earlier(names: &[ArrayName], arrays: u32, name: ArrayName) -> Option<usize>
     ensures { result ≡ first_place (λ y. is_earlier arrays y name) names.now 0 }
 {

@@ -15,7 +15,7 @@ const FEW: usize = 16;
 /// The places of the table: 73 atoms before 72 names.
 pub const PLACES: usize = 5256;
 
-/// The place of the name among the first 8 array parameters and 64 declared arrays.
+/// Returns the place of the name among the first 8 array parameters and 64 declared arrays.
 pub fn name_number(name: ArrayName) -> Option<usize>
     ensures number { result ≡ name_number_of name }
     ensures few { IfSome result (λ n. n < 72) }
@@ -39,7 +39,7 @@ pub fn atom_number(atom: Atom) -> Option<usize>
     }
 }
 
-/// The place of the pair in the table, if there is one.
+/// Returns the place of the pair in the table, if there is one.
 pub fn pair_number(pair: Pair) -> Option<usize>
     ensures { result ≡ pair_number_of pair }
 {
@@ -52,7 +52,7 @@ pub fn pair_number(pair: Pair) -> Option<usize>
     }
 }
 
-/// The table's entry for the pair of this number, if the table has one.
+/// Returns the table's entry for the pair of this number, if the table has one.
 pub fn marked(marks: &[bool], number: Option<usize>) -> Option<bool>
     ensures place { result ≡ option_and_then (slice_get marks.now) number }
     ensures tells { Tells marks.now number result }
@@ -81,7 +81,7 @@ pub fn mark(marks: &mut Vec<bool>, number: Option<usize>)
     }
 }
 
-/// The table of these pairs.
+/// Returns the table of these pairs.
 #[cold]
 fn table(alloc: Global, pairs: &[Pair]) -> Result<Vec<bool>, Memory>
     ensures marked { IfOk result (λ marks. Marked marks.items pairs.now) }

@@ -39,7 +39,7 @@ fn join_name(names: &mut Vec<ArrayName>, name: ArrayName) -> Result<(), Memory>
     Ok(())
 }
 
-/// Adds the names of the pair, where it asks for an order of two.
+/// Adds the names of the pair, if it asks for an order of two.
 fn join_named(names: &mut Vec<ArrayName>, pair: Pair) -> Result<(), Memory>
     ensures { OnOk result (names.new.items ≡ join_all are_same_names names.old.items (named pair)) }
 {
@@ -61,7 +61,7 @@ fn join_each(names: &mut Vec<ArrayName>, pairs: &[Pair]) -> Result<(), Memory>
     Ok(())
 }
 
-/// The declared arrays, and the names of the pairs that aren't among them, each once.
+/// Returns the declared arrays, and the names of the pairs that aren't among them, each once.
 pub fn gather(alloc: Global, pairs: &[Pair], arrays: u32) -> Result<Vec<ArrayName>, Memory>
     ensures { IfOk result (λ names. Covers (needed pairs.now arrays) names.items) }
 {

@@ -113,7 +113,7 @@ fn lift_until_they_rise(numbers: &mut [u64], rounds: u32, pairs: &[Pair], arrays
     false
 }
 
-/// Whether numbers that rise along all that must come first are found in a few rounds. The work is in proportion to the pairs and
+/// Returns whether numbers that rise along all that must come first are found in a few rounds. The work is in proportion to the pairs and
 /// arrays, 73 times at most.
 #[tactic(auto, using(crate::proofs::SettleLemmas::settled_rises))]
 pub fn settle(pairs: &[Pair], arrays: u32) -> bool

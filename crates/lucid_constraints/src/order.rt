@@ -50,7 +50,7 @@ fn has(pairs: &[Pair], pair: Pair) -> bool
 }
 
 impl Order {
-    /// No pairs. It takes no memory.
+    /// Returns an empty list of pairs. It takes no memory.
     pub fn new(alloc: Global) -> Order
         ensures { result ≡ [] }
     {
@@ -61,7 +61,7 @@ impl Order {
         }
     }
 
-    /// The pairs, from the first to the last.
+    /// Returns the pairs, from the first to the last.
     pub fn pairs(&self) -> &[Pair]
         ensures value { result.now ≡ self.now }
         ensures distinct { AllPairs (λ p q. p ≢ q) result.now }
@@ -146,7 +146,7 @@ impl Order {
         }
     }
 
-    /// Whether the tables show that all is asked that a function asks.
+    /// Returns whether the tables show that all is asked that a function asks.
     fn covers(&self, of: &Order, names: &[ArrayName], start: &[Atom]) -> bool
         ensures { result ≡ true → needs_from names.now start.now self.now of.now ≡ self.now }
     {

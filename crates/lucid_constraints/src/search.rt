@@ -14,8 +14,8 @@ fn leave(pairs: &mut Vec<Pair>, name: ArrayName)
     pairs.retain(|pair| pair.atom != Atom::After(name));
 }
 
-/// A circle among these names, where they have no order. A path grows at its front, towards names that must come earlier.
-/// Each name joins it once, and leaves it once nothing that is left must come before it.
+/// Returns a circle among these names, if they have no order. A path grows at its front, towards names that must come earlier. Each name
+/// joins it once, and leaves it once nothing that is left must come before it.
 pub fn circle(
     alloc: Global,
     pairs: Vec<Pair>,

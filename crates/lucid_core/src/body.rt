@@ -8,9 +8,9 @@ pub enum Stmt {
     Assign(u32, Expr),
     /// Evaluates the expression and drops its value, if it gives one.
     Drop(Expr),
-    /// The first branch runs where the condition isn't 0.
+    /// The first branch runs if the condition isn't 0.
     If(Expr, Items<Stmt>, Items<Stmt>),
-    /// Sends an event out. Where both are written, `delay_first` says that the delay is evaluated before the target.
+    /// Sends an event out. If both are written, `delay_first` says that the delay is evaluated before the target.
     Gen {
         event: u32,
         args: Items<Expr>,
@@ -35,9 +35,8 @@ pub enum Stmt {
     Return(Option<Expr>),
 }
 
-/// Drops a block on a small stack, in a loop if it is deep. Statements after a return and after a case of a `match` form the second
-/// branch of an `If` that ends the block. So a block is as deep as it has returns and cases, and all else is no deeper than the text may
-/// be.
+/// Drops a block on a small stack, in a loop if it is deep. Statements after a return and after a case of a `match` form the second branch
+/// of an `If` that ends the block. So a block nests as deeply as it has returns and cases; all else nests no deeper than the text.
 #[cycle(give_back)]
 pub(crate) fn give_back(stmts: Items<Stmt>) {
     let mut left = stmts;
@@ -83,7 +82,8 @@ pub enum Expr {
     Inlined(Items<(u32, Expr)>, Items<Stmt>),
 }
 
-/// A call of an array: it answers by the memop `get` and stores by the memop `set`, both of the number that the cell held.
+/// A call of an array. It answers the result of the memop `get` and stores that of the memop `set`, both applied to the old number of the
+/// cell.
 #[cycle(body)]
 #[derive(Drop)]
 pub struct Touch {

@@ -10,7 +10,7 @@ use lucid_base::Memory;
 use std::alloc::Global;
 
 impl Core {
-    /// The cells of the program's arrays, all 0, which fit it.
+    /// Returns the cells of the program's arrays, all 0, which fit it.
     pub fn cells(&self, alloc: Global) -> Result<Cells, Memory>
         ensures zero { IfOk result (λ cells. cells ≡ zero_cells self.now.arrays) }
         ensures fit { IfOk result (λ cells. IsTrue (cells_fit self.now cells)) }
@@ -25,7 +25,7 @@ pub trait NewCells {
     /// Whether these are the cells that a program begins with.
     ghost begins: { Self → CoreParts → Type 0 };
 
-    /// The cells that the program begins with, in memory of its own allocator.
+    /// Returns the cells that the program begins with, in memory of its own allocator.
     fn new(core: &Core) -> Result<Self, Memory>
         ensures { IfOk result (λ cells. begins cells core.now) };
 }
@@ -33,7 +33,7 @@ pub trait NewCells {
 impl NewCells for Cells {
     ghost begins = { λ cells core. (cells ≡ zero_cells core.arrays) × IsTrue (cells_fit core cells) };
 
-    /// The cells of the program's arrays, all 0, which fit it.
+    /// Returns the cells of the program's arrays, all 0, which fit it.
     fn new(core: &Core) -> Result<Cells, Memory> {
         core.cells(core.allocator())
     }

@@ -14,7 +14,7 @@ pub struct MemopDef {
 }
 
 impl MemopDef {
-    /// The same declaration, in memory of its own.
+    /// Returns a copy of the declaration.
     pub fn copy(&self, alloc: Global) -> Result<MemopDef, Memory>
         ensures { IfOk result (λ copy. copy ≡ self.now) }
     {
@@ -35,7 +35,7 @@ pub struct EventDef {
 }
 
 impl EventDef {
-    /// The same declaration, in memory of its own.
+    /// Returns a copy of the declaration.
     pub fn copy(&self, alloc: Global) -> Result<EventDef, Memory>
         ensures { IfOk result (λ copy. copy ≡ self.now) }
     {
@@ -49,8 +49,8 @@ impl EventDef {
     }
 }
 
-/// A function: the cell widths of its array parameters, the widths of its locals, of which the first `params` are its value parameters,
-/// and the width of its value, if it gives one. It is declaration `decl` of the program, from 1, and begins on line `line`, from 1.
+/// A function: the cell widths of its array parameters, the widths of its locals, and the width of its value, if it gives one. The first
+/// `params` locals are its value parameters. It is declaration `decl` of the program, from 1, and begins on line `line`, from 1.
 pub struct FunDef {
     pub name: Id,
     pub arrays: Items<Width>,

@@ -4,7 +4,7 @@ ghost use Rattle.lucid_core.specs.Fits.{args_fit as arguments_fit};
 
 use lucid_base::Width;
 
-/// Whether there are as many arguments as parameters, each within its width.
+/// Returns whether there are as many arguments as parameters, each within its width.
 pub fn args_fit(params: &[Width], args: &[u64]) -> bool
     ensures { result ≡ arguments_fit params.now args.now }
 {

@@ -13,40 +13,41 @@ pub fn outs_fit(core: &Core)
     let _valid = core.arrays();
 }
 
-/// The same of a flat core.
+/// The law `outs_fit` for a flat core.
 pub fn flat_outs_fit(flat: &Flat)
     ensures { OutsFit flat.now }
 {
     let _valid = flat.arrays();
 }
 
-/// Cells that fit the core, as many as declared and each within its width, stay so at every step, and so after any events from cells that are all 0.
+/// Cells fit the core if there are as many as declared, each within its width. Cells that fit still fit after every step, and so after any
+/// events from cells that are all 0.
 pub fn cells_stay_fit(core: &Core)
     ensures { CellsStayFit core.now }
 {
     let _valid = core.arrays();
 }
 
-/// The same of a flat core.
+/// The law `cells_stay_fit` for a flat core.
 pub fn flat_cells_stay_fit(flat: &Flat)
     ensures { CellsStayFit flat.now }
 {
     let _valid = flat.arrays();
 }
 
-/// The outs of event `j` are those that `steps` has at place `j`, and none where it has no such place.
+/// The outs of event `j` are those at position `j` of `steps`, or none if there is no such position.
 pub fn outs_are_of_steps(core: &Core)
     ensures { OutsAreOfSteps core.now }
 {}
 
-/// The width that the typing rules give an expression is that of its value, and so is that of a function's answer.
+/// The width that the typing rules give an expression is the width of its value. The same holds for a function's answer.
 pub fn widths_are_static(core: &Core)
     ensures { WidthsAreStatic core.now }
 {
     let _valid = core.arrays();
 }
 
-/// The same of a flat core, whose handlers hold all bodies.
+/// The law `widths_are_static` for a flat core, in which all bodies are handlers.
 pub fn flat_widths_are_static(flat: &Flat)
     ensures { WidthsAreStatic flat.now }
 {
@@ -60,7 +61,7 @@ pub fn one_handler(core: &Core)
     let _valid = core.arrays();
 }
 
-/// The same of a flat core.
+/// The law `one_handler` for a flat core.
 pub fn flat_one_handler(flat: &Flat)
     ensures { OneHandler flat.now }
 {

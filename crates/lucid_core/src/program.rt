@@ -38,12 +38,12 @@ impl Model for Core {
 }
 
 impl Core {
-    /// The allocator of its lists.
+    /// Returns the allocator of its lists.
     pub(crate) fn allocator(&self) -> Global {
         *self.arrays.allocator()
     }
 
-    /// The core of these parts. It takes no memory.
+    /// Returns the core of these parts. It takes no memory.
     pub fn new(
         arrays: Vec<ArrayDef>,
         memops: Vec<MemopDef>,
@@ -65,7 +65,7 @@ impl Core {
         }
     }
 
-    /// The declared arrays, by number.
+    /// Returns the declared arrays, by number.
     pub fn arrays(&self) -> &[ArrayDef]
         ensures value { result.now ≡ self.now.arrays }
         ensures valid { IsValid self.now }
@@ -73,7 +73,7 @@ impl Core {
         self.arrays.as_slice()
     }
 
-    /// The memops of the source, by number.
+    /// Returns the memops of the source, by number.
     pub fn memops(&self) -> &[MemopDef]
         ensures value { result.now ≡ self.now.memops }
         ensures valid { IsValid self.now }
@@ -81,7 +81,7 @@ impl Core {
         self.memops.as_slice()
     }
 
-    /// The events, by number.
+    /// Returns the events, by number.
     pub fn events(&self) -> &[EventDef]
         ensures value { result.now ≡ self.now.events }
         ensures valid { IsValid self.now }
@@ -89,7 +89,7 @@ impl Core {
         self.events.as_slice()
     }
 
-    /// The functions, by number. Each calls only functions before it.
+    /// Returns the functions, by number. Each calls only functions before it.
     pub fn funs(&self) -> &[FunDef]
         ensures value { result.now ≡ self.now.funs }
         ensures valid { IsValid self.now }
@@ -97,7 +97,7 @@ impl Core {
         self.funs.as_slice()
     }
 
-    /// The handlers, by number.
+    /// Returns the handlers, by number.
     pub fn handlers(&self) -> &[HandlerDef]
         ensures value { result.now ≡ self.now.handlers }
         ensures valid { IsValid self.now }
@@ -105,7 +105,7 @@ impl Core {
         self.handlers.as_slice()
     }
 
-    /// The texts of the prints, by number.
+    /// Returns the texts of the prints, by number.
     pub fn forms(&self) -> &[Id]
         ensures value { result.now ≡ self.now.forms }
         ensures valid { IsValid self.now }
@@ -113,7 +113,7 @@ impl Core {
         self.forms.as_slice()
     }
 
-    /// Whether the event is declared and its arguments have the number and the widths of its parameters.
+    /// Returns whether the event is declared and its arguments have the number and the widths of its parameters.
     pub fn fits(&self, event: &Event) -> bool
         ensures { result ≡ event_fits self.now event.now }
     {
@@ -152,7 +152,7 @@ impl Model for Flat {
 }
 
 impl Flat {
-    /// The flat core of these parts. It takes no memory.
+    /// Returns the flat core of these parts. It takes no memory.
     pub fn new(
         arrays: Vec<ArrayDef>,
         memops: Vec<MemopDef>,
@@ -172,7 +172,7 @@ impl Flat {
         }
     }
 
-    /// The declared arrays, by number.
+    /// Returns the declared arrays, by number.
     pub fn arrays(&self) -> &[ArrayDef]
         ensures value { result.now ≡ self.now.arrays }
         ensures valid { IsValidFlat self.now }
@@ -180,7 +180,7 @@ impl Flat {
         self.arrays.as_slice()
     }
 
-    /// The memops of the source, by number.
+    /// Returns the memops of the source, by number.
     pub fn memops(&self) -> &[MemopDef]
         ensures value { result.now ≡ self.now.memops }
         ensures valid { IsValidFlat self.now }
@@ -188,7 +188,7 @@ impl Flat {
         self.memops.as_slice()
     }
 
-    /// The events, by number.
+    /// Returns the events, by number.
     pub fn events(&self) -> &[EventDef]
         ensures value { result.now ≡ self.now.events }
         ensures valid { IsValidFlat self.now }
@@ -196,7 +196,7 @@ impl Flat {
         self.events.as_slice()
     }
 
-    /// The handlers, by number.
+    /// Returns the handlers, by number.
     pub fn handlers(&self) -> &[HandlerDef]
         ensures value { result.now ≡ self.now.handlers }
         ensures valid { IsValidFlat self.now }
@@ -204,7 +204,7 @@ impl Flat {
         self.handlers.as_slice()
     }
 
-    /// The texts of the prints, by number.
+    /// Returns the texts of the prints, by number.
     pub fn forms(&self) -> &[Id]
         ensures value { result.now ≡ self.now.forms }
         ensures valid { IsValidFlat self.now }

@@ -47,7 +47,7 @@ fn read(locals: &[Width], funs: &[FunDef], e: &Expr) -> Option<Width>
     }
 }
 
-/// The width of the first return of a block.
+/// Returns the width of the first return of a block.
 #[cycle(widths)]
 fn first(locals: &[Width], funs: &[FunDef], stmts: &[Stmt]) -> Option<Option<Width>>
     ensures { result ≡ first_of (map first_return stmts.now) locals.now funs.now }

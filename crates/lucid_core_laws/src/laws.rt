@@ -5,7 +5,7 @@ ghost use Rattle.lucid_core_laws.specs.InlinedNodes.{InlinedNodes};
 ghost use Rattle.lucid_core_laws.specs.Programs.{CoreIsValid, FlatIsValid};
 ghost use Rattle.lucid_core_laws.specs.StmtNodes.{StmtNodes};
 
-/// An expression, a statement or a block keeps every rule of a valid program where its parts do.
+/// An expression, a statement or a block keeps every rule of a valid program if its parts do.
 pub fn nodes_keep_the_rules()
     ensures expressions { ExprNodes }
     ensures statements { StmtNodes }

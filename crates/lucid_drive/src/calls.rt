@@ -52,7 +52,7 @@ pub fn drive_step<S: Sink>(
     }
 }
 
-/// The slot of a step that moves a packet from a slot that isn't the last.
+/// Returns the slot of a step that moves a packet from a slot that isn't the last.
 fn slot_within(pipe: &Pipe, step: Step) -> Option<usize>
     ensures { IfSome result (λ k. (step ≡ Go k) × (k + 1 < length pipe.now.slots)) }
 {
@@ -103,7 +103,7 @@ fn step_within<S: Sink>(
     }
 }
 
-/// The slot, if its packet moved.
+/// Returns the slot, if its packet moved.
 fn moved_slot(k: usize, moved: Result<(), Stuck>) -> Option<usize>
     ensures { result ≡ happened_at (happened_within k moved) }
 {
@@ -151,7 +151,7 @@ fn step_any<S: Sink>(
     }
 }
 
-/// The step of this number.
+/// Returns the step of this number.
 fn step_of(scene: &Scene, number: u64) -> Step
     requires { number < length scene.now.steps }
     ensures { slice_get scene.now.steps number ≡ Some result }
@@ -159,7 +159,7 @@ fn step_of(scene: &Scene, number: u64) -> Step
     scene.steps.as_slice()[number as usize]
 }
 
-/// How many events entered, once this happened.
+/// Returns how many events entered, once this happened.
 fn entered_by(entered: u64, happened: &Happened) -> u64
     requires { entered_after entered happened.now < 2 ^ 64 }
     ensures { result ≡ entered_after entered happened.now }
@@ -170,7 +170,7 @@ fn entered_by(entered: u64, happened: &Happened) -> u64
     }
 }
 
-/// The slot whose packet moved.
+/// Returns the slot whose packet moved.
 fn slot_of(happened: &Happened) -> Option<usize>
     ensures { result ≡ happened_at happened.now }
 {
@@ -225,7 +225,7 @@ pub fn drive_flush<S: Sink>(
     }
 }
 
-/// The last slot that is taken.
+/// Returns the last slot that is taken.
 fn oldest(pipe: &Pipe) -> Option<usize>
     ensures { result ≡ last_below (λ k. is_some (packet_at pipe.now k)) (length pipe.now.slots) }
 {
@@ -239,7 +239,7 @@ fn oldest(pipe: &Pipe) -> Option<usize>
     None
 }
 
-/// A count, one more, which stops at the greatest number.
+/// Returns a count, one more, which stops at the greatest number.
 fn one_more(n: u64) -> u64
     ensures { result ≡ (if nat_lt (n + 1) (2 ^ 64) then n + 1 else n) }
 {

@@ -25,7 +25,7 @@ pub(crate) enum Happened {
     Looked(u32, u64, u64),
 }
 
-/// The outcome if a packet in slot `k` moved, or the reason why it did not.
+/// Returns the outcome if a packet in slot `k` moved, or the reason why it did not.
 pub(crate) fn told(k: usize, moved: Result<Option<Passed>, Stuck>) -> Happened
     ensures { result ≡ happened_of k moved }
 {
@@ -37,7 +37,7 @@ pub(crate) fn told(k: usize, moved: Result<Option<Passed>, Stuck>) -> Happened
     }
 }
 
-/// The outcome if the event of this number entered, or if the first slot was taken.
+/// Returns the outcome if the event of this number entered, or if the first slot was taken.
 pub(crate) fn told_entry(number: u64, came: Result<(), Busy>) -> Happened
     ensures { result ≡ entry_of number came }
 {

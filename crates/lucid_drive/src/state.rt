@@ -12,7 +12,7 @@ pub struct DriveState {
 }
 
 impl DriveState {
-    /// Nothing is done.
+    /// Returns the state before the first step.
     pub fn new() -> DriveState
         ensures { result ≡ record { done = 0; flushed = 0; entered = 0; failed = false } }
     {
@@ -24,21 +24,21 @@ impl DriveState {
         }
     }
 
-    /// The number of steps done.
+    /// Returns the number of steps done.
     pub fn done(&self) -> u64
         ensures { result ≡ self.now.done }
     {
         self.done
     }
 
-    /// The number of moves of the oldest packet, which stops at the greatest number of 64 bits.
+    /// Returns the number of moves of the oldest packet, which stops at the greatest number of 64 bits.
     pub fn flushed(&self) -> u64
         ensures { result ≡ self.now.flushed }
     {
         self.flushed
     }
 
-    /// The number of events that entered.
+    /// Returns the number of events that entered.
     pub fn entered(&self) -> u64
         ensures { result ≡ self.now.entered }
     {

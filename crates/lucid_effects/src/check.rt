@@ -120,7 +120,7 @@ fn refuse(first: Option<Refused>) -> Result<(), OrderError>
     }
 }
 
-/// One scheme for each function, and then for each handler, where all are in order.
+/// One scheme for each function, and then for each handler, if all are in order.
 pub fn check_order<L: Ledger>(
     alloc: Global,
     core: &Core,

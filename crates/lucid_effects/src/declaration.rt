@@ -12,7 +12,7 @@ use lucid_effects_spec::Scheme;
 use std::alloc::Global;
 use std::sync::ledger::Ledger;
 
-/// The scheme of a body, behind functions with these schemes.
+/// Returns the scheme of a body, behind functions with these schemes.
 #[tactic(auto, using(lucid_effects_spec::proofs::Counting::scheme_is))]
 fn scheme<L: Ledger>(
     alloc: Global,
@@ -34,7 +34,7 @@ fn scheme<L: Ledger>(
     Ok(at)
 }
 
-/// The scheme of declaration `decl`, and whether it is the first that isn't in order. A cycle is looked for only where it could be.
+/// Returns the scheme of declaration `decl`, and whether it is the first that isn't in order. A cycle is looked for only if it could be.
 pub fn judge<L: Ledger>(
     alloc: Global,
     arrays: u32,

@@ -20,7 +20,7 @@ pub fn keep(first: &mut Option<Refused>, decl: u32, cycle: Option<Vec<ArrayName>
     }
 }
 
-/// Whether the declaration would be the first, if it is refused.
+/// Returns whether the declaration would be the first, if it is refused.
 pub fn is_earlier(first: &Option<Refused>, decl: u32) -> bool
     ensures { result ≡ comes_first first.now decl }
 {

@@ -12,28 +12,28 @@ pub fn touches_rise(core: &Core)
     let _valid = core.arrays();
 }
 
-/// A handler is in order exactly where its body has a derivation with the array numbers themselves.
+/// A handler is in order exactly if its body has a derivation with the array numbers themselves.
 pub fn own_numbers_decide(core: &Core)
     ensures { OwnNumbersDecide core.now }
 {
     let _valid = core.arrays();
 }
 
-/// The same of a flat core.
+/// The law `own_numbers_decide` for a flat core.
 pub fn flat_own_numbers_decide(flat: &Flat)
     ensures { OwnNumbersDecide flat.now }
 {
     let _valid = flat.arrays();
 }
 
-/// Two numberings that agree on the declared arrays give a handler one end, or none both.
+/// Two numberings that agree on the declared arrays give a handler the same end, or both give it none.
 pub fn ends_turn_on_declared(core: &Core)
     ensures { EndsTurnOnDeclared core.now }
 {
     let _valid = core.arrays();
 }
 
-/// Where a body ends, by its paths: it has a derivation exactly where the numbering rises along each of them, and then ends at the
+/// Where a body ends, by its paths: it has a derivation exactly if the numbering rises along each of them, and then ends at the
 /// greatest place at which one of them ends. So a body that has a cycle is not in order.
 pub fn paths_decide()
     ensures derived { PathsDecide }

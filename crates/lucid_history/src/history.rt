@@ -16,14 +16,14 @@ impl<T> Model for History<T> {
 }
 
 impl<T> History<T> {
-    /// The empty list.
+    /// Returns the empty list.
     pub fn new() -> History<T>
         ensures { result.items ≡ [] }
     {
         History { of: PhantomData }
     }
 
-    /// The list with one more item at its end.
+    /// Returns the list with one more item at its end.
     pub fn and(&self, item: &T) -> History<T>
         ensures { result.items ≡ self.now.items ++ item.now ∷ [] }
     {

@@ -135,7 +135,7 @@ fn optional(
     }
 }
 
-/// A delay and a target, the delay first where the test holds.
+/// A delay and a target, the delay first if the test holds.
 #[cycle(flatten)]
 #[inline(never)]
 fn delay_and_target(

@@ -26,7 +26,7 @@ pub fn number(n: usize) -> u32
     n as u32
 }
 
-/// Function `k` with the functions before it, where it is there.
+/// Function `k` with the functions before it if it exists.
 #[inline(never)]
 pub fn earlier(funs: &[FunDef], k: u32) -> Option<(&[FunDef], &FunDef)>
     ensures fun { option_map (λ x. x.1.now) result ≡ slice_get funs.now k }

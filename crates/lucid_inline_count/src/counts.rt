@@ -10,7 +10,7 @@ pub struct Counts {
 }
 
 impl Counts {
-    /// Both, one after the other.
+    /// Adds the counts of a part that follows.
     pub fn and(self, more: Counts) -> Counts
         ensures { result ≡ plus self more }
     {

@@ -48,7 +48,7 @@ pub fn put_back(held: &mut Vec<bool>, notes: Vec<Note>)
     }
 }
 
-/// How many of the locals that are held are named. The work is in proportion to the names.
+/// Returns how many of the locals that are held are named. The work is in proportion to the names.
 pub fn joined(alloc: Global, held: &mut Vec<bool>, names: &[u32]) -> Result<usize, Memory>
     ensures joined { IfOk result (λ n. n ≡ joined_of held.old.items names.now) }
     ensures kept { OnOk result (held.new.items ≡ held.old.items) }

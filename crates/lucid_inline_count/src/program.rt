@@ -22,7 +22,7 @@ pub struct Totals {
     pub size: Sum,
 }
 
-/// How long the normal form of a core is, and how large its flat form, and the handlers at which these sums pass `room` and `most`.
+/// Returns how long the normal form of a core is, and how large its flat form, and the handlers at which these sums pass `room` and `most`.
 pub fn count_core(alloc: Global, core: &Core, room: u64, most: u64) -> Result<Totals, Memory>
     ensures length { IfOk result (λ t. IsSum room (handler_lengths core.now) t.length) }
     ensures size { IfOk result (λ t. IsSum most (handler_sizes core.now) t.size) }
@@ -117,7 +117,7 @@ fn first_held(alloc: Global, params: usize, locals: usize) -> Result<Vec<bool>, 
     Ok(held)
 }
 
-/// How many parameters the event has.
+/// Returns how many parameters the event has.
 fn params_of(events: &[EventDef], id: u32) -> usize
     ensures { result ≡ length (event_params events.now id) }
 {

@@ -11,7 +11,7 @@ pub struct Sum {
 }
 
 impl Sum {
-    /// Of nothing.
+    /// Returns a sum of nothing.
     pub fn new(bound: u64) -> Sum
         ensures bound { result.bound ≡ bound }
         ensures sum { IsSum bound [] result }

@@ -13,7 +13,7 @@ pub fn keeps_steps(core: &Core)
     let _valid = core.arrays();
 }
 
-/// Each handler of the flat form is in order exactly where that of the core is.
+/// Each handler of the flat form is in order exactly if that of the core is.
 pub fn keeps_order(core: &Core)
     ensures { KeepsOrder core.now }
 {

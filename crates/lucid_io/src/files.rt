@@ -58,7 +58,7 @@ pub trait Files {
         ensures others { OthersKept (λ other. other ≡ name.now) (held self.old) (faults self.old) (faults self.new) };
 
     /// Moves the next unread bytes into the front of the room, and answers how many. None, for a room that isn't empty, means
-    /// the end of the file. `Failed` comes only where the count rose of every name that the begun file has.
+    /// the end of the file. `Failed` is returned only if the count rose of every name that the begun file has.
     fn read(&mut self, room: &mut [u8]) -> Result<usize, Failed>
         ensures held { SameHeld (held self.old) (held self.new) }
         ensures begun { (name : List ℕ) → begun self.old name → begun self.new name }

@@ -50,7 +50,7 @@ impl MemSink {
         })
     }
 
-    /// The bytes written, in order.
+    /// Returns the bytes written, in order.
     pub fn bytes(&self) -> &[u8]
         ensures { result.now ≡ self.now.bytes }
     {

@@ -18,7 +18,7 @@ pub struct RealFiles<R: fs::Files + Drop> {
 }
 
 impl<R: fs::Files + Drop> RealFiles<R> {
-    /// The files of this runtime, with nothing given and no fault met.
+    /// Returns the files of this runtime, with nothing given and no fault met.
     pub fn new(rt: R) -> RealFiles<R>
         ensures given { ⟦<RealFiles<R> as Files>⟧.given result ≡ 0 }
         ensures reads { ⟦<RealFiles<R> as Files>⟧.reads result ≡ 0 }

@@ -14,7 +14,7 @@ pub struct RealOut<W: Write + Drop> {
 }
 
 impl<W: Write + Drop> RealOut<W> {
-    /// This stream, with no fault met.
+    /// Returns this stream, with a count of faults of 0.
     pub fn new(stream: W) -> RealOut<W>
         ensures { ⟦<RealOut<W> as Sink>⟧.faults result ≡ 0 }
     {

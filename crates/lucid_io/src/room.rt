@@ -29,7 +29,7 @@ impl<const N: usize> Model for Room<N> {
 }
 
 impl<const N: usize> Room<N> {
-    /// An empty room.
+    /// Returns an empty room.
     pub fn new() -> Room<N>
         ensures { result ≡ [] }
     {
@@ -96,7 +96,7 @@ fn hold_behind<S: Sink, const N: usize>(
     put_all(sink, piece)
 }
 
-/// Writes all that waits in the room, or, where the sink's count of faults rose in this call, a proper prefix of it. Then nothing waits.
+/// Writes all that waits in the room, or, if the sink's count of faults rose in this call, a proper prefix of it. Then nothing waits.
 pub fn release<S: Sink, const N: usize>(sink: &mut S, room: &mut Room<N>) -> Result<(), WriteFault>
     ensures all { OnOk result (PutsAll S.written S.faults sink.old sink.new room.old) }
     ensures part { OnErr result (PutsPart S.written S.faults sink.old sink.new room.old) }

@@ -15,7 +15,7 @@ pub trait Sink {
     ghost faults: { Self → ℕ };
 
     /// Appends the first bytes of the piece, at least one of a piece that isn't empty, and answers how many.
-    /// `Failed` appends nothing, and comes only where the count rose in this call.
+    /// `Failed` appends nothing, and is returned only if the count rose in this call.
     fn write(&mut self, piece: &[u8]) -> Result<usize, Failed>
         ensures bound { WritesAtMost result piece.now }
         ensures some { 0 < length piece.now → IfOk result (λ n. 0 < n) }

@@ -8,7 +8,7 @@ use crate::sink::Sink;
 #[derive(Clone, Copy, Debug, PartialEq, Eq)]
 pub struct WriteFault;
 
-/// Writes the whole piece, or, where the sink's count of faults rose in this call, a proper prefix of it. Takes no memory.
+/// Writes the whole piece, or, if the sink's count of faults rose in this call, a proper prefix of it. Takes no memory.
 pub fn put_all<S: Sink>(sink: &mut S, piece: &[u8]) -> Result<(), WriteFault>
     ensures all { OnOk result (PutsAll S.written S.faults sink.old sink.new piece.now) }
     ensures part { OnErr result (PutsPart S.written S.faults sink.old sink.new piece.now) }

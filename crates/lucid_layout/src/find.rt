@@ -13,7 +13,7 @@ use lucid_merge::merge;
 use lucid_tables::Table;
 use std::alloc::Global;
 
-/// A table of the stage, or the next new one, merged with this, and None where it then has more than `rows` rows.
+/// A table of the stage, or the next new one, merged with this, and None if it then has more than `rows` rows.
 #[tactic(auto, using(crate::proofs::Searching::within_none, crate::proofs::Searching::within_some))]
 fn merged_at(
     alloc: Global,
@@ -70,7 +70,7 @@ fn find_table(
     Ok(None)
 }
 
-/// The same, where the stage has room for the node if it calls an array.
+/// The same, if the stage has room for the node if it calls an array.
 fn find_in(
     alloc: Global,
     known: &mut Known,

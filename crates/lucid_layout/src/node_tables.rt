@@ -9,7 +9,7 @@ use lucid_merge::merge;
 use lucid_tables::{Table, table_of};
 use std::alloc::Global;
 
-/// The tables of these operations merged one after another, and None where one of the products has more than `rows` rows.
+/// The tables of these operations merged one after another, and None if one of the products has more than `rows` rows.
 pub fn node_table(
     alloc: Global,
     code: &Code,

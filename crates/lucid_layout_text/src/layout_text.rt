@@ -35,7 +35,7 @@ impl<'a> Model for LayoutText<'a> {
 }
 
 impl<'a> LayoutText<'a> {
-    /// The lines of the layout of a placed code (`layout_text` of specs/Text). It takes all the memory that they need.
+    /// Returns the lines of the layout of a placed code (`layout_text` of specs/Text). It takes all the memory that they need.
     pub fn new(alloc: Global, placed: &'a Placed) -> Result<LayoutText<'a>, Memory>
         ensures { IfOk result (λ text. text ≡ layout_text placed.now) }
     {
@@ -51,7 +51,7 @@ impl<'a> LayoutText<'a> {
         })
     }
 
-    /// Writes them: all of the text, or a proper prefix of it where the sink's count of faults rose in this call. Takes no memory.
+    /// Writes them: all of the text, or a proper prefix of it if the sink's count of faults rose in this call. Takes no memory.
     pub fn put<S: Sink>(&self, sink: &mut S) -> Result<(), WriteFault>
         ensures all { OnOk result (PutsAll S.written S.faults sink.old sink.new self.now) }
         ensures part { OnErr result (PutsPart S.written S.faults sink.old sink.new self.now) }

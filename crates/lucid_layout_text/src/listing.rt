@@ -12,7 +12,7 @@ use lucid_tables::{StageCode, Table, put_number};
 use std::alloc::Global;
 use std::slice::from_ref;
 
-/// A line for each table of these stages.
+/// Returns a line for each table of these stages.
 pub(crate) fn lines(
     alloc: Global,
     ops: &[Op],
@@ -49,7 +49,7 @@ fn push_lines(
     Ok(())
 }
 
-/// The line of a table.
+/// Returns the line of a table.
 fn line(
     alloc: Global,
     ops: &[Op],
@@ -69,7 +69,7 @@ fn line(
     })
 }
 
-/// The operations that the rows of a table name, in rising order, each once.
+/// Returns the operations that the rows of a table name, in rising order, each once.
 fn named(alloc: Global, table: &Table) -> Result<Vec<u32>, Memory>
     ensures { IfOk result (λ named. named.items ≡ rising (named_by table.now)) }
 {

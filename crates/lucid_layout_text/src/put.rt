@@ -80,7 +80,7 @@ fn put_head<S: Sink>(sink: &mut S, line: &TableLine) -> Result<(), WriteFault>
     )
 }
 
-/// Writes the names of these arrays behind their word, and nothing where there are none.
+/// Writes the names of these arrays behind their word, and nothing if there are none.
 fn put_arrays<S: Sink>(sink: &mut S, arrays: &[ArrayDef], numbers: &[u32]) -> Result<(), WriteFault>
     requires { All (λ g. g < length arrays.now) numbers.now }
     ensures all { OnOk result (PutsAll S.written S.faults sink.old sink.new (arrays_text arrays.now numbers.now)) }
@@ -115,7 +115,7 @@ fn put_name<S: Sink>(sink: &mut S, arrays: &[ArrayDef], number: u32) -> Result<(
     put_pieces(sink, &[Piece::Text(b" "), Piece::Text(name)])
 }
 
-/// The name of an array.
+/// Returns the name of an array.
 fn name_of(arrays: &[ArrayDef], number: u32) -> &[u8]
     requires { number < length arrays.now }
     ensures { result.now ≡ name_at arrays.now number }

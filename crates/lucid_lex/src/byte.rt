@@ -63,7 +63,7 @@ pub(crate) fn is_quotable(b: u8) -> bool
     (0x20 <= b && b <= 0x7E) && (b != b'"' && b != b'\\')
 }
 
-/// The value of a digit in bases up to 36, and 36 for any other byte.
+/// Returns the value of a digit in bases up to 36, and 36 for any other byte.
 pub(crate) fn digit_value(b: u8) -> u8
     ensures { result ≡ digit_value b }
 {

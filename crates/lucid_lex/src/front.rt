@@ -18,14 +18,14 @@ pub(crate) struct Front {
     pub(crate) kind: Option<Kind>,
 }
 
-/// A blank or a comment of `len` bytes.
+/// Returns a blank or a comment of `len` bytes.
 fn gap(len: usize) -> Option<Front>
     ensures { result ≡ gap len }
 {
     Some(Front { len, kind: None })
 }
 
-/// A token of `len` bytes.
+/// Returns a token of `len` bytes.
 fn token(len: usize, kind: Kind) -> Option<Front>
     ensures { result ≡ token len kind }
 {
@@ -35,7 +35,7 @@ fn token(len: usize, kind: Kind) -> Option<Front>
     })
 }
 
-/// The longest piece that begins the text, if one does. A number of 2 ^ 64 or more is none.
+/// Returns the longest piece that begins the text, if one does. A number of 2 ^ 64 or more is none.
 #[tactic(auto, unfolding(crate::specs::Front::front_of))]
 pub(crate) fn front_of(text: &[u8]) -> Option<Front>
     ensures { result ≡ front_of text.now }
@@ -53,7 +53,7 @@ pub(crate) fn front_of(text: &[u8]) -> Option<Front>
     }
 }
 
-/// The longest run of bytes of a name: a reserved word, or else a name.
+/// Returns the longest run of bytes of a name: a reserved word, or else a name.
 #[tactic(auto, unfolding(crate::specs::Front::name_front))]
 fn name_front(text: &[u8]) -> Option<Front>
     ensures { result ≡ name_front text.now }
@@ -77,8 +77,8 @@ fn kind_of_name(bytes: &[u8]) -> Kind
     }
 }
 
-/// The longest run of digits, hexadecimal ones where `0x` and one of them begin it. It is taken whole before its size is
-/// asked, so that a number of 2 ^ 64 or more is no shorter number.
+/// Returns the longest run of digits, hexadecimal ones if `0x` and one of them begin it. It is taken whole before its size is asked, so
+/// that a number of 2 ^ 64 or more is no shorter number.
 #[tactic(auto, unfolding(crate::specs::Front::number_front))]
 fn number_front(text: &[u8]) -> Option<Front>
     ensures { result ≡ number_front text.now }
@@ -89,7 +89,7 @@ fn number_front(text: &[u8]) -> Option<Front>
     }
 }
 
-/// The bytes behind `0x`, where it and a hexadecimal digit begin the text.
+/// Returns the bytes behind `0x`, if it and a hexadecimal digit begin the text.
 #[tactic(auto, unfolding(crate::specs::Front::after_prefix))]
 fn after_prefix(text: &[u8]) -> Option<&[u8]>
     ensures { option_map (λ digits. digits.now) result ≡ after_prefix text.now }
@@ -106,7 +106,7 @@ fn after_prefix(text: &[u8]) -> Option<&[u8]>
     }
 }
 
-/// The number at the start of the digits, after a prefix of `skipped` bytes.
+/// Returns the number at the start of the digits, after a prefix of `skipped` bytes.
 fn numeral_front(digits: &[u8], base: u8, skipped: usize) -> Option<Front>
     requires room { length digits.now + skipped < 2 ^ 64 }
     requires positive { 0 < base }
@@ -125,7 +125,7 @@ fn digits_len(text: &[u8], base: u8) -> usize
         .count()
 }
 
-/// The number that the digits write, where it is below 2 ^ 64.
+/// Returns the number that the digits write, if it is below 2 ^ 64.
 fn number_of(digits: &[u8], base: u8) -> Option<u64>
     requires { 0 < base }
     ensures { SomeIff result (number_of base digits.now < 2 ^ 64) (number_of base digits.now) }
@@ -137,7 +137,7 @@ fn number_of(digits: &[u8], base: u8) -> Option<u64>
     Some(number)
 }
 
-/// The number with one more digit at its end, where it is below 2 ^ 64.
+/// Returns the number with one more digit at its end, if it is below 2 ^ 64.
 fn with_digit(number: u64, base: u8, digit: u8) -> Option<u64>
     ensures { SomeIff result (number * base + digit_value digit < 2 ^ 64) (number * base + digit_value digit) }
 {
@@ -146,7 +146,7 @@ fn with_digit(number: u64, base: u8, digit: u8) -> Option<u64>
         .checked_add(u64::from(byte::digit_value(digit)))
 }
 
-/// A text, from its quote to the next, if only quotable bytes are between.
+/// Returns a text, from its quote to the next, if only quotable bytes are between.
 #[tactic(auto, unfolding(crate::specs::Front::quoted_front))]
 fn quoted_front(text: &[u8]) -> Option<Front>
     ensures { result ≡ quoted_front text.now }
@@ -170,7 +170,7 @@ fn quotable_len(text: &[u8]) -> usize
     text.iter().take_while(|b| byte::is_quotable(**b)).count()
 }
 
-/// A comment: `//` and the rest of the line, or `/*` to the next `*/`.
+/// Returns a comment: `//` and the rest of the line, or `/*` to the next `*/`.
 #[tactic(auto, unfolding(crate::specs::Front::comment_front))]
 fn comment_front(text: &[u8]) -> Option<Front>
     ensures { result ≡ comment_front text.now }
@@ -196,14 +196,14 @@ fn line_len(text: &[u8]) -> usize
     text.iter().take_while(|b| **b != b'\n').count()
 }
 
-/// Whether two bytes are `*/`.
+/// Returns whether two bytes are `*/`.
 fn ends_block(a: u8, b: u8) -> bool
     ensures { result ≡ (a == 42 && b == 47) }
 {
     a == b'*' && b == b'/'
 }
 
-/// How many bytes there are to the end of the first `*/`.
+/// Returns how many bytes there are to the end of the first `*/`.
 fn block_len(text: &[u8]) -> Option<usize>
     ensures len { result ≡ end_of_block 0 text.now }
     ensures within { IfSome result (λ len. len ≤ length text.now) }

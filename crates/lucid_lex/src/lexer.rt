@@ -9,9 +9,9 @@ use crate::token::{LexError, Token};
 use lucid_base::Span;
 use std::alloc::Global;
 
-/// The tokens of a text, in order: the text is a list of pieces, each the longest blank, comment or token that begins at
-/// its place (`Reads`). Where it is no such list, `NoToken` has the offset, in bytes from 0, up to which it is one and at
-/// which nothing begins (`StopsAt`). Memory is the one answer without a cause.
+/// Returns the tokens of a text, in order: the text is a list of pieces, each the longest blank, comment or token that begins at its place
+/// (`Reads`). Where it is no such list, `NoToken` has the offset, in bytes from 0, up to which it is one and at which nothing begins
+/// (`StopsAt`). Memory is the one answer without a cause.
 pub fn lex(alloc: Global, text: &[u8]) -> Result<Vec<Token>, LexError>
     // The answer is true: the text is read as these tokens, or up to this offset and no further.
     ensures ok { IfOk result (λ tokens. Reads text.now tokens.items) }

@@ -11,7 +11,7 @@ pub fn tokens_stand(text: &[u8], tokens: &[Token])
     ensures { All (IsTokenOf text.now) tokens.now }
 {}
 
-/// The bytes of a token. They are ASCII.
+/// Returns the bytes of a token. They are ASCII.
 pub fn text_of(text: &[u8], token: Token) -> &[u8]
     requires { IsTokenOf text.now token }
     ensures bytes { result.now ≡ bytes_of text.now token }
@@ -21,7 +21,7 @@ pub fn text_of(text: &[u8], token: Token) -> &[u8]
     &text[token.span.start..token.span.end]
 }
 
-/// The bytes between the quotes of a text. They are ASCII.
+/// Returns the bytes between the quotes of a text. They are ASCII.
 pub fn quoted(text: &[u8], token: Token) -> &[u8]
     requires stands { IsTokenOf text.now token }
     requires is_text { token.kind ≡ Kind.Text }

@@ -96,7 +96,7 @@ const SIGNS: [Sign; 28] = [
 ];
 
 impl Sign {
-    /// How the sign is written.
+    /// Returns how the sign is written.
     pub fn text(self) -> &'static [u8]
         ensures { result.now ≡ sign_text self }
     {
@@ -133,7 +133,7 @@ impl Sign {
     }
 }
 
-/// The longest sign that the text begins with.
+/// Returns the longest sign that the text begins with.
 #[tactic(auto, unfolding(crate::specs::Sign::sign_at))]
 pub(crate) fn sign_at(text: &[u8]) -> Option<Sign>
     ensures { result ≡ sign_at text.now }

@@ -36,7 +36,7 @@ pub enum Word {
 }
 
 impl Word {
-    /// How the word is written.
+    /// Returns how the word is written.
     pub fn text(self) -> &'static [u8]
         ensures { result.now ≡ word_text self }
     {
@@ -69,7 +69,7 @@ impl Word {
     }
 }
 
-/// The reserved words of `len` bytes.
+/// Returns the reserved words of `len` bytes.
 fn words_of(len: usize) -> &'static [Word]
     ensures { result.now ≡ words_of len }
 {
@@ -101,7 +101,7 @@ fn words_of(len: usize) -> &'static [Word]
     }
 }
 
-/// The reserved word that is written so, if one is.
+/// Returns the reserved word that is written so, if one is.
 #[tactic(auto, unfolding(crate::specs::Word::word_in))]
 pub(crate) fn word_in(bytes: &[u8]) -> Option<Word>
     ensures { result ≡ word_in bytes.now }

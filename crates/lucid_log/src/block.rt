@@ -120,7 +120,7 @@ fn most_of_event(core: &Core, event: &Event) -> usize {
     }
 }
 
-// A line with a text and numbers has at most 70 bytes beside them, where it is an event that is sent out.
+// A line with a text and numbers has at most 70 bytes beside them, if it is an event that is sent out.
 fn most_of_line(text: usize, numbers: &[u64]) -> usize {
     numbers
         .len()

@@ -7,7 +7,7 @@ use crate::pieces::{Piece, hold_pieces};
 use lucid_core::Core;
 use lucid_io::{ROOM, Room, Sink, WriteFault, release};
 
-/// Writes the line of a cell of a declared array (`cell_text`): all of it, or a proper prefix of it where the sink's count of faults rose in this call.
+/// Writes the line of a cell of a declared array (`cell_text`): all of it, or a proper prefix of it if the sink's count of faults rose in this call.
 pub fn put_cell<S: Sink>(
     sink: &mut S,
     core: &Core,

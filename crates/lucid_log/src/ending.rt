@@ -7,7 +7,7 @@ use crate::pieces::{Piece, put_pieces};
 use lucid_io::{Sink, WriteFault};
 
 /// Writes how many events entered, were lost, and never entered (`ending_text`): all of the line, or a proper prefix of it
-/// where the sink's count of faults rose in this call.
+/// if the sink's count of faults rose in this call.
 pub fn put_ending<S: Sink>(
     sink: &mut S,
     entered: u64,

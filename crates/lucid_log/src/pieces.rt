@@ -25,7 +25,7 @@ pub enum Piece<'a> {
     Hex(u64),
 }
 
-/// Writes the pieces, one after another: all of their text (`text_of`), or a proper prefix of it where the sink's count of faults rose in this call.
+/// Writes the pieces, one after another: all of their text (`text_of`), or a proper prefix of it if the sink's count of faults rose in this call.
 pub fn put_pieces<S: Sink>(sink: &mut S, pieces: &[Piece]) -> Result<(), WriteFault>
     ensures all { OnOk result (PutsAll S.written S.faults sink.old sink.new (text_of pieces.now)) }
     ensures part { OnErr result (PutsPart S.written S.faults sink.old sink.new (text_of pieces.now)) }

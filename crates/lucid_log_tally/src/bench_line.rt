@@ -8,7 +8,7 @@ use lucid_io::{Sink, WriteFault};
 use lucid_log::{Piece, put_pieces};
 
 /// Writes the line of a run of `n` events of this seed whose log the tally was written (`bench_line`): all of it, or a proper prefix of it
-/// where the sink's count of faults rose in this call.
+/// if the sink's count of faults rose in this call.
 pub fn put_bench<S: Sink>(sink: &mut S, seed: u64, n: u64, tally: &Tally) -> Result<(), WriteFault>
     ensures all { OnOk result (PutsAll S.written S.faults sink.old sink.new (bench_line seed n tally.now.bytes)) }
     ensures part { OnErr result (PutsPart S.written S.faults sink.old sink.new (bench_line seed n tally.now.bytes)) }

@@ -25,7 +25,7 @@ impl Model for Line {
 }
 
 impl Line {
-    /// Nothing of a line.
+    /// Returns an empty line.
     pub(crate) fn new() -> Line
         ensures { result ≡ [] }
     {
@@ -35,14 +35,14 @@ impl Line {
         }
     }
 
-    /// The kept bytes.
+    /// Returns the kept bytes.
     pub(crate) fn bytes(&self) -> &[u8]
         ensures { result.now ≡ self.now }
     {
         &self.room[..self.len]
     }
 
-    /// One byte more, where there is room.
+    /// One byte more, if there is room.
     pub(crate) fn push(&mut self, byte: u8)
         ensures { self.new ≡ kept_with self.old byte }
     {
@@ -52,7 +52,7 @@ impl Line {
         }
     }
 
-    /// Nothing of a line again.
+    /// Empties the line.
     pub(crate) fn clear(&mut self)
         ensures { self.new ≡ [] }
     {

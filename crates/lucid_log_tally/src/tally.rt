@@ -38,7 +38,7 @@ impl Model for Tally {
 }
 
 impl Tally {
-    /// Nothing was written yet.
+    /// Returns the tally of an empty text.
     pub fn new() -> Tally
         ensures { result ≡ record { bytes = []; faults = 0 } }
     {
@@ -52,7 +52,7 @@ impl Tally {
         }
     }
 
-    /// How many bytes were written.
+    /// Returns how many bytes were written.
     pub fn count(&self) -> u64
         ensures { result ≡ length self.now.bytes }
     {
@@ -66,7 +66,7 @@ impl Tally {
         self.hash
     }
 
-    /// The first 83 bytes of the last line that was written, without its line feed.
+    /// Returns the first 83 bytes of the last line that was written, without its line feed.
     pub fn line(&self) -> &[u8]
         ensures { result.now ≡ last_line self.now.bytes }
     {
@@ -96,7 +96,7 @@ impl Sink for Tally {
 
     ghost faults = { λ t. t.faults };
 
-    /// Takes the whole piece, and no memory. Fails only where 2^64 - 1 bytes would be passed.
+    /// Takes the whole piece, and no memory. Fails only if 2^64 - 1 bytes would be passed.
     fn write(&mut self, piece: &[u8]) -> Result<usize, Failed> {
         if u64::MAX - self.count() < piece.len() as u64 {
             self.faults = self.faults.saturating_add(1);

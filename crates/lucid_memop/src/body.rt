@@ -8,8 +8,8 @@ ghost use Rattle.lucid_memop.specs.Found.{choice_found, operand_found, operands_
 use lucid_base::{BinOp, MemAlu, MemArg, MemSide, Width};
 use lucid_core::{Expr, Stmt};
 
-/// The memop that a body is: of this width, over local 0 (the stored number) and local 1 (the argument), as `Shaped` says.
-/// None where the body doesn't have the shape of one. It takes no memory.
+/// Returns the memop that a body is: of this width, over local 0 (the stored number) and local 1 (the argument), as `Shaped` says. None if
+/// the body doesn't have the shape of one. It takes no memory.
 pub fn shape(width: Width, body: &[Stmt]) -> Option<MemAlu>
     ensures value { result ≡ shape_found width body.now }
     ensures shape { (m : MemAlu) → (result ≡ Some m) ↔ Shaped width body.now m }
@@ -28,7 +28,7 @@ fn memop(width: Width, body: &[Stmt]) -> Option<MemAlu>
     }
 }
 
-/// The memop of one return, which is the same on both sides.
+/// Returns the memop of one return, which is the same on both sides.
 fn plain(width: Width, body: &[Stmt]) -> Option<MemAlu>
     ensures { result ≡ plain_found width body.now }
 {
@@ -41,7 +41,7 @@ fn plain(width: Width, body: &[Stmt]) -> Option<MemAlu>
     })
 }
 
-/// The memop of an if: a comparison of two operands, and one return in each branch.
+/// Returns the memop of an if: a comparison of two operands, and one return in each branch.
 fn choice(width: Width, test: &Expr, yes: &[Stmt], no: &[Stmt]) -> Option<MemAlu>
     ensures { result ≡ choice_found width test.now yes.now no.now }
 {
@@ -61,7 +61,7 @@ fn choice(width: Width, test: &Expr, yes: &[Stmt], no: &[Stmt]) -> Option<MemAlu
     }
 }
 
-/// The memop side of a block of one return.
+/// Returns the memop side of a block of one return.
 fn returned_side(width: Width, body: &[Stmt]) -> Option<MemSide>
     ensures { result ≡ returned width body.now }
 {
@@ -100,7 +100,7 @@ fn operands(width: Width, left: &Expr, right: &Expr) -> Option<(MemArg, MemArg)>
     }
 }
 
-/// A parameter, or a number of the memop's width.
+/// Returns a parameter, or a number of the memop's width.
 fn operand(width: Width, x: &Expr) -> Option<MemArg>
     ensures { result ≡ operand_found width x.now }
 {
@@ -122,7 +122,7 @@ fn are_apart(left: MemArg, right: MemArg) -> bool
     }
 }
 
-/// Whether a memop has this operation: `+ - & | ^`.
+/// Returns whether a memop has this operation: `+ - & | ^`.
 fn allowed(op: BinOp) -> bool
     ensures { result ≡ is_allowed op }
 {

@@ -27,7 +27,7 @@ fn is_contested(lone: &[Literal], literal: Literal) -> bool
     }
 }
 
-/// Whether a literal is contested, and opposed to some literal of the pattern.
+/// Returns whether a literal is contested, and opposed to some literal of the pattern.
 fn opposes(lone: &[Literal], pattern: &[Literal], literal: Literal) -> bool
     ensures { result ≡ opposes lone.now pattern.now literal }
 {
@@ -40,14 +40,15 @@ fn any_opposes(lone: &[Literal], p: &[Literal], q: &[Literal]) -> bool
     p.iter().any(|literal| opposes(lone, q, *literal))
 }
 
-/// Whether a literal of the one pattern and one of the other never hold together.
+/// Returns whether a literal of the one pattern and one of the other never hold together.
 fn contradict_by(lone: &[Literal], p: &[Literal], q: &[Literal]) -> bool
     ensures { result ≡ guards.contradict p.now q.now }
 {
     any_opposes(lone, p, q) || any_opposes(lone, q, p)
 }
 
-/// Whether two patterns together ask for two values of one field. That the one asks for another value than the other is the likeliest.
+/// Returns whether two patterns together ask for two values of one field. That the one asks for another value than the other is the
+/// likeliest.
 #[tactic(auto, using(crate::proofs::Beside::clash_turned))]
 pub(crate) fn clash_by(lone: &[Literal], p: &[Literal], q: &[Literal]) -> bool
     ensures { result ≡ clash p.now q.now }
@@ -55,7 +56,7 @@ pub(crate) fn clash_by(lone: &[Literal], p: &[Literal], q: &[Literal]) -> bool
     contradict_by(lone, p, q) || contradict_by(lone, p, p) || contradict_by(lone, q, q)
 }
 
-/// For each field of these rows the one literal that names it, or one of another place where there are more. Any literals would serve.
+/// For each field of these rows the one literal that names it, or one of another place if there are more. Any literals would serve.
 pub(crate) fn lone_literals(alloc: Global, a: &[Row], b: &[Row]) -> Result<Vec<Literal>, Memory> {
     let none = Literal {
         field: u32::MAX,

@@ -47,14 +47,14 @@ impl Model for Kept {
     ghost invariant = { λ k. AreTold k.marks.items (rows_of k.rows.items) × AreSigned k.bits.items k.rows.items };
 }
 
-/// The index of a literal's mark among patterns of this literal alone.
+/// Returns the index of a literal's mark among patterns of this literal alone.
 pub(crate) fn slot(literal: Literal) -> usize
     ensures { result ≡ slot literal }
 {
     ((literal.value ^ (u64::from(literal.field) * 521)) % 4096) as usize + 1
 }
 
-/// The index of a literal's mark among patterns with several literals.
+/// Returns the index of a literal's mark among patterns with several literals.
 fn long_slot(literal: Literal) -> usize
     ensures { result ≡ long_slot literal }
 {
@@ -76,7 +76,7 @@ fn is_marked(marks: &[usize], place: usize) -> bool
     mark(marks, place) != 0
 }
 
-/// Whether a pattern has a literal other than this one.
+/// Returns whether a pattern has a literal other than this one.
 fn has_other(pattern: &[Literal], literal: Literal) -> bool
     ensures { result ≡ has_other pattern.now literal }
 {
@@ -109,14 +109,14 @@ fn any_tells(marks: &[usize], p: &[Literal], q: &[Literal], literals: &[Literal]
     literals.iter().any(|literal| tells(marks, p, q, *literal))
 }
 
-/// Whether two patterns together may include that of a row.
+/// Returns whether two patterns together may include that of a row.
 fn may_cover(marks: &[usize], p: &[Literal], q: &[Literal]) -> bool
     ensures { result ≡ may_cover marks.now p.now q.now }
 {
     is_marked(marks, 0) || any_tells(marks, p, q, p) || any_tells(marks, p, q, q)
 }
 
-/// The greatest mark of these literals: the likely position of the included row.
+/// Returns the greatest mark of these literals: the likely position of the included row.
 fn likely(marks: &[usize], pattern: &[Literal]) -> usize {
     let mut number = mark(marks, 0);
     for literal in pattern {
@@ -150,7 +150,7 @@ fn tell(marks: &mut Vec<usize>, pattern: &[Literal], number: usize)
     }
 }
 
-/// Whether a signature has all bits of another.
+/// Returns whether a signature has all bits of another.
 fn has_bits(sign: u64, own: u64) -> bool
     ensures { result ≡ nat_eq (bit_or sign own) sign }
 {
@@ -165,7 +165,7 @@ fn covers(p: &[Literal], q: &[Literal], sign: u64, row: &Signed) -> bool
     has_bits(sign, row.sign) && include_together(p, q, row.row.pattern.as_slice())
 }
 
-/// Whether two patterns together include that of one of these rows. It takes a step for each row that it looks at.
+/// Returns whether two patterns together include that of one of these rows. It takes a step for each row that it looks at.
 fn is_covered<L: Ledger>(
     p: &[Literal],
     q: &[Literal],
@@ -186,7 +186,7 @@ fn is_covered<L: Ledger>(
     false
 }
 
-/// The same, where the rows from a place on are asked before the others.
+/// The same, if the rows from a place on are asked before the others.
 fn is_covered_from<L: Ledger>(
     p: &[Literal],
     q: &[Literal],
@@ -229,14 +229,14 @@ impl Kept {
         self.rows.len()
     }
 
-    /// Whether two patterns together ask for two values of one field.
+    /// Returns whether two patterns together ask for two values of one field.
     pub(crate) fn clash(&self, p: &[Literal], q: &[Literal]) -> bool
         ensures { result ≡ clash p.now q.now }
     {
         clash_by(self.lone.as_slice(), p, q)
     }
 
-    /// Whether two patterns together include that of a row. It takes a step for each row that it looks at.
+    /// Returns whether two patterns together include that of a row. It takes a step for each row that it looks at.
     pub(crate) fn cover<L: Ledger>(
         &self,
         p: &[Literal],
@@ -281,7 +281,7 @@ impl Kept {
     }
 }
 
-/// The rows without their signatures.
+/// Returns the rows without their signatures.
 fn bare_rows(alloc: Global, signed: Vec<Signed>) -> Result<Items<Row>, Memory>
     ensures { IfOk result (λ rows. rows ≡ rows_of signed.items) }
 {

@@ -29,7 +29,7 @@ fn asks_other(field: u32, rest: u64, literal: Literal) -> bool
     literal.equal && literal.field == field && literal.value % 32 != rest
 }
 
-/// Whether a row asks the field for a value with the rest.
+/// Returns whether a row asks the field for a value with the rest.
 pub(crate) fn suits(near: &Near, row: &Row) -> bool
     ensures { result ≡ list_any (asks near.now.field near.now.rest) row.now.pattern }
 {
@@ -38,7 +38,7 @@ pub(crate) fn suits(near: &Near, row: &Row) -> bool
     row.pattern.as_slice().iter().any(|l| asks(field, rest, *l))
 }
 
-/// Whether a row asks the field for a value with another rest.
+/// Returns whether a row asks the field for a value with another rest.
 fn avoids(field: u32, rest: u64, row: &Row) -> bool
     ensures { result ≡ list_any (asks_other field rest) row.now.pattern }
 {
@@ -46,7 +46,7 @@ fn avoids(field: u32, rest: u64, row: &Row) -> bool
     pattern.iter().any(|l| asks_other(field, rest, *l))
 }
 
-/// The rows that are compatible with a test of the field for a value with this remainder.
+/// Returns the rows that are compatible with a test of the field for a value with this remainder.
 fn rows_near(alloc: Global, rows: &[Row], field: u32, rest: u64) -> Result<Near, Memory>
     ensures { IfOk result (λ n. IsNear rows.now n) }
 {
@@ -63,7 +63,7 @@ fn rows_near(alloc: Global, rows: &[Row], field: u32, rest: u64) -> Result<Near,
     })
 }
 
-/// The field that the last literal of the first row names.
+/// Returns the field that the last literal of the first row names.
 fn asked(rows: &[Row]) -> Option<u32> {
     match rows.first() {
         None => None,

@@ -17,7 +17,7 @@ fn bits_at(bits: &[u64], literal: Literal) -> u64
     }
 }
 
-/// These bits and those of a pattern's literals.
+/// Returns these bits and those of a pattern's literals.
 pub(crate) fn with_bits(bits: &[u64], from: u64, pattern: &[Literal]) -> u64
     ensures { result ≡ with_bits bits.now from pattern.now }
 {
@@ -28,7 +28,7 @@ pub(crate) fn with_bits(bits: &[u64], from: u64, pattern: &[Literal]) -> u64
     sign
 }
 
-/// A bit for each literal of these rows, by its slot: mostly one for literals of the same rows, and another for others, so that the
+/// Returns a bit for each literal of these rows, by its slot: mostly one for literals of the same rows, and another for others, so that the
 /// common literals of most rows take few bits. Any bits would be right; these exclude the most.
 pub(crate) fn bits_for(alloc: Global, a: &[Row], b: &[Row]) -> Result<Vec<u64>, Memory> {
     let mut bits = vec![in alloc; 0u64; 4097]?;

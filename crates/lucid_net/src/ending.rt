@@ -16,7 +16,7 @@ use lucid_io::{Sink, WriteFault};
 use lucid_log::{ArrayCells, put_cells, put_ending};
 use lucid_pipe::Pipe;
 
-/// The cells of all switches.
+/// Writes the cells of all switches.
 fn put_all_cells<S: Sink>(world: &World, sink: &mut S, all: &[Cells]) -> Result<(), WriteFault>
     requires { length all.now ≤ 64 }
     ensures all { OnOk result (PutsAll S.written S.faults sink.old sink.new (all_cells world.now.core.now 0 all.now)) }
@@ -28,7 +28,7 @@ fn put_all_cells<S: Sink>(world: &World, sink: &mut S, all: &[Cells]) -> Result<
     Ok(())
 }
 
-/// The cells and the ending.
+/// Writes the cells and the ending.
 pub(crate) fn put_end<S: Sink>(
     world: &World,
     now: &Switches,
@@ -42,7 +42,7 @@ pub(crate) fn put_end<S: Sink>(
     put_ending(sink, now.entered, now.lost, now.queue.len() as u64)
 }
 
-/// The cells of a pipe.
+/// Writes the cells of a pipe.
 #[derive(Clone, Copy)]
 struct PipeCells<'a, 'p> {
     pipe: &'p Pipe<'a>,
@@ -56,7 +56,7 @@ impl<'a, 'p> ArrayCells for PipeCells<'a, 'p> {
     }
 }
 
-/// The cells of all pipes.
+/// Writes the cells of all pipes.
 fn put_all_pipes<S: Sink>(world: &World, sink: &mut S, all: &[Pipe<'_>]) -> Result<(), WriteFault>
     requires { length all.now ≤ 64 }
     ensures all { OnOk result (PutsAll S.written S.faults sink.old sink.new (all_cells world.now.core.now 0 (map held all.now))) }
@@ -73,7 +73,7 @@ fn put_all_pipes<S: Sink>(world: &World, sink: &mut S, all: &[Pipe<'_>]) -> Resu
     Ok(())
 }
 
-/// Packets in flight finish, and then come the cells and the ending.
+/// Lets packets in flight finish, and writes the cells and the ending.
 pub(crate) fn put_pipes_end<S: Sink>(
     world: &World,
     now: &mut Pipes<'_>,

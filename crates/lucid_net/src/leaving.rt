@@ -100,7 +100,7 @@ fn leave_any<S: Sink>(
     }
 }
 
-/// The first event that is ready enters the pipe of its switch, whose first slot is free.
+/// Lets the first event that is ready enter the pipe of its switch, whose first slot is free.
 fn let_in(
     placed: &Placed,
     queue: &mut Queue,
@@ -129,8 +129,8 @@ fn let_in(
     }
 }
 
-/// The turn of a switch with a pipe: its packets move, a leaving packet's block is written and its events are queued, and then one event
-/// may enter.
+/// Does the turn of a switch with a pipe. Its packets move. The block of a leaving packet is written, and its events are queued. Then one
+/// event may enter.
 pub(crate) fn pipe_turn<S: Sink>(
     world: &World,
     placed: &Placed,

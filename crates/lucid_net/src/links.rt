@@ -10,12 +10,12 @@ use lucid_conf::{Link, Scene};
 use std::alloc::Global;
 use std::marker::Model;
 
-/// The links of a scenario, and where among them is the one that joins two switches. Contracts see the links.
+/// The links of a scenario, and for each two switches the position of the link that joins them. Contracts see the links.
 #[derive(Drop)]
 pub(crate) struct Links<'a> {
     links: &'a [Link],
     switches: usize,
-    /// A row for each switch with a cell for each switch: the place in `links` of the link between the two, or `links.len()` where there is none.
+    /// A row for each switch with a cell for each switch: the place in `links` of the link between the two, or `links.len()` if there is none.
     places: Vec<usize>,
 }
 
@@ -32,7 +32,7 @@ impl<'a> Model for Links<'a> {
 }
 
 impl<'a> Links<'a> {
-    /// The links of this scenario. The table takes 8 bytes for each pair of switches.
+    /// Returns the links of this scenario. The table takes 8 bytes for each pair of switches.
     pub(crate) fn new(alloc: Global, scene: &'a Scene) -> Result<Links<'a>, Memory>
         requires { All (IsLink scene.now.switches) scene.now.links }
         ensures { IfOk result (λ l. l ≡ scene.now.links) }
@@ -47,7 +47,7 @@ impl<'a> Links<'a> {
         })
     }
 
-    /// The link that joins the two, if there is one.
+    /// Returns the link that joins the two, if there is one.
     pub(crate) fn between(&self, a: u32, b: u64) -> Option<Link>
         ensures first { result ≡ find (joins a b) self.now }
         ensures joins { IfSome result (λ link. joins a b link ≡ true) }
@@ -62,7 +62,7 @@ impl<'a> Links<'a> {
     }
 }
 
-/// The link at this place, if there is one.
+/// Returns the link at this position, if there is one.
 fn link_at(links: &[Link], place: usize) -> Option<Link>
     ensures { result ≡ slice_get links.now place }
 {
@@ -72,7 +72,7 @@ fn link_at(links: &[Link], place: usize) -> Option<Link>
     }
 }
 
-/// The index of the first link that joins two switches, for each pair of switches.
+/// Returns for each pair of switches the index of the first link that joins them.
 fn places(alloc: Global, links: &[Link], switches: usize) -> Result<Vec<usize>, Memory>
     requires few { switches < 2 ^ 32 }
     requires within { All (IsLink switches) links.now }
@@ -85,7 +85,7 @@ fn places(alloc: Global, links: &[Link], switches: usize) -> Result<Vec<usize>, 
     Ok(places)
 }
 
-/// The link at this place joins its two ends, in both directions.
+/// Enters the link at this position for its two ends, in both directions.
 fn put(places: &mut Vec<usize>, switches: usize, link: &Link, place: usize)
     requires long { length places.old.items ≡ switches * switches }
     requires link { IsLink switches link.now }

@@ -27,7 +27,7 @@ pub(crate) enum Machines<'a> {
     Piped(Pipes<'a>),
 }
 
-/// The turns of all switches at a tick.
+/// Does the turns of all switches at a tick.
 pub(crate) fn tick_all<S: Sink>(
     world: &World,
     now: &mut Machines<'_>,
@@ -48,7 +48,7 @@ pub(crate) fn tick_all<S: Sink>(
     }
 }
 
-/// Packets in flight finish, and then come the cells and the ending.
+/// Lets packets in flight finish, and writes the cells and the ending.
 pub(crate) fn put_last<S: Sink>(
     world: &World,
     now: &mut Machines<'_>,
@@ -71,7 +71,7 @@ pub(crate) fn put_last<S: Sink>(
     }
 }
 
-/// The pipe of each switch in order is shown; nothing where handlers run whole.
+/// Shows the watch the pipe of each switch in order, and nothing if handlers run whole.
 pub(crate) fn show<V: Watch>(now: &Machines<'_>, watch: &mut V)
     requires { FewPipes now.now }
     ensures shows { ShowsAll (V.seen watch.old) (V.seen watch.new) (shown now.now) }
@@ -92,7 +92,7 @@ fn show_pipes<V: Watch>(pipes: &[Pipe<'_>], watch: &mut V)
     }
 }
 
-/// How many packets are in the pipe of a switch; none where handlers run whole.
+/// Returns how many packets are in the pipe of a switch; none if handlers run whole.
 pub(crate) fn packets(now: &Machines<'_>, switch: u32) -> usize
     ensures is { WithinPipes now.now switch → Packets now.now switch result }
     ensures whole { placed_of now.now ≡ None → result ≡ 0 }

@@ -22,7 +22,7 @@ pub(crate) fn is_of(placed: &Placed, pipe: &Pipe<'_>)
     pipe.places_fall();
 }
 
-/// How many stages there are.
+/// Returns how many stages there are.
 fn stages(placed: &Placed, pipe: &Pipe<'_>) -> usize
     requires { pipe.now.placed ≡ placed.now }
     ensures value { result ≡ length (rows_in pipe.now) }

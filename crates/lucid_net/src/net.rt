@@ -37,8 +37,8 @@ use lucid_tables::Placed;
 use std::alloc::Global;
 use std::marker::Model;
 
-/// A network of switches that run the handlers of a program whole, or that have a pipe each. Contracts see its world, the placed code of
-/// its pipes, the number of ticks done, and whether one failed (`Seen`): until then its switches are those of the definition (`Stands`).
+/// A network of switches: each runs handlers whole, or each has a pipe. Contracts see its world, the placed code of its pipes, the number
+/// of ticks done, and whether one failed (`Seen`): until then its switches are those of the definition (`Stands`).
 #[derive(Drop)]
 pub struct Net<'a> {
     world: World<'a>,
@@ -147,14 +147,14 @@ impl<'a> Net<'a> {
         })
     }
 
-    /// How many ticks are done.
+    /// Returns how many ticks are done.
     pub fn at(&self) -> u64
         ensures { result ≡ self.now.at }
     {
         self.at
     }
 
-    /// Whether a tick failed.
+    /// Returns whether a tick failed.
     pub fn failed(&self) -> bool
         ensures { result ≡ self.now.failed }
     {
@@ -167,10 +167,10 @@ impl<'a> Net<'a> {
         self.world.scene.stop
     }
 
-    /// Returns the pipe of a switch; None exactly if handlers run whole. Until a tick fails it is the pipe in which all events that
-    /// entered this switch in the network of whole handlers moved once a tick (`PipeStands`). So the events of the last ticks are in
-    /// flight, each packet at its place, and the cells are those of the network of whole handlers, at the tick that a stage has reached
-    /// (`Holds`). `sight_at` describes it without stages and code. Of a network that failed only `whole` is said.
+    /// Returns the pipe of a switch; None exactly if handlers run whole. Until a tick fails it is the pipe in which all events that entered
+    /// this switch in the network of whole handlers moved once a tick (`PipeStands`). So the events of the last ticks are in flight, each
+    /// packet in its slot. The cells are those of the network of whole handlers, at the tick that a stage has reached (`Holds`). `sight_at`
+    /// describes it without stages and code. Of a network that failed only `whole` is said.
     pub fn pipe(&self, switch: u32) -> Option<&Pipe<'a>>
         requires { switch < self.now.scene.switches }
         ensures mode { self.now.failed ≡ false → is_some result ≡ is_some self.now.placed }
@@ -182,8 +182,8 @@ impl<'a> Net<'a> {
         pipe_of(&self.machines, switch)
     }
 
-    /// How many packets are in flight at a switch: until a tick fails, those of the events that entered it in as many of the last ticks as there
-    /// are stages. None where handlers run whole.
+    /// Returns how many packets are in flight at a switch, 0 if handlers run whole. Until a tick fails, they are the events that entered in
+    /// the last ticks, of which there are as many as stages.
     pub fn packets(&self, switch: u32) -> usize
         requires { switch < self.now.scene.switches }
         ensures count { self.now.failed ≡ false → result ≡ in_last (entering (network self.now) switch) self.now.at (lag self.now) }
@@ -228,8 +228,8 @@ impl<'a> Net<'a> {
         }
     }
 
-    /// The end, once all ticks are done: packets in flight finish and are written, and then come the cells that aren't 0, and how many events
-    /// entered, were lost, and never entered (`last_text`). It takes no memory.
+    /// Ends the network once all ticks are done. Packets in flight finish and are written. Then come the cells that aren't 0, and how many
+    /// events entered, were lost, and never entered (`last_text`). It takes no memory.
     pub fn drain<S: Sink>(self, sink: &mut S) -> Result<(), NetError>
         requires done { self.at ≡ self.scene.stop }
         requires sound { self.failed ≡ false }
@@ -240,7 +240,7 @@ impl<'a> Net<'a> {
         net.end(sink)
     }
 
-    /// The end of a network that is used no more.
+    /// Ends a network that is not used again.
     fn end<S: Sink>(&mut self, sink: &mut S) -> Result<(), NetError>
         requires done { self.old.at ≡ self.old.scene.stop }
         requires sound { self.old.failed ≡ false }
@@ -251,10 +251,10 @@ impl<'a> Net<'a> {
         put_last(&self.world, &mut self.machines, sink)
     }
 
-    /// All ticks and the end: the whole log (`log`), the same whether handlers run whole or packets move through pipes; or a part of it, a proper
-    /// one where a write failed. After each tick the watch is shown the pipe of each switch in order (`ShowsRun`), and nothing where handlers
-    /// run whole. A network with pipes finds no memory only at a tick at which an event has to wait. Then the log of the ticks before it is
-    /// written in full, and a part of what the tick writes (`Stopped`).
+    /// Does all ticks and the end. Writes the whole log (`log`), which is the same in both modes, or a part of it, a proper one if a write
+    /// failed. After each tick the watch is shown the pipe of each switch in order (`ShowsRun`), and nothing if handlers run whole. A
+    /// network with pipes runs out of memory only at a tick at which an event has to wait. Then the log of the ticks before it is written
+    /// in full, and a part of what the tick writes (`Stopped`).
     pub fn run<S: Sink, V: Watch>(self, sink: &mut S, watch: &mut V) -> Result<(), NetError>
         requires begins { self.at ≡ 0 }
         requires sound { self.failed ≡ false }
@@ -271,7 +271,7 @@ impl<'a> Net<'a> {
     }
 }
 
-/// The pipe of a switch, if there are pipes.
+/// Returns the pipe of a switch, if there are pipes.
 fn pipe_of<'a, 'm>(machines: &'m Machines<'a>, switch: u32) -> Option<&'m Pipe<'a>>
     ensures mode { WithinPipes machines.now switch → is_some result ≡ is_some (placed_of machines.now) }
     ensures whole { placed_of machines.now ≡ None → is_some result ≡ false }
@@ -290,7 +290,7 @@ fn pipe_of<'a, 'm>(machines: &'m Machines<'a>, switch: u32) -> Option<&'m Pipe<'
     }
 }
 
-/// All ticks.
+/// Does all ticks.
 fn all_ticks<S: Sink, V: Watch>(
     net: &mut Net<'_>,
     sink: &mut S,

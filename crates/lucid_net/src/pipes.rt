@@ -35,7 +35,7 @@ pub(crate) struct Pipes<'a> {
     pub(crate) counts: Counts,
 }
 
-/// The turn of a switch at a tick.
+/// Does the turn of a switch at a tick.
 fn turn<S: Sink>(
     world: &World,
     now: &mut Pipes<'_>,
@@ -64,7 +64,7 @@ fn turn<S: Sink>(
     )
 }
 
-/// The turns of all switches at a tick.
+/// Does the turns of all switches at a tick.
 pub(crate) fn all_turns<S: Sink>(
     world: &World,
     now: &mut Pipes<'_>,
@@ -170,7 +170,7 @@ fn tell_any<S: Sink>(
     }
 }
 
-/// The turn of a switch once the last tick is done.
+/// Does the turn of a switch once the last tick is done.
 fn drain_turn<S: Sink>(
     world: &World,
     now: &mut Pipes<'_>,
@@ -199,7 +199,7 @@ fn drain_turn<S: Sink>(
     Ok(waiting + made)
 }
 
-/// The turns of all switches at such a tick.
+/// Does the turns of all switches at such a tick.
 fn drain_tick<S: Sink>(
     world: &World,
     now: &mut Pipes<'_>,
@@ -223,7 +223,7 @@ fn drain_tick<S: Sink>(
     Ok(count)
 }
 
-/// Packets in flight finish. The answer is how many events never enter.
+/// Lets packets in flight finish. Returns how many events never enter.
 pub(crate) fn drain_ticks<S: Sink>(
     world: &World,
     now: &mut Pipes<'_>,

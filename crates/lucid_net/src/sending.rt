@@ -18,7 +18,7 @@ use lucid_base::{Event, Memory, Out, Target};
 use lucid_core::Core;
 use lucid_queue::{PendKey, Pending, Queue};
 
-/// How many outs of a run are lost, and a byte whose bit `i` is set where out `i` is.
+/// How many outs of a run are lost, and a byte whose bit `i` is set if out `i` is.
 #[derive(Clone, Copy)]
 pub(crate) struct Lost {
     pub(crate) count: u64,
@@ -26,7 +26,7 @@ pub(crate) struct Lost {
 }
 
 impl Lost {
-    /// Out `index` is counted too.
+    /// Counts out `index` if it is lost.
     fn with(self, index: usize, is_lost: bool) -> Lost
         requires index { index < 8 }
         requires count { self.count ≤ index }
@@ -45,7 +45,7 @@ impl Lost {
     }
 }
 
-/// One more waits.
+/// Queues an event whose switch and key no other has.
 pub(crate) fn push(queue: &mut Queue, p: Pending) -> Result<(), Memory>
     requires { list_any (has_place p) queue.old ≡ false }
     ensures { OnOk result (queue.new ≡ put_in is_before p queue.old) }
@@ -56,7 +56,7 @@ pub(crate) fn push(queue: &mut Queue, p: Pending) -> Result<(), Memory>
     }
 }
 
-/// The queue entry for out number `index` of a run; None if it is lost.
+/// Returns the queue entry for out number `index` of a run; None if it is lost.
 fn waiting(
     world: &World,
     ran: &Ran,
@@ -87,7 +87,7 @@ fn waiting(
     })
 }
 
-/// A new one waits, which has the key of none.
+/// Queues an event whose key no other has.
 fn wait(
     core: &Core,
     queue: &mut Queue,
@@ -105,7 +105,7 @@ fn wait(
     push(queue, p)
 }
 
-/// An event waits or is lost that a run sends out as number `index`, and the answer says whether it is lost.
+/// Queues event `index` of a run, or drops it if no link carries it; returns true if it is dropped.
 fn send_event(
     world: &World,
     queue: &mut Queue,
@@ -131,7 +131,7 @@ fn send_event(
     }
 }
 
-/// An out of a run, of number `index`: if it is an event it waits or is lost, and the answer says whether it is lost.
+/// Queues out `index` of a run if it is an event, or drops it if no link carries it; returns true if it is dropped.
 fn send_out(
     world: &World,
     queue: &mut Queue,
@@ -179,7 +179,7 @@ pub(crate) struct Told {
     pub(crate) made: u64,
 }
 
-/// Whether an out of a run is an event that is lost.
+/// Returns whether an out of a run is an event that is lost.
 fn is_lost(world: &World, ran: &Ran, out: &Out) -> bool
     ensures { result ≡ loses (net_of world.now) (run_of ran.now) out.now }
 {
@@ -197,7 +197,7 @@ fn is_lost(world: &World, ran: &Ran, out: &Out) -> bool
     }
 }
 
-/// Whether an out of a run is an event that waits.
+/// Returns whether an out of a run is an event that waits.
 fn is_made(world: &World, ran: &Ran, out: &Out) -> bool
     ensures { result ≡ makes (net_of world.now) (run_of ran.now) out.now }
 {

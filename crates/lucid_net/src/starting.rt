@@ -19,7 +19,7 @@ use lucid_queue::{PendKey, Pending, Queue};
 use lucid_tables::Placed;
 use std::alloc::Global;
 
-/// The cells of all switches, all 0.
+/// Returns the cells of all switches, all 0.
 pub(crate) fn all_cells(alloc: Global, core: &Core, switches: u32) -> Result<Vec<Cells>, Memory>
     ensures { IfOk result (λ all. all.items ≡ replicate switches (zero_cells core.now.arrays)) }
 {
@@ -31,7 +31,7 @@ pub(crate) fn all_cells(alloc: Global, core: &Core, switches: u32) -> Result<Vec
     Ok(all)
 }
 
-/// The pipes of all switches, with no packet and all cells 0.
+/// Returns the pipes of all switches, with no packet and all cells 0.
 pub(crate) fn all_pipes<'a>(
     alloc: Global,
     placed: &'a Placed,
@@ -47,7 +47,7 @@ pub(crate) fn all_pipes<'a>(
     Ok(all)
 }
 
-/// The queue entry of the event at this position of the file.
+/// Returns the queue entry of the event at this position of the file.
 fn pending(e: &FileEvent, index: u32) -> Pending
     ensures { result ≡ file_event index e.now }
 {
@@ -64,7 +64,7 @@ fn pending(e: &FileEvent, index: u32) -> Pending
     }
 }
 
-/// The event at this place of the file waits, behind those before it. Places are numbers of 32 bits: no memory holds more events.
+/// Queues the event at this position of the file, after those before it. Positions are numbers of 32 bits: no memory holds more events.
 fn wait(core: &Core, queue: &mut Queue, index: usize, e: &FileEvent) -> Result<(), Memory>
     requires fits { IsTrue (event_fits core.now e.now.event) }
     requires kept { list_all (is_of_file core.now index) queue.old ≡ true }
@@ -77,7 +77,7 @@ fn wait(core: &Core, queue: &mut Queue, index: usize, e: &FileEvent) -> Result<(
     push(queue, pending(e, index as u32))
 }
 
-/// The events of the file wait.
+/// Queues the events of the file.
 pub(crate) fn all_events(
     alloc: Global,
     core: &Core,

@@ -45,7 +45,7 @@ fn run(
     )
 }
 
-/// An event of the program enters the switch at the tick and runs whole. Its outs wait or are lost, and its block is written at the end.
+/// Runs an event that enters the switch at the tick whole. Its events are queued or lost, and its block is written at the end.
 fn enter<S: Sink>(
     world: &World,
     now: &mut Switches,
@@ -77,7 +77,7 @@ fn enter<S: Sink>(
     Ok(())
 }
 
-/// The turn of a switch at a tick.
+/// Does the turn of a switch at a tick.
 pub(crate) fn turn<S: Sink>(
     world: &World,
     now: &mut Switches,
@@ -98,7 +98,7 @@ pub(crate) fn turn<S: Sink>(
     }
 }
 
-/// The turns of all switches at a tick.
+/// Does the turns of all switches at a tick.
 pub(crate) fn all_turns<S: Sink>(
     world: &World,
     now: &mut Switches,

@@ -5,9 +5,9 @@ use lucid_core::{Core, cells_stay_fit};
 use lucid_pipe::moves_as_rows;
 use lucid_tables::Placed;
 
-/// If placed code represents a program and has its arrays, a pass through its stages, each on its own cells, has the effect of the
-/// program's step (`PassStepsAs`), at the ticks and switches of any network of the program (`PassDoesAs`), and each event that fits the
-/// program may enter (`TakesAll`).
+/// Take placed code that represents a program and has its arrays. A pass through its stages, each on its own cells, has the effect of the
+/// program's step (`PassStepsAs`), at the ticks and switches of any network of the program (`PassDoesAs`). Each event that fits the program
+/// may enter (`TakesAll`).
 pub fn pass_does_as(core: &Core, placed: &Placed)
     ensures steps { PassStepsAs core.now placed.now }
     ensures does { PassDoesAs core.now placed.now }

@@ -15,7 +15,7 @@ pub fn turns_go_by_number()
     ensures { (net : Network) → TurnsByNumber net }
 {}
 
-/// Each event finds its place in the queue free, one of the file (`FileFindsFree`) and one that is made (`MadeFindsFree`), and no two in
+/// Each event finds its place in the queue free, if it is of the file (`FileFindsFree`) or made by a handler (`MadeFindsFree`). No two in
 /// the queue have one switch and one key (`StaysApart`).
 pub fn places_are_free()
     ensures file { (net : Network) → FileFindsFree net }
@@ -23,7 +23,7 @@ pub fn places_are_free()
     ensures apart { (net : Network) → StaysApart net }
 {}
 
-/// Where a scenario has no windows, an event is lost only where no link leads to its switch (`NoWindows`).
+/// If a scenario has no windows, an event is lost only if no link leads to its switch (`NoWindows`).
 pub fn without_windows_all_links_are_up()
     ensures { NoWindows }
 {}

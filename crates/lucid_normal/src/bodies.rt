@@ -171,7 +171,7 @@ fn target(
     }
 }
 
-/// A delay and a target, the delay first where the test holds.
+/// A delay and a target, the delay first if the test holds.
 #[cycle(walk)]
 #[tactic(auto, using(lucid_normal_steps::proofs::Adding::adding, std::proofs::lemmas::Grind::common_steps))]
 fn delay_and_target(

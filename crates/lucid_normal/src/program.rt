@@ -18,8 +18,8 @@ use lucid_normal_laws::{
 };
 use std::alloc::Global;
 
-/// Translates an accepted flat core into valid code that represents it, with as many operations as are counted over it, in which every
-/// node that writes a field precedes each other node that reads it. Translation never rejects a program; its only error is out of memory.
+/// Translates an accepted flat core into valid code that represents it, with as many operations as are counted over it. Every node that
+/// writes a field precedes each other node that reads it. Translation never rejects a program; its only error is out of memory.
 pub fn normal(alloc: Global, flat: &Flat) -> Result<Code, Memory>
     requires { IsAccepted flat.now }
     ensures code { IfOk result (λ code. code ≡ translate flat.now) }

@@ -209,7 +209,7 @@ fn join_answer(
     }
 }
 
-/// A new field, which takes the one operand where the condition holds, and the other where it doesn't.
+/// A new field, which takes the one operand if the condition holds, and the other if it doesn't.
 #[tactic(auto, using(crate::proofs::Adding::adding, std::proofs::lemmas::Grind::common_steps))]
 fn move_both(
     context: Context,

@@ -41,7 +41,7 @@ pub fn input(k: u32) -> Option<Typed>
     })
 }
 
-/// Whether the expression needs a move where it is a condition.
+/// Returns whether the expression needs a move if it is a condition.
 pub fn needs_move(e: &Expr) -> bool
     ensures { result ≡ (expr_code e.now).needs_move }
 {

@@ -189,7 +189,7 @@ pub fn call_array(
     }
 }
 
-/// The field of one bit that holds a condition: a new one where the condition needs a move.
+/// The field of one bit that holds a condition: a new one if the condition needs a move.
 pub fn bit(
     context: Context,
     ops: &mut Vec<Op>,

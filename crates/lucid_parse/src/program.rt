@@ -17,7 +17,7 @@ use lucid_parse_spec::declarations_are_read_as_spelled;
 use lucid_parse_tree::{Decl, Tree};
 use std::alloc::Global;
 
-/// The tree of the program whose tokens these are, where no count of nesting passes its limit and there is one: the tree that
+/// The tree of the program whose tokens these are, if no count of nesting passes its limit and there is one: the tree that
 /// the grammar builds, that the tokens spell, and whose lines are those of its declarations' first tokens (`IsTreeOf`).
 ///
 /// `TooDeep` has the number, from 1, of the first token at which a count of nesting passes its limit (`too_deep`); it is tried
@@ -108,7 +108,7 @@ fn line_at(text: &[u8], line: u32, from: usize, to: usize) -> u32
     }
 }
 
-/// How many line feeds there are.
+/// Returns how many line feeds there are.
 fn breaks(bytes: &[u8]) -> usize
     ensures { result ≡ count_by (λ b. b == 10) bytes.now }
 {

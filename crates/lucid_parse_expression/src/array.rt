@@ -157,7 +157,7 @@ fn memop_part(given: Items<E>) -> Result<((Id, E), Items<E>), Stop>
     Ok(((memop, argument), given))
 }
 
-/// The first expression and the others, where the first is a name.
+/// The first expression and the others, if the first is a name.
 #[tactic(auto, unfolding(lucid_parse_spec::specs::ReadExpression::first_name))]
 fn first_name(given: Items<E>) -> Result<(Id, Items<E>), Stop>
     ensures { Gives result (spec.first_name given) }

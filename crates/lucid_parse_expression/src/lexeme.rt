@@ -50,7 +50,7 @@ impl<'a> Tokens<'a> {
         }
     }
 
-    /// How many tokens there are.
+    /// Returns how many tokens there are.
     #[tactic(auto, unfolding(crate::specs::Tokens::said))]
     pub fn len(self) -> usize
         ensures { result ≡ length (said self.entry) }

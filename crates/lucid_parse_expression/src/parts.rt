@@ -1,5 +1,5 @@
 // Small parts of the grammar: single tokens, widths and types. Each function takes its part off the front of the tokens
-// and gives the rest with it, or says that there is no such part: `NoTree`, or None where the part may be left out.
+// and gives the rest with it, or says that there is no such part: `NoTree`, or None if the part may be left out.
 ghost use Rattle.std.specs.Prelude.{◌≡◌, option_map};
 ghost use Rattle.lucid_parse_spec.specs.Reader as spec;
 ghost use Rattle.lucid_parse_expression.specs.Reads.{Reads, Gives, Leaves};
@@ -95,7 +95,7 @@ pub fn number(tokens: Tokens) -> Result<(u64, Tokens), Stop>
     }
 }
 
-/// The list, where it isn't empty, and `NoTree` where it is.
+/// The list, if it isn't empty, and `NoTree` if it is.
 pub fn some<T: Drop>(items: Items<T>) -> Result<Items<T>, Stop>
     ensures { Gives result (spec.some items) }
 {
@@ -124,7 +124,7 @@ pub(crate) fn width(tokens: Tokens) -> Result<(u64, Tokens), Stop>
     width_end(rest)
 }
 
-/// `<<NUMBER>>`, where it is there.
+/// `<<NUMBER>>` if it exists.
 #[tactic(auto, unfolding(lucid_parse_spec::specs::Reader::width_if))]
 pub(crate) fn width_if(tokens: Tokens) -> Result<(Option<u64>, Tokens), Stop>
     ensures { Reads result (spec.width_if (said tokens.entry)) }

@@ -13,7 +13,7 @@ pub enum Method {
 }
 
 impl Method {
-    /// The call of this name.
+    /// Returns the call of this name.
     pub fn of(name: &[u8]) -> Option<Method>
         ensures { result ≡ method_of name.now }
     {

@@ -34,7 +34,7 @@ pub enum Next {
 }
 
 impl Next {
-    /// How tightly it binds.
+    /// Returns how tightly it binds.
     pub fn level(self) -> u8
         ensures { result ≡ next_level self }
     {
@@ -44,7 +44,7 @@ impl Next {
         }
     }
 
-    /// The least level of an operand on its left.
+    /// Returns the least level of an operand on its left.
     pub fn left(self) -> u8
         ensures { result ≡ next_left self }
     {
@@ -55,7 +55,7 @@ impl Next {
     }
 }
 
-/// How tightly an infix sign binds.
+/// Returns how tightly an infix sign binds.
 fn level(op: Infix) -> u8
     ensures value { result ≡ spec.level op }
     ensures small { result ≤ 8 }
@@ -76,7 +76,7 @@ fn level(op: Infix) -> u8
     }
 }
 
-/// The least level of a left operand. Comparisons don't group.
+/// Returns the least level of a left operand. Comparisons don't group.
 fn left_level(op: Infix) -> u8
     ensures { result ≡ spec.left_level op }
 {
@@ -91,21 +91,21 @@ fn left_level(op: Infix) -> u8
     }
 }
 
-/// The least level of a right operand. Signs of one level group to the left.
+/// Returns the least level of a right operand. Signs of one level group to the left.
 pub fn right_level(op: Infix) -> u8
     ensures { result ≡ spec.level op + 1 }
 {
     level(op) + 1
 }
 
-/// The least level of the operand of a prefix sign or a cast: both bind more tightly than infix operators.
+/// Returns the least level of the operand of a prefix sign or a cast: both bind more tightly than infix operators.
 pub fn unary_level() -> u8
     ensures { result ≡ spec.tightest }
 {
     TIGHTEST
 }
 
-/// The sign before an operand.
+/// Returns the sign before an operand.
 pub fn pre_of(sign: Sign) -> Option<Pre>
     ensures { result ≡ pre_of sign }
 {
@@ -117,7 +117,7 @@ pub fn pre_of(sign: Sign) -> Option<Pre>
     }
 }
 
-/// The sign between operands.
+/// Returns the sign between operands.
 pub fn infix_of(sign: Sign) -> Option<Infix>
     ensures { result ≡ infix_of sign }
 {

@@ -13,7 +13,7 @@ use lucid_base::{Items, Memory, Width};
 use lucid_code::{Act, Op};
 use std::alloc::Global;
 
-/// The operations, each changed in the order of the list. They write fields that are there.
+/// Returns the operations, each changed in the order of the list. They write fields that are there.
 pub(crate) fn changed(
     alloc: Global,
     looks: Looks,

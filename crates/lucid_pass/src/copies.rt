@@ -16,7 +16,7 @@ pub struct Copies {
 }
 
 impl Copies {
-    /// The pass, by which nothing went so far.
+    /// Returns the pass, with a count of 0.
     pub fn new() -> Copies
         ensures { result.removed ≡ 0 }
     {

@@ -13,7 +13,7 @@ use lucid_base::Memory;
 use lucid_code::{Literal, Op};
 use std::alloc::Global;
 
-/// A mark for each field that just one operation writes and another tests whose guard hasn't all literals of that one's guard.
+/// Returns a mark for each field that just one operation writes and another tests whose guard hasn't all literals of that one's guard.
 pub(crate) fn uncovered(alloc: Global, ops: &[Op], writers: &[Writer]) -> Result<Vec<bool>, Memory>
     requires { Tells ops.now writers.now }
     ensures { IfOk result (λ marks. Uncovered ops.now (length writers.now) (length ops.now) marks.items) }
@@ -44,7 +44,7 @@ fn turn(ops: &[Op], writers: &[Writer], i: usize, nested: usize, marks: &mut Vec
     nested
 }
 
-/// The number of first literals that are under the guards of their writers, if the first `from` are.
+/// Returns the number of first literals that are under the guards of their writers, if the first `from` are.
 fn nested_from(ops: &[Op], writers: &[Writer], guard: &[Literal], from: usize) -> usize
     requires tells { Tells ops.now writers.now }
     requires nested { Nested ops.now guard.now from }

@@ -19,7 +19,7 @@ pub struct Dead {
 }
 
 impl Dead {
-    /// The pass, by which nothing went so far.
+    /// Returns the pass, with a count of 0.
     pub fn new() -> Dead
         ensures { result.removed ≡ 0 }
     {
@@ -54,8 +54,8 @@ impl Pass for Dead {
     }
 }
 
-/// The needed operations, which name only fields below `fields`: goes from the last to the first, with a mark for each field that the
-/// kept ones read.
+/// Returns the needed operations, which name only fields below `fields`: goes from the last to the first, with a mark for each field that
+/// the kept ones read.
 fn live(alloc: Global, ops: &[Op], fields: usize) -> Result<Vec<Op>, Memory>
     requires { IsTrue (list_all (writes_below fields) ops.now) }
     ensures { IfOk result (λ kept. kept.items ≡ live ops.now) }
@@ -99,7 +99,7 @@ fn is_marked(read: &[bool], op: &Op) -> bool
     }
 }
 
-/// The field that an act writes which does nothing else.
+/// Returns the field that an act writes which does nothing else.
 fn only_writes(act: &Act) -> Option<u32>
     ensures { result ≡ only_writes act.now }
 {

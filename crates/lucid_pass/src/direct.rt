@@ -25,7 +25,7 @@ pub struct Direct {
 }
 
 impl Direct {
-    /// The pass, by which nothing went so far.
+    /// Returns the pass, with a count of 0.
     pub fn new() -> Direct
         ensures { result.removed ≡ 0 }
     {
@@ -60,7 +60,7 @@ impl Pass for Direct {
     }
 }
 
-/// The operations with direct tests. They write fields that are there.
+/// Returns the operations with direct tests. They write fields that are there.
 fn direct_ops(alloc: Global, widths: &[Width], ops: &[Op]) -> Result<Vec<Op>, Memory>
     requires { IsTrue (list_all (writes_below (length widths.now)) ops.now) }
     ensures { IfOk result (λ new. new.items ≡ direct_ops widths.now ops.now) }
@@ -73,7 +73,7 @@ fn direct_ops(alloc: Global, widths: &[Width], ops: &[Op]) -> Result<Vec<Op>, Me
     Ok(kept)
 }
 
-/// A mark for each field that the operations read.
+/// Returns a mark for each field that the operations read.
 fn read_of(alloc: Global, ops: &[Op], fields: usize) -> Result<Vec<bool>, Memory>
     ensures { IfOk result (λ read. ReadMarks fields read.items ops.now) }
 {
@@ -94,7 +94,7 @@ fn mark_reads(op: &Op, read: &mut Vec<bool>, reads: &mut Vec<u32>) -> Result<(),
     Ok(())
 }
 
-/// The operations other than comparisons that represent a test and have no reader.
+/// Returns the operations other than comparisons that represent a test and have no reader.
 fn needed(table: &[Option<Test>], read: &[bool], ops: Vec<Op>) -> Vec<Op>
     ensures { result.items ≡ filter (is_still_needed table.now read.now) ops.items }
 {

@@ -17,7 +17,7 @@ pub struct Fold {
 }
 
 impl Fold {
-    /// The pass, by which nothing went so far.
+    /// Returns the pass, with a count of 0.
     pub fn new() -> Fold
         ensures { result.removed ≡ 0 }
     {

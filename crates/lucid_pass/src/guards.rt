@@ -51,7 +51,7 @@ fn same(l: Literal, k: Literal) -> bool
     l.field == k.field && (l.equal == k.equal && l.value == k.value)
 }
 
-/// How many of the first `most` literals two guards begin with alike.
+/// Returns how many of the first `most` literals two guards begin with alike.
 pub(crate) fn shared(a: &[Literal], b: &[Literal], most: usize) -> usize
     ensures alike { Alike a.now b.now result }
     ensures bound { result ≤ most }

@@ -30,7 +30,7 @@ pub(crate) struct Now<'a> {
     pub(crate) ops: &'a [Op],
 }
 
-/// The act with other operands, for a reader with this guard.
+/// Returns the act with other operands, for a reader with this guard.
 pub(crate) fn looked_act(
     alloc: Global,
     now: Now,
@@ -136,7 +136,7 @@ fn looked(now: Now, guard: &[Literal], operand: Operand) -> Operand
     }
 }
 
-/// The source of the move to field `k`.
+/// Returns the source of the move to field `k`.
 fn moved_from(now: Now, guard: &[Literal], k: u32) -> Option<Operand>
     requires { Tells (standing now.done.now now.ops.now) now.writers.now }
     ensures { result ≡ moved_from (standing now.entry.done.now now.entry.ops.now) guard.now k }
@@ -214,7 +214,7 @@ fn width(widths: &[Width], k: u32) -> u8
     }
 }
 
-/// The low bits of a number by the width of a field.
+/// Returns the low bits of a number by the width of a field.
 fn low(widths: &[Width], k: u32, v: u64) -> u64
     ensures { result ≡ low_of (slice_index widths.now k) v }
 {

@@ -20,7 +20,7 @@ pub(crate) fn mark(marks: &mut Vec<bool>, k: u32)
     }
 }
 
-/// Whether field `k` has a mark.
+/// Returns whether field `k` has a mark.
 pub(crate) fn is_set(marks: &[bool], k: usize) -> bool
     ensures { result ≡ slice_index_or marks.now k false }
 {

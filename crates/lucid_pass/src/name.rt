@@ -51,7 +51,7 @@ impl Name {
         self.len += 1;
     }
 
-    /// The text's bytes.
+    /// Returns the text's bytes.
     pub fn bytes(&self) -> &[u8]
         ensures value { result.now ≡ self.now }
         ensures bound { length result.now ≤ 16 }

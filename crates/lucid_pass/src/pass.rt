@@ -21,7 +21,7 @@ pub trait Pass: Drop {
     fn name(&self) -> Name
         ensures { result ≡ called self.now };
 
-    /// The number of operations removed so far. It stops at the last u64.
+    /// Returns the number of operations removed so far. It stops at the last u64.
     fn removed(&self) -> u64
         ensures { result ≡ count self.now };
 

@@ -20,7 +20,7 @@ fn run_one(pass: &mut Box<dyn Pass>, alloc: Global, code: &Code) -> Result<Code,
     pass.run(alloc, code)
 }
 
-/// The code with these operations in place of its own, and how many went.
+/// Returns the code with these operations in place of its own, and how many went.
 pub(crate) fn replaced(alloc: Global, code: &Code, ops: Vec<Op>) -> Result<(Code, u64), Memory>
     requires { MayReplace code.now (made_of code.now.fields code.now.inputs code.now.arrays ops.items) }
     ensures code { IfOk result (λ r. r.0 ≡ made_of code.now.fields code.now.inputs code.now.arrays ops.items) }

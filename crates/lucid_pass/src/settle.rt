@@ -8,7 +8,7 @@ use lucid_base::Cells;
 use lucid_code::{Act, Operand};
 use std::alloc::Global;
 
-/// The act, or the move of its result where all its operands are numbers.
+/// Returns the act, or the move of its result if all its operands are numbers.
 #[tactic(auto, using(crate::proofs::Settling::settled_by))]
 pub(crate) fn settled(alloc: Global, act: Act) -> Act
     ensures { result ≡ settled act }
@@ -22,7 +22,7 @@ pub(crate) fn settled(alloc: Global, act: Act) -> Act
     }
 }
 
-/// The field written by an act that computes on numbers alone.
+/// Returns the field written by an act that computes on numbers alone.
 fn computed_field(act: &Act) -> Option<u32>
     ensures { result ≡ computed_field act.now }
 {
@@ -39,7 +39,7 @@ fn computed_field(act: &Act) -> Option<u32>
     }
 }
 
-/// The field, where all operands are numbers.
+/// Returns the field, if all operands are numbers.
 fn if_fixed(operands: &[Operand], k: u32) -> Option<u32>
     ensures { result ≡ if list_all is_fixed operands.now then Some k else None }
 {

@@ -10,7 +10,7 @@ use lucid_code::{Literal, Op};
 use lucid_pass_spec::Test;
 use std::alloc::Global;
 
-/// The operations with direct tests in their guards.
+/// Returns the operations with direct tests in their guards.
 pub(crate) fn directed(alloc: Global, table: &[Option<Test>], ops: &[Op]) -> Result<Vec<Op>, Memory>
     ensures { IfOk result (λ new. new.items ≡ map (direct_op (direct_by table.now)) ops.now) }
 {
@@ -59,7 +59,7 @@ fn cut(made: &mut Vec<Literal>, ends: &mut Vec<usize>, kept: usize)
     ends.truncate(kept + 1);
 }
 
-/// The replacements of the others.
+/// Returns the replacements of the others.
 fn extend(
     table: &[Option<Test>],
     guard: &[Literal],
@@ -109,7 +109,7 @@ fn directed_literal(table: &[Option<Test>], l: Literal) -> Literal
     }
 }
 
-/// The test that field `c` represents.
+/// Returns the test that field `c` represents.
 pub(crate) fn test_in(table: &[Option<Test>], c: u32) -> Option<Test>
     ensures { result ≡ direct_by table.now c }
 {

@@ -16,7 +16,7 @@ use crate::slots::{Slot, block_at, hand_on};
 use lucid_base::{Cells, Event};
 use lucid_tables::Placed;
 
-/// The first slot, which is free, takes an event: its block is loaded.
+/// Loads an event into the block of the first slot, which is free.
 pub(crate) fn enter(
     placed: &Placed,
     cells: &Cells,
@@ -105,7 +105,7 @@ fn pass_on(
     comes_out(slots.len(), k, number)
 }
 
-/// The block of a packet that was in slot `k` of `count`, if it left.
+/// Returns the block of a packet that was in slot `k` of `count`, if it left.
 fn comes_out(count: usize, k: usize, number: usize) -> Option<usize>
     requires { k < count }
     ensures { result ≡ (if nat_lt (k + 1) count then None else Some number) }

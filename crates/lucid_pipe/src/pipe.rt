@@ -46,8 +46,8 @@ impl<'a> Model for Pipe<'a> {
 }
 
 impl<'a> Pipe<'a> {
-    /// A pipe without packets, in which all cells are 0. It takes all the memory that the pipe ever needs: that of the cells, and a block of
-    /// registers for each slot.
+    /// Returns a pipe without packets, in which all cells are 0. It takes all the memory that the pipe ever needs: that of the cells, and a
+    /// block of registers for each slot.
     #[tactic(auto, using(crate::proofs::Moves::starts_pipe, crate::proofs::Moves::starts))]
     pub fn new(alloc: Global, placed: &'a Placed) -> Result<Pipe<'a>, Memory>
         ensures { IfOk result (λ pipe. pipe ≡ empty_pipe placed.now) }
@@ -64,9 +64,9 @@ impl<'a> Pipe<'a> {
         })
     }
 
-    /// An event becomes a packet in slot 0, before stage 0, at the tick `now` and the switch `me`. It has at most as many arguments as the
-    /// code has fields for them, each of which fits its field. Busy exactly where slot 0 is taken: then the pipe is as it was, and the event
-    /// comes back. It takes no memory.
+    /// Makes a packet of an event, in slot 0, before stage 0, at the tick `now` and the switch `me`. The event has at most as many
+    /// arguments as the code has fields for them, and each fits its field. Returns Busy exactly if slot 0 is taken. Then the pipe is
+    /// unchanged, and the event is returned. It takes no memory.
     #[tactic(auto, using(crate::proofs::Moves::pipe_long))]
     pub fn enter(&mut self, event: Event, now: u64, me: u32) -> Result<(), Busy>
         requires { IsInput self.old.placed.code me event }
@@ -93,10 +93,10 @@ impl<'a> Pipe<'a> {
         Ok(())
     }
 
-    /// Executes stage `k` for the packet in slot `k` and moves it to the next slot, or out of the pipe if that was the last stage: then
-    /// it is returned. Returns Empty exactly if there is no slot `k` or no packet in it, and Ahead exactly if there is one and the next
-    /// slot is taken. After both the pipe is unchanged. Allocates nothing and copies no field. It is inlined, since its result is large
-    /// and a caller that matches it in place then pays for no copy.
+    /// Executes stage `k` for the packet in slot `k`, and moves it to the next slot. After the last stage the packet leaves the pipe and is
+    /// returned. Returns Empty exactly if there is no slot `k` or no packet in it, and Ahead exactly if there is one and the next slot is
+    /// taken. After both the pipe is unchanged. Allocates nothing and copies no field. It is inlined, since its result is large and a
+    /// caller that matches it in place then pays for no copy.
     #[inline(always)]
     #[tactic(auto, using(crate::proofs::Moves::pipe_long))]
     pub fn go(&mut self, k: usize) -> Result<Option<Passed>, Stuck>
@@ -122,8 +122,8 @@ impl<'a> Pipe<'a> {
         }
     }
 
-    /// Like `go`, but a leaving packet is put into a place of the caller's, which becomes None if nothing leaves: a caller that passes it
-    /// on by reference then moves it once. After an error the place is unchanged.
+    /// Like `go`, but writes a leaving packet to the caller's variable, which becomes None if nothing leaves. So a caller that passes it on
+    /// by reference moves it once. After an error the variable is unchanged.
     #[tactic(auto, using(crate::proofs::Moves::pipe_long))]
     pub fn go_into(&mut self, k: usize, out: &mut Option<Passed>) -> Result<(), Stuck>
         ensures empty { (result ≡ Err stuck.Empty) ↔ (packet_at self.old k ≡ None) }
@@ -154,8 +154,7 @@ impl<'a> Pipe<'a> {
         }
     }
 
-    /// Like `go` for a slot that isn't the last, so that nothing leaves: a caller that moves many packets needs no space for one that
-    /// left.
+    /// Like `go` for a slot that isn't the last, so nothing leaves. A caller that moves many packets then needs no space for one that left.
     #[tactic(auto, using(crate::proofs::Moves::pipe_long))]
     pub fn go_within(&mut self, k: usize) -> Result<(), Stuck>
         requires { k + 1 < length self.old.slots }
@@ -187,7 +186,7 @@ impl<'a> Pipe<'a> {
         self.cells.get(array, cell)
     }
 
-    /// How many packets are in the pipe.
+    /// Returns how many packets are in the pipe.
     #[tactic(auto, using(crate::proofs::Moves::same_count))]
     pub fn packets(&self) -> usize
         ensures { result ≡ in_flight self.now }
@@ -195,14 +194,14 @@ impl<'a> Pipe<'a> {
         taken_slots(self.slots.as_slice())
     }
 
-    /// Whether a packet is in slot `k`; false where there is no such slot.
+    /// Returns whether a packet is in slot `k`; false if there is no such slot.
     pub fn slot(&self, k: usize) -> bool
         ensures { result ≡ is_some (packet_at self.now k) }
     {
         block_at(self.slots.as_slice(), k).is_some()
     }
 
-    /// How many stages there are, and so slots.
+    /// Returns the number of stages, which is that of the slots.
     pub fn stages(&self) -> usize
         ensures slots { result ≡ length self.now.slots }
         ensures placed { result ≡ length self.now.placed.stages }
@@ -210,14 +209,14 @@ impl<'a> Pipe<'a> {
         self.placed.stages().len()
     }
 
-    /// The cells by array, in memory of their own.
+    /// Returns the cells by array, in memory of their own.
     pub fn rows(&self, alloc: Global) -> Result<Items<Items<u64>>, Memory>
         ensures { IfOk result (λ rows. rows ≡ self.now.cells) }
     {
         self.cells.rows(alloc)
     }
 
-    /// The sight that a watch gets of the pipe of a switch.
+    /// Returns the sight that a watch gets of the pipe of a switch.
     #[tactic(auto, using(crate::proofs::Places::same_places))]
     pub(crate) fn sight(&self, alloc: Global, switch: u32) -> Result<Sight, Memory>
         ensures { IfOk result (λ sight. sight ≡ sight_of switch self.now) }

@@ -76,7 +76,7 @@ fn run_rows(
     }
 }
 
-/// Whether all literals hold. Most patterns that fail do so at their first literal, which is asked without a loop.
+/// Returns whether all literals hold. Most patterns that fail do so at their first literal, which is asked without a loop.
 #[inline(always)]
 fn all_hold(registers: &[u64], pattern: &[Literal]) -> bool
     ensures { result ≡ all_hold registers.now pattern.now }

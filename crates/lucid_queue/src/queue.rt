@@ -33,7 +33,7 @@ impl Model for Queue {
 }
 
 impl Queue {
-    /// Nothing waits. It takes no memory.
+    /// Returns an empty queue. It takes no memory.
     pub fn new(alloc: Global) -> Queue
         ensures { result ≡ [] }
     {
@@ -43,7 +43,7 @@ impl Queue {
         }
     }
 
-    /// How many events wait, with no walk through them.
+    /// Returns how many events wait, without walking through them.
     pub fn len(&self) -> usize
         ensures len { result ≡ length self.now }
         ensures in_order { IsStrictlySortedBy pending_cmp self.now }
@@ -51,7 +51,7 @@ impl Queue {
         self.count
     }
 
-    /// Whether the switch and the key of `p` are those of an event that waits.
+    /// Returns whether the switch and the key of `p` are those of an event that waits.
     pub fn has(&self, p: &Pending) -> bool
         ensures { result ≡ list_any (has_place p.now) self.now }
     {
@@ -69,7 +69,7 @@ impl Queue {
         Ok(())
     }
 
-    /// One more waits, whose switch and key no other has. Where memory fails the queue is as it was, and the event comes back.
+    /// Adds an event whose switch and key no other has. If memory runs out, the queue is unchanged and the event is returned.
     pub fn push(&mut self, p: Pending) -> Result<(), (Pending, Memory)>
         requires { list_any (has_place p) self.old ≡ false }
         ensures waits { OnOk result (self.new ≡ put_in is_before p self.old) }
@@ -82,7 +82,7 @@ impl Queue {
         }
     }
 
-    /// The event of the switch with the least key leaves, of those that are ready at the tick. None exactly where none is.
+    /// Removes and returns the event with the least key of those that are ready at the switch and the tick. None exactly if none is ready.
     pub fn pop_ready(&mut self, switch: u32, tick: u64) -> Option<Pending>
         ensures first { result ≡ find (is_ready switch tick) self.old }
         ensures others { self.new ≡ without_first (is_ready switch tick) self.old }

@@ -33,7 +33,7 @@ impl Model for Switches {
 }
 
 impl Switches {
-    /// Nothing waits. It takes no memory.
+    /// Returns an empty queue. It takes no memory.
     pub(crate) fn new(alloc: Global) -> Switches
         ensures { result ≡ [] }
     {
@@ -43,7 +43,7 @@ impl Switches {
         }
     }
 
-    /// Whether the switch and the key of `p` are those of an event that waits.
+    /// Returns whether the switch and the key of `p` are those of an event that waits.
     pub(crate) fn has(&self, p: &Pending) -> bool
         ensures { result ≡ list_any (has_place p.now) self.now }
     {
@@ -53,7 +53,7 @@ impl Switches {
         }
     }
 
-    /// One more waits, whose switch and key no other has.
+    /// Adds an event whose switch and key no other has.
     pub(crate) fn push(&mut self, p: &Pending) -> Result<(), Memory>
         requires { list_any (has_place p.now) self.old ≡ false }
         ensures waits { OnOk result (self.new ≡ put_in is_before p.now self.old) }
@@ -65,7 +65,7 @@ impl Switches {
         self.turns[switch].push(self.alloc, p.key, p.event)
     }
 
-    /// The first event of the switch leaves, if it is ready at the tick.
+    /// Removes and returns the first event of the switch, if it is ready at the tick.
     pub(crate) fn pop_ready(&mut self, switch: u32, tick: u64) -> Option<Pending>
         ensures first { result ≡ find (is_ready switch tick) self.old }
         ensures others { self.new ≡ without_first (is_ready switch tick) self.old }
@@ -75,7 +75,7 @@ impl Switches {
     }
 }
 
-/// Each switch up to this one has its turns.
+/// Makes empty maps for all switches up to this one.
 fn reach(turns: &mut Vec<Turns>, alloc: Global, switch: usize) -> Result<(), Memory>
     ensures reached { OnOk result (switch < length turns.new.items) }
     ensures unchanged { all_from 0 turns.new.items ≡ all_from 0 turns.old.items }

@@ -30,7 +30,7 @@ impl Model for Turns {
 }
 
 impl Turns {
-    /// Nothing waits. It takes no memory.
+    /// Returns an empty map. It takes no memory.
     pub(crate) fn new(alloc: Global) -> Turns
         ensures { result ≡ [] }
     {
@@ -39,14 +39,14 @@ impl Turns {
         }
     }
 
-    /// Whether an event with this key waits.
+    /// Returns whether an event with this key waits.
     pub(crate) fn has(&self, key: &PendKey) -> bool
         ensures { result ≡ list_any (has_key key.now) self.now }
     {
         self.events.contains_key(key)
     }
 
-    /// One more waits, whose key no other has.
+    /// Adds an event whose key no other has.
     pub(crate) fn push(&mut self, alloc: Global, key: PendKey, event: Event) -> Result<(), Memory>
         requires { list_any (has_key key) self.old ≡ false }
         ensures waits { OnOk result (self.new ≡ insert_entry key_cmp self.old key event) }
@@ -58,7 +58,7 @@ impl Turns {
         Ok(())
     }
 
-    /// The first event leaves, if it is ready at the tick: it waited at this switch.
+    /// Removes and returns the first event, if it is ready at the tick. It waited at this switch.
     pub(crate) fn pop_ready(&mut self, switch: u32, tick: u64) -> Option<Pending>
         ensures first { result ≡ option_map (pending_at switch) (front tick self.old) }
         ensures others { self.new ≡ behind_front tick self.old }

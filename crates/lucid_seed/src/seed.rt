@@ -12,7 +12,7 @@ pub struct Seed {
 }
 
 impl Seed {
-    /// Before the first part.
+    /// Returns a seed before its first part.
     pub fn new() -> Seed
         ensures { result.parts ≡ initial }
     {
@@ -21,7 +21,7 @@ impl Seed {
         }
     }
 
-    /// Takes in one part more, and where it ends.
+    /// Absorbs one more part, and its end.
     pub fn add(&mut self, bytes: &[u8])
         ensures { self.new.parts ≡ with_part self.old.parts bytes.now }
     {
@@ -47,7 +47,7 @@ pub struct Seeded {
 }
 
 impl Seeded {
-    /// Seeded by this text.
+    /// Returns hashers that are seeded by this text.
     pub fn by(text: &[u8]) -> Seeded
         ensures { result.start ≡ started (with_part initial text.now) }
     {

@@ -52,7 +52,7 @@ pub fn expand(alloc: Global, text: &[u8], tokens: &[Token]) -> Result<Vec<u8>, S
     written_out(alloc, text, tokens)
 }
 
-/// The expanded text, or one reason why there is none. That no other answer is right follows from these clauses alone.
+/// Returns the expanded text, or one reason why there is none. That no other answer is right follows from these clauses alone.
 fn written_out(alloc: Global, text: &[u8], tokens: &[Token]) -> Result<Vec<u8>, SizeError>
     requires { Reads text.now tokens.now }
     ensures ok { IfOk result (λ out. ExpandsTo text.now tokens.now out.items) }

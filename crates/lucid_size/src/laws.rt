@@ -9,7 +9,7 @@ ghost use Rattle.lucid_size.specs.declared.template.Template.{Template};
 
 use lucid_lex::Token;
 
-/// The text of an expansion is read as the tokens of its pieces. A text has one expansion at most, and it has one where its templates are
+/// The text of an expansion is read as the tokens of its pieces. A text has one expansion at most, and it has one if its templates are
 /// whole and differ in name.
 pub fn expansions_are_read(text: &[u8], tokens: &[Token])
     requires { Reads text.now tokens.now }

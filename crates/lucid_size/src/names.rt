@@ -37,7 +37,7 @@ impl Model for Names {
 }
 
 impl Names {
-    /// No names.
+    /// Returns an empty list of names.
     pub(crate) fn new(alloc: Global, seeded: Seeded) -> Names
         ensures { result ≡ [] }
     {
@@ -47,7 +47,7 @@ impl Names {
         }
     }
 
-    /// The number of the template with this name, from 0.
+    /// Returns the number of the template with this name, from 0.
     pub(crate) fn place_of(&self, name: &Id) -> Option<usize>
         ensures { result ≡ position (bytes_eq name.now) self.now }
     {
@@ -73,7 +73,7 @@ impl Names {
     }
 }
 
-/// The names of the templates, in their order; or the first that an earlier template has.
+/// Returns the names of the templates, in their order; or the first that an earlier template has.
 pub(crate) fn names_of(
     alloc: Global,
     text: &[u8],

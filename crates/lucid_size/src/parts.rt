@@ -64,7 +64,7 @@ pub(crate) fn parts_of(
     Ok(Parts { outside, bodies })
 }
 
-/// The steps of a template's tokens after its first `>>`.
+/// Returns the steps of a template's tokens after its first `>>`.
 fn body_steps(
     alloc: Global,
     text: &[u8],

@@ -5,7 +5,7 @@ ghost use Rattle.lucid_size.specs.Bytes.{form_len, steps_len};
 use crate::step::{Form, Step};
 use itoa::Buffer;
 
-/// The bytes that remain free after these steps, if they fit.
+/// Returns the bytes that remain free after these steps, if they fit.
 pub(crate) fn room_behind(
     underscores: usize,
     width: u64,
@@ -23,7 +23,7 @@ pub(crate) fn room_behind(
     Some(room)
 }
 
-/// The bytes that remain free after the form of a token.
+/// Returns the bytes that remain free after the form of a token.
 fn room_behind_form(underscores: usize, width: u64, form: Form, room: usize) -> Option<usize>
     ensures { SomeIff result (form_len underscores width form ≤ room) (room - form_len underscores width form) }
 {
@@ -39,7 +39,7 @@ fn room_behind_form(underscores: usize, width: u64, form: Form, room: usize) -> 
     }
 }
 
-/// How many digits the number has in decimal.
+/// Returns how many digits the number has in decimal.
 fn decimal_len(n: u64) -> usize
     ensures len { result ≡ length (decimal n) }
     ensures small { result ≤ 40 }

@@ -51,7 +51,7 @@ pub(crate) fn end_before(tokens: &[Token], at: usize) -> usize
     if at == 0 { 0 } else { tokens[at - 1].span.end }
 }
 
-/// How many tokens behind the first go with it.
+/// Returns how many tokens behind the first go with it.
 fn more_of(form: Form) -> usize
     ensures { result ≡ spec.more_of form }
 {
@@ -168,7 +168,7 @@ fn width_at(text: &[u8], width: Option<&[u8]>, tokens: &[Token]) -> bool
     }
 }
 
-/// Whether the token is the name of the width.
+/// Returns whether the token is the name of the width.
 fn is_width(text: &[u8], width: Option<&[u8]>, token: Token) -> bool
     requires { IsTokenOf text.now token }
     ensures { result ≡ spec.is_width text.now (option_map (λ w. w.now) width.entry) token }

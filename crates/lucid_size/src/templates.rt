@@ -13,7 +13,7 @@ use crate::template::Template;
 use lucid_lex::{Kind, Token};
 use std::alloc::Global;
 
-/// The templates of a text, in order; or the first that is broken.
+/// Returns the templates of a text, in order; or the first that is broken.
 pub(crate) fn templates(alloc: Global, tokens: &[Token]) -> Result<Vec<Template>, SizeError>
     ensures ok { IfOk result (λ xs. spec.templates tokens.now ≡ Ok xs.items) }
     ensures err { IfErr result (λ e. kept.Tells (spec.templates tokens.now) e) }
@@ -29,7 +29,7 @@ pub(crate) fn templates(alloc: Global, tokens: &[Token]) -> Result<Vec<Template>
     Ok(cutting.found)
 }
 
-/// Whether a template begins in the text. Where none does the text is its own expansion, as `plain_text_stays` says.
+/// Returns whether a template begins in the text. Where none does the text is its own expansion, as `plain_text_stays` says.
 pub fn has_template(tokens: &[Token]) -> bool
     ensures none { result ≡ false → spec.templates tokens.now ≡ Ok [] }
     ensures some { result ≡ true → spec.templates tokens.now ≢ Ok [] }
@@ -105,7 +105,7 @@ fn begins_template(tokens: &[Token]) -> bool
     }
 }
 
-/// The template that begins at a token, if it is whole.
+/// Returns the template that begins at a token, if it is whole.
 #[tactic(auto, using(crate::proofs::Scans::template_at_is))]
 fn template_at(tokens: &[Token], first: usize) -> Option<Template>
     requires { first + 4 ≤ length tokens.now }
@@ -117,7 +117,7 @@ fn template_at(tokens: &[Token], first: usize) -> Option<Template>
     Some(Template { first, name, end })
 }
 
-/// The first name that `(` follows, from a token on, before any `{`.
+/// Returns the first name that `(` follows, from a token on, before any `{`.
 fn name_from(tokens: &[Token], from: usize) -> Option<usize>
     requires { from ≤ length tokens.now }
     ensures { result ≡ spec.name_from from (drop from tokens.now) }
@@ -133,14 +133,14 @@ fn name_from(tokens: &[Token], from: usize) -> Option<usize>
     None
 }
 
-/// A name and `(`.
+/// Returns a name and `(`.
 fn begins_call(name: Kind, paren: Kind) -> bool
     ensures { result ≡ (kinds.is_name name && kinds.opens_paren paren) }
 {
     is_name(name) && opens_paren(paren)
 }
 
-/// The token behind the `}` that closes the first `{`, from a token on.
+/// Returns the token behind the `}` that closes the first `{`, from a token on.
 fn end_from(tokens: &[Token], from: usize) -> Option<usize>
     requires { from ≤ length tokens.now }
     ensures end { result ≡ spec.end_from from 0 (drop from tokens.now) }

@@ -6,7 +6,7 @@ ghost use Rattle.lucid_size.specs.Suffix as suffix;
 use crate::kinds::is_name;
 use lucid_lex::{Token, text_of};
 
-/// The least number from 1 of underscores that no name has in a row.
+/// Returns the least number from 1 of underscores that no name has in a row.
 pub(crate) fn underscores_in(text: &[u8], tokens: &[Token]) -> usize
     requires { All (IsTokenOf text.now) tokens.now }
     ensures { result ≡ suffix.underscores text.now tokens.now }
@@ -18,7 +18,7 @@ pub(crate) fn underscores_in(text: &[u8], tokens: &[Token]) -> usize
     most + 1
 }
 
-/// The longest run of underscores in a name; 0 for another token.
+/// Returns the longest run of underscores in a name; 0 for another token.
 fn run_of(text: &[u8], token: Token) -> usize
     requires { IsTokenOf text.now token }
     ensures run { result ≡ suffix.run_of text.now token }
@@ -31,7 +31,7 @@ fn run_of(text: &[u8], token: Token) -> usize
     }
 }
 
-/// The longest run of underscores.
+/// Returns the longest run of underscores.
 fn longest_run(bytes: &[u8]) -> usize
     ensures run { result ≡ suffix.longest_run 0 0 bytes.now }
     ensures within { result ≤ length bytes.now }
@@ -45,7 +45,7 @@ fn longest_run(bytes: &[u8]) -> usize
     most
 }
 
-/// The run of underscores at the end, with one more byte.
+/// Returns the run of underscores at the end, with one more byte.
 fn run_with(run: usize, byte: u8) -> usize
     requires { run < 2 ^ 64 - 1 }
     ensures { result ≡ suffix.run_with run byte }

@@ -23,7 +23,7 @@ struct Used {
 }
 
 impl Used {
-    /// No instances.
+    /// Returns an empty set of instances.
     fn new(alloc: Global, seeded: Seeded) -> Used
         ensures none { result.found.items ≡ [] }
         ensures sees { Sees result.found.items result.seen }
@@ -79,8 +79,8 @@ impl Used {
     }
 }
 
-/// The least set of instances that has the uses outside all templates and those in each of its own instances, each of them once; or
-/// TooBig, where more is written of them than the room.
+/// Returns the least set of instances that has the uses outside all templates and those in each of its own instances, each of them once; or
+/// TooBig if more is written of them than the room.
 pub(crate) fn find_used(
     alloc: Global,
     seeded: Seeded,
@@ -115,7 +115,7 @@ pub(crate) fn find_used(
     Ok(used.found)
 }
 
-/// The room that is left behind an instance.
+/// Returns the room that is left behind an instance.
 fn instance_room(underscores: usize, width: u64, body: &[Step], room: usize) -> Option<usize>
     requires { All (λ s. s.from ≤ s.token.span.end) body.now }
     ensures { SomeIff result (4 + steps_len underscores width body.now ≤ room) (room - (4 + steps_len underscores width body.now)) }

@@ -101,7 +101,7 @@ fn put_decimal(out: &mut Vec<u8>, n: u64) -> Result<(), Memory>
     Ok(())
 }
 
-/// The instances of a template, joined by one line feed; where there is none, a line feed.
+/// The instances of a template, joined by one line feed; if there is none, a line feed.
 pub(crate) fn write_instances(
     out: &mut Vec<u8>,
     text: &[u8],

@@ -10,7 +10,7 @@ use lucid_pipe::Pipe;
 use lucid_tables::StageCode;
 use std::alloc::Global;
 
-/// The arrays of each stage.
+/// Returns the arrays of each stage.
 #[tactic(auto, using(crate::proofs::Copying::arrays_next))]
 pub(crate) fn arrays_of(alloc: Global, stages: &[StageCode]) -> Result<Vec<Items<u32>>, Memory>
     ensures { IfOk result (λ arrays. arrays.items ≡ arrays_of stages.now) }
@@ -33,7 +33,7 @@ pub(crate) fn copied(alloc: Global, rows: &[Items<u64>]) -> Result<Vec<Items<u64
     Ok(copy)
 }
 
-/// How many slots are free before the first packet.
+/// Returns how many slots are free before the first packet.
 #[tactic(auto, using(crate::proofs::Copying::free_start, crate::proofs::Copying::free_next, crate::proofs::Copying::free_found, crate::proofs::Copying::free_end))]
 pub(crate) fn free_first(pipe: &Pipe) -> usize
     ensures { result ≡ free_first pipe.now.slots }

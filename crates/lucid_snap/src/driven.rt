@@ -26,9 +26,9 @@ use lucid_pipe::{NoWatch, Pipe};
 use lucid_tables::Placed;
 use std::alloc::Global;
 
-/// Drives a pipe as `drive` does, begins a snapshot after the first `after` steps, or after all where there are fewer, and writes the drive
+/// Drives a pipe as `drive` does, begins a snapshot after the first `after` steps, or after all if there are fewer, and writes the drive
 /// log and then the snapshot (`snap_log`): how many events had entered, and the cells that aren't 0 after these. A proper prefix is written
-/// where a write failed, and a prefix where memory for the snapshot was refused; the rest takes none.
+/// if a write failed, and a prefix if memory for the snapshot was refused; the rest takes none.
 pub fn snap<S: Sink>(
     alloc: Global,
     pipe: &mut Pipe,
@@ -102,7 +102,7 @@ fn follow<S: Sink>(
     drive_end(pipe, core, scene, state, sink)
 }
 
-/// The steps that are left.
+/// Returns the steps that are left.
 fn follow_steps<S: Sink>(
     pipe: &mut Pipe,
     core: &Core,
@@ -154,7 +154,7 @@ fn follow_step<S: Sink>(
     }
 }
 
-/// The packets in flight.
+/// Returns the packets in flight.
 fn follow_rest<S: Sink>(
     pipe: &mut Pipe,
     core: &Core,

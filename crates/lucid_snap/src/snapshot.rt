@@ -74,7 +74,7 @@ impl Snap {
         }
     }
 
-    /// Whether all stages are copied.
+    /// Returns whether all stages are copied.
     pub fn whole(&self) -> bool
         ensures { result ≡ nat_eq self.now.old 0 }
     {
@@ -92,7 +92,7 @@ impl Snap {
     }
 }
 
-/// Stage `k` is copied where it is the first that isn't, and the snapshot waits for one less where a packet left.
+/// Stage `k` is copied if it is the first that isn't, and the snapshot waits for one less if a packet left.
 fn pass(
     copies: &mut Vec<Items<u64>>,
     stages: &Vec<Items<u32>>,
@@ -109,7 +109,7 @@ fn pass(
     wait_less(waits, stages.len(), k);
 }
 
-/// Stage `k` is copied where it is the first that isn't.
+/// Stage `k` is copied if it is the first that isn't.
 fn copy_next(
     copies: &mut Vec<Items<u64>>,
     stages: &Vec<Items<u32>>,

@@ -20,7 +20,7 @@ pub(crate) struct Numbering<'a> {
     pub(crate) ghost count_is: { count ≡ length (registers_of code.now) },
 }
 
-/// The register of a field, or how many there are where it has none.
+/// Returns the register of a field, or how many there are if it has none.
 #[tactic(auto, using(crate::proofs::Places::register_is))]
 fn place(numbering: Numbering, field: u32) -> u32
     ensures { result ≡ place_of numbering.entry.code.now field }

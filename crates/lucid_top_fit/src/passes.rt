@@ -55,7 +55,7 @@ pub fn composed(
     })
 }
 
-// The flat form of the program, where its counts keep their bounds.
+// The flat form of the program, if its counts keep their bounds.
 fn flat(alloc: Global, core: &Core) -> Result<Flat, Refusal>
     requires { IsAccepted core.now }
     ensures flat { IfOk result (λ flat. flat ≡ flat_of core.now) }

@@ -20,7 +20,7 @@ use lucid_tables::Placed;
 use lucid_top_words::Refusal;
 use std::alloc::Global;
 
-/// Whether the counts of a program's code keep their limits (`IsCounted` of specs/Placing); `NoFit` with the first that doesn't.
+/// Returns whether the counts of a program's code keep their limits (`IsCounted` of specs/Placing); `NoFit` with the first that doesn't.
 pub fn counted(alloc: Global, core: &Core, limits: &Limits, code: &Code) -> Result<(), Refusal>
     ensures counted { Prepares (IsCounted core.now limits.now code.now) (λ _. code.now) result }
     ensures counts { OnOk result (CountsFit code.now limits.now) }
@@ -35,7 +35,7 @@ pub fn counted(alloc: Global, core: &Core, limits: &Limits, code: &Code) -> Resu
     }
 }
 
-/// The places that a placement file gives for the nodes of the code (`IsPlan` of specs/Placing); `Placement` with the first fault
+/// Returns the places that a placement file gives for the nodes of the code (`IsPlan` of specs/Placing); `Placement` with the first fault
 /// of the file.
 pub fn plan(alloc: Global, text: &[u8], code: &Code) -> Result<Plan, Refusal>
     ensures plan { Prepares (IsPlan text.now (length (nodes_of code.now.ops))) (λ plan. plan) result }

@@ -37,7 +37,7 @@ pub fn fits_run_whole(core: &Core)
     events_have_32_bits(core.handlers());
 }
 
-/// A law: so it is with places that a file gives, where the audit accepts them.
+/// A law: the same holds for the places of a file that the audit accepts.
 pub fn audits_run_whole(core: &Core)
     ensures { IsAccepted core.now → AuditsRunWhole core.now }
 {
@@ -81,7 +81,7 @@ pub fn moves_run_whole(placed: &Placed)
     moves_are_passes(placed);
 }
 
-/// A law: words, the contents of files and passes have at most one answer, which only the cycle may vary that status 6 names.
+/// A law: words, the contents of files and passes have at most one answer, up to the cycle that status 6 names.
 pub fn answers_are_one()
     ensures { AnswersAreOne }
 {

@@ -1,4 +1,4 @@
-// The program, where its functions and handlers touch arrays in order; else the names of a cycle, as the declaration has them.
+// The program, if its functions and handlers touch arrays in order; else the names of a cycle, as the declaration has them.
 ghost use Rattle.std.specs.Prelude.{◌≡◌, ◌<◌, [], IfOk, map, nat_eq, option_map};
 ghost use Rattle.std.specs.List.{find};
 ghost use Rattle.std.specs.Option.{unwrap_or};
@@ -14,7 +14,7 @@ use lucid_top_words::Refusal;
 use std::alloc::Global;
 use std::sync::ledger::{Blank, Ledger};
 
-/// The program, where its functions and handlers touch arrays in order.
+/// Returns the program, if its functions and handlers touch arrays in order.
 pub(crate) fn in_order<L: Ledger>(
     alloc: Global,
     tree: &Tree,

@@ -19,7 +19,8 @@ use lucid_types::elaborate;
 use std::alloc::Global;
 use std::marker::Brand;
 
-/// The program of this text, expanded first, or the reason why it has none (`IsProgram`). Its functions and handlers touch arrays in order.
+/// Returns the program of this text, expanded first, or the reason why it has none (`IsProgram`). Its functions and handlers touch arrays
+/// in order.
 pub fn accepted(alloc: Global, text: &[u8]) -> Result<Core, Refusal>
     ensures program { Prepares (IsProgram text.now) (λ core. core) result }
     ensures accepted { IfOk result IsAccepted }

@@ -10,7 +10,7 @@ use lucid_core::Core;
 use lucid_top_words::Refusal;
 use std::alloc::Global;
 
-/// The limits that the text writes, or the reason why it writes none.
+/// Returns the limits that the text writes, or the reason why it writes none.
 pub fn limits(alloc: Global, text: &[u8]) -> Result<Limits, Refusal>
     ensures limits { Prepares (IsLimits text.now) (λ limits. limits) result }
     ensures keeps { IfOk result AreLimits }
@@ -21,7 +21,7 @@ pub fn limits(alloc: Global, text: &[u8]) -> Result<Limits, Refusal>
     }
 }
 
-/// The scenario that the text writes for this program, or the reason why it writes none.
+/// Returns the scenario that the text writes for this program, or the reason why it writes none.
 pub fn scenario(alloc: Global, text: &[u8], core: &Core) -> Result<Scene, Refusal>
     ensures scene { Prepares (IsScenario core.now text.now) (λ scene. scene) result }
     ensures keeps { IfOk result (IsScene core.now) }

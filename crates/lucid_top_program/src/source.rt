@@ -26,8 +26,8 @@ pub enum Source {
 }
 
 impl Source {
-    /// The source of a program's text, or the reason why it has none (`IsSource`): it has no tokens, or its functions over a width can't be
-    /// expanded. A text without such functions isn't copied.
+    /// Returns the source of a program's text, or the reason why it has none (`IsSource`): it has no tokens, or its functions over a width
+    /// can't be expanded. A text without such functions isn't copied.
     pub fn read(alloc: Global, text: &[u8]) -> Result<Source, Refusal>
         ensures source { Prepares (IsSource text.now) (text_of text.now) result }
         ensures is { IfOk result (IsSourceOf text.now) }
@@ -36,7 +36,7 @@ impl Source {
         expanded(alloc, text, tokens)
     }
 
-    /// The text of the source, where `text` is the one that it was made of.
+    /// Returns the text of the source, where `text` is the one that it was made of.
     pub fn text<'a>(&'a self, text: &'a [u8]) -> &'a [u8]
         ensures { result.now ≡ text_of text.now self.now }
     {
@@ -87,7 +87,7 @@ fn expanded_whole(alloc: Global, text: &[u8], tokens: &[Token]) -> Result<Source
     }
 }
 
-/// The tokens of the text.
+/// Returns the tokens of the text.
 pub(crate) fn tokens_of(alloc: Global, text: &[u8]) -> Result<Vec<Token>, Refusal>
     ensures tokens { Prepares (AreTokens text.now) (λ tokens. tokens.items) result }
     ensures read { IfOk result (λ tokens. Reads text.now tokens.items) }

@@ -14,7 +14,7 @@ pub enum Command {
     Check,
     /// `once P NAME ARG..`
     Once {
-        /// The numbers that ARG.. write; None where there are more than any event has.
+        /// The numbers that ARG.. write; None if there are more than any event has.
         arguments: Option<Args>,
     },
     /// `expand P`
@@ -173,7 +173,7 @@ const AUDIT_FILES: [NamedFile; 3] = [
 ];
 
 impl Command {
-    /// The command of the words; None if they are none of the forms. Each word that names a file exists.
+    /// Returns the command of the words; None if they are none of the forms. Each word that names a file exists.
     pub fn read(words: &[String]) -> Option<Command>
         ensures command { result ≡ command_of (map string_bytes words.now) }
         ensures there { IfSome result (λ c. All (λ file. file.word < length words.now) (files_of c)) }
@@ -197,7 +197,7 @@ impl Command {
         }
     }
 
-    /// The words that name files, in word order.
+    /// Returns the words that name files, in word order.
     pub fn files(&self) -> &'static [NamedFile]
         ensures files { result.now ≡ files_of self.now }
         ensures small { All (λ file. file.limit < 2 ^ 32) result.now }

@@ -5,7 +5,7 @@ ghost use Rattle.lucid_top_words.specs.Words.{number_of, numbers_of, arguments_o
 use itoa::Buffer;
 use lucid_base::Args;
 
-/// The arguments that the words write, all of which are numbers; within, None where there are more than any event has.
+/// Returns the arguments that the words write, all of which are numbers; within, None if there are more than any event has.
 pub fn arguments(words: &[String]) -> Option<Option<Args>>
     ensures { result ≡ option_map arguments_of (numbers_of (map string_bytes words.now)) }
 {
@@ -28,7 +28,7 @@ fn with_argument(args: Option<Args>, n: u64) -> Option<Args>
     Some(args)
 }
 
-/// The number below `2^64` that a word writes in decimal digits without a leading zero.
+/// Returns the number below `2^64` that a word writes in decimal digits without a leading zero.
 pub(crate) fn number(word: &str) -> Option<u64>
     ensures { result ≡ number_of word.now }
 {
@@ -45,7 +45,7 @@ pub(crate) fn number(word: &str) -> Option<u64>
     }
 }
 
-/// The number from 1 to 10,000 that a word writes.
+/// Returns the number from 1 to 10,000 that a word writes.
 pub(crate) fn count(word: &str) -> Option<u32>
     ensures count { result ≡ count_of word.now }
     ensures some { IfSome result (λ n. 0 < n) }

@@ -119,7 +119,7 @@ impl Refusal {
         }
     }
 
-    /// The status of a call that ends by it (`status_of`).
+    /// Returns the status of a call that ends by it (`status_of`).
     pub fn status(&self) -> Status
         ensures { result ≡ status_of self.now }
     {

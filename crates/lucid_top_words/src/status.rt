@@ -36,7 +36,7 @@ pub enum Status {
 }
 
 impl Status {
-    /// The process's exit code (`code_of`).
+    /// Returns the process's exit code (`code_of`).
     pub fn code(self) -> u8
         ensures { result ≡ code_of self }
     {

@@ -12,8 +12,8 @@ use lucid_types_laws::declarations_are_computed;
 use lucid_types_limits::{Limits, only_the_new_counts};
 use lucid_types_spec::What;
 
-/// The limit that the newest declaration exceeds, if any. If none, returns `Memory` when its blocks nest deeper than `MOST`. Checking
-/// limits does not recurse.
+/// Returns the limit that the newest declaration exceeds, if any. If none, returns `Memory` when its blocks nest deeper than `MOST`.
+/// Checking limits does not recurse.
 pub fn passed(limits: &mut Limits, known: &Known, x: &DeclKind) -> Result<Option<What>, Memory>
     ensures { Judges result x.now (made_of known.now) limits.old limits.new }
 {
@@ -24,7 +24,7 @@ pub fn passed(limits: &mut Limits, known: &Known, x: &DeclKind) -> Result<Option
     Ok(passed)
 }
 
-/// The limit alone, for any depth of its blocks.
+/// Returns the limit alone, for any depth of its blocks.
 fn newest_passes(limits: &mut Limits, known: &Known, x: &DeclKind) -> Result<Option<What>, Memory>
     ensures { Judges result x.now (made_of known.now) limits.old limits.new }
 {

@@ -7,7 +7,7 @@ ghost use Rattle.lucid_types_declarations.specs.Known.{made_of};
 use lucid_core::Core;
 use lucid_types_declarations::Known;
 
-/// The core of the known declarations.
+/// Returns the core of the known declarations.
 pub fn core_of(known: Known) -> Core
     requires { IsValid (parts_of (made_of known)) }
     ensures { result ≡ parts_of (made_of known) }

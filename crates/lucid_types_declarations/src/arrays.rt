@@ -12,7 +12,7 @@ use lucid_types_scope::{Scope, number};
 use lucid_types_spec::Entry;
 use std::alloc::Global;
 
-/// NoRule where the width is none, or the size is none: 1 to 65,536, or a constant's number.
+/// NoRule if the width is none, or the size is none: 1 to 65,536, or a constant's number.
 pub fn global(
     alloc: Global,
     known: &mut Known,

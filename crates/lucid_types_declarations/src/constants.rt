@@ -12,7 +12,7 @@ use lucid_types_spec::{Entry, ValueType};
 use lucid_types_statements::type_of;
 use std::alloc::Global;
 
-/// NoRule where the type is no int, or the number doesn't fit it.
+/// NoRule if the type is no int, or the number doesn't fit it.
 pub fn constant(alloc: Global, known: &mut Known, t: Ty, n: &Id, value: u64) -> Result<(), Fault>
     ensures { Declares result known.new (constant t n.now value (made_of known.old)) }
 {

@@ -22,7 +22,7 @@ use lucid_types_statements::block;
 use std::alloc::Global;
 use std::mem;
 
-/// NoRule where a parameter is no int.
+/// NoRule if a parameter is no int.
 pub fn event(alloc: Global, known: &mut Known, n: &Id, ps: &[P]) -> Result<(), Fault>
     ensures { Declares result known.new (event n.now ps.now (made_of known.old)) }
 {
@@ -50,7 +50,7 @@ fn event_params(alloc: Global, scope: &mut Scope, ps: &[P]) -> Result<Items<Widt
     Ok(widths)
 }
 
-/// NoRule where no event of the name is seen, it has a handler, or the parameters have other widths than its own.
+/// NoRule if no event of the name is seen, it has a handler, or the parameters have other widths than its own.
 #[tactic(auto, using(crate::proofs::Handling::handle_is, std::proofs::lemmas::Grind::common_steps))]
 pub fn handle(
     alloc: Global,
@@ -106,7 +106,7 @@ fn handle_event(
     }
 }
 
-/// The body of a handler with these parameters, whose locals are numbered behind it. NoRule where the parameters have other widths.
+/// The body of a handler with these parameters, whose locals are numbered behind it. NoRule if the parameters have other widths.
 fn handler_body(
     alloc: Global,
     known: &mut Known,

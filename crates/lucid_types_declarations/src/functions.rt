@@ -19,7 +19,7 @@ use lucid_types_statements::{block, type_of, width_of};
 use std::alloc::Global;
 use std::mem;
 
-/// NoRule where a type is none, the body has none, or it gives a value and doesn't always return.
+/// NoRule if a type is none, the body has none, or it gives a value and doesn't always return.
 pub fn fun(
     alloc: Global,
     known: &mut Known,

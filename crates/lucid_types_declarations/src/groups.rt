@@ -13,7 +13,7 @@ use lucid_types_scope::are_distinct;
 use lucid_types_spec::Entry;
 use std::alloc::Global;
 
-/// NoRule where there are more than 8 members or none, one twice, or one above 63.
+/// NoRule if there are more than 8 members or none, one twice, or one above 63.
 pub fn group(alloc: Global, known: &mut Known, n: &Id, members: &[u64]) -> Result<(), Fault>
     ensures { Declares result known.new (group n.now members.now (made_of known.old)) }
 {

@@ -24,7 +24,7 @@ pub struct Known {
 }
 
 impl Known {
-    /// Before the first declaration of a program whose text is the seed.
+    /// Returns the state before the first declaration of a program whose text is the seed.
     pub fn new(alloc: Global, seeded: Seeded) -> Known
         ensures { made_of result ≡ start }
     {

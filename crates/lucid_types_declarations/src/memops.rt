@@ -20,7 +20,7 @@ use lucid_types_scope::Scope;
 use lucid_types_spec::{Entry, ValueType};
 use std::alloc::Global;
 
-/// NoRule where its parameters are no ints of one width, or its body doesn't have the shape of a memop.
+/// NoRule if its parameters are no ints of one width, or its body doesn't have the shape of a memop.
 pub fn memop(
     alloc: Global,
     known: &mut Known,

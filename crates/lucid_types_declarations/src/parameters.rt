@@ -17,7 +17,7 @@ use lucid_types_spec::{Entry, Param, ValueType};
 use lucid_types_statements::{type_of, width_of};
 use std::alloc::Global;
 
-/// The kinds of the parameters, whose names are added to the scope. NoRule where a width is none.
+/// The kinds of the parameters, whose names are added to the scope. NoRule if a width is none.
 #[tactic(auto, using(crate::proofs::Entering::entering, std::proofs::lemmas::Grind::common_steps))]
 pub fn parameters(alloc: Global, scope: &mut Scope, ps: &[P]) -> Result<Items<Param>, Fault>
     ensures gives { Enters result scope.new (parameters 0 0 scope.old ps.now) }
@@ -93,7 +93,7 @@ fn enter_local(
     enter(alloc, scope, n, Entry::Local(number, *t))
 }
 
-/// The widths of parameters that are all ints. NoRule where one is none.
+/// The widths of parameters that are all ints. NoRule if one is none.
 pub fn int_params(alloc: Global, params: &[Param]) -> Result<Items<Width>, Fault>
     ensures { Gives result (int_params params.now) }
 {

@@ -12,7 +12,7 @@ use lucid_core::{Expr, Touch};
 use lucid_parse_tree::E;
 use lucid_types_scope::Scope;
 
-/// The array of cells of this width whose bare name the expression is. NoRule where it is no such name.
+/// The array of cells of this width whose bare name the expression is. NoRule if it is no such name.
 pub fn named_array(scope: &Scope, width: Width, x: &E) -> Result<ArrayName, Fault>
     ensures { Gives result (named_array width (reading x.now).bare scope.now) }
 {
@@ -41,7 +41,7 @@ pub fn returning(width: Width, x: MemArg) -> MemAlu
     }
 }
 
-/// The argument where none is written.
+/// The argument if none is written.
 pub fn zero(width: Width) -> Expr
     ensures { result ≡ zero_of width }
 {

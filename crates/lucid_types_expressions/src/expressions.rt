@@ -18,7 +18,7 @@ use lucid_types_scope::Scope;
 use lucid_types_spec::{Entry, Param, ValueType};
 use std::alloc::Global;
 
-/// The core of the expression at a place that asks for this type. NoRule where it has none.
+/// The core of the expression at a place that asks for this type. NoRule if it has none.
 #[cycle(expression)]
 pub fn expression(alloc: Global, scope: &Scope, t: ValueType, x: &E) -> Result<Expr, Fault>
     ensures { Gives result (core_of x.now scope.now t) }
@@ -192,7 +192,7 @@ pub fn all_free(alloc: Global, scope: &Scope, xs: &[E]) -> Result<Items<Expr>, F
     Ok(cs)
 }
 
-/// A call of an array, and the width of its value where it gives one.
+/// A call of an array, and the width of its value if it gives one.
 #[cycle(expression)]
 pub fn touch(alloc: Global, scope: &Scope, x: &A) -> Result<(Option<Width>, Touch), Fault>
     ensures { Gives result (touch_of x.now scope.now) }
@@ -311,7 +311,7 @@ fn update(
     Ok((Some(w), touching(a, j, get, c, set, d, true)))
 }
 
-/// A call of a function, and the type of its value where it gives one.
+/// A call of a function, and the type of its value if it gives one.
 #[cycle(expression)]
 pub fn call(
     alloc: Global,

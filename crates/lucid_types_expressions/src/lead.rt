@@ -75,7 +75,7 @@ pub fn shared_width(scope: &Scope, x: &E, y: &E) -> u64
     }
 }
 
-/// The name, where the expression is a bare one.
+/// The name if the expression is a bare one.
 pub fn bare(x: &E) -> Option<&Id>
     ensures { option_copied result ≡ (reading x.now).bare }
 {

@@ -19,7 +19,7 @@ fn int_width(t: ValueType) -> Option<u64>
     }
 }
 
-/// The width of the value that the name gives, where it is an int.
+/// The width of the value that the name gives if it is an int.
 pub fn named_width(scope: &Scope, name: &Id) -> Option<u64>
     ensures { result ≡ named_lead name.now scope.now }
 {
@@ -41,7 +41,7 @@ pub fn array_width(scope: &Scope, name: &Id) -> Option<u64>
     }
 }
 
-/// The array of the name, and its cell width. NoRule where the name is no array's.
+/// The array of the name, and its cell width. NoRule if the name is no array's.
 pub fn array(scope: &Scope, name: &Id) -> Result<(ArrayName, Width), Fault>
     ensures { Gives result (array_at (seen name.now scope.now)) }
 {
@@ -51,7 +51,7 @@ pub fn array(scope: &Scope, name: &Id) -> Result<(ArrayName, Width), Fault>
     }
 }
 
-/// The memop of the name, over cells of this width. NoRule where the name is no such memop's.
+/// The memop of the name, over cells of this width. NoRule if the name is no such memop's.
 pub fn memop(scope: &Scope, width: Width, name: &Id) -> Result<MemAlu, Fault>
     ensures { Gives result (memop_at width (seen name.now scope.now)) }
 {

@@ -9,14 +9,14 @@ use lucid_base::{BinOp, CmpOp};
 use lucid_parse_tree::Infix;
 use lucid_types_spec::ValueType;
 
-/// Whether the types are one.
+/// Returns whether the types are one.
 pub fn same_type(t: ValueType, u: ValueType) -> bool
     ensures { result ≡ same_type t u }
 {
     t == u
 }
 
-/// Whether the type is an int's.
+/// Returns whether the type is an int's.
 pub fn is_int(t: ValueType) -> bool
     ensures { result ≡ is_int t }
 {

@@ -6,12 +6,12 @@ pub fn expressions_are_computed()
     ensures { ComputesExpressions }
 {}
 
-/// So does the function of blocks.
+/// The function of blocks computes exactly the cores that the rules derive.
 pub fn blocks_are_computed()
     ensures { ComputesBlocks }
 {}
 
-/// So does the function of declarations.
+/// The function of declarations computes exactly the cores that the rules derive.
 pub fn declarations_are_computed()
     ensures { ComputesDeclarations }
 {}

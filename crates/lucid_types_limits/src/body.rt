@@ -112,7 +112,7 @@ fn exprs(funs: &[u64], es: &[Expr]) -> Tally
     sum
 }
 
-/// The arguments of an inlined call.
+/// Returns the arguments of an inlined call.
 #[cycle(body)]
 fn arguments(funs: &[u64], given: &[(u32, Expr)]) -> Tally
     ensures { result ≡ in_turn (λ g. expr_outs g.1) (λ g. expr_few g.1) funs.now given.now }
@@ -124,7 +124,7 @@ fn arguments(funs: &[u64], given: &[(u32, Expr)]) -> Tally
     sum
 }
 
-/// An operand that may be left out.
+/// Returns an operand that may be left out.
 #[cycle(body)]
 fn optional(funs: &[u64], e: &Option<Expr>) -> Tally
     ensures { result ≡ tally (total (option_to_list (option_map expr_outs e.now)) funs.now) (all_hold (option_to_list (option_map expr_few e.now))) }

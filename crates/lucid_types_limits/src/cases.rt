@@ -7,7 +7,7 @@ ghost use Rattle.lucid_types_limits.specs.Cases.{few_in_choice, few_in_no};
 use lucid_base::Items;
 use lucid_parse_tree::{C, No, S};
 
-/// Whether no match in these statements has more than 32 cases.
+/// Returns whether no match in these statements has more than 32 cases.
 #[cycle(cases)]
 pub fn cases_are_few(ss: &[S]) -> bool
     ensures { result ≡ list_all few_in ss.now }
@@ -45,7 +45,7 @@ fn statement_is_few(s: &S) -> bool
     }
 }
 
-/// The blocks of a match's cases.
+/// Returns the blocks of a match's cases.
 #[cycle(cases)]
 fn blocks_are_few(cases: &[(u64, Items<S>)]) -> bool
     ensures { result ≡ list_all (λ c. list_all few_in c.1) cases.now }

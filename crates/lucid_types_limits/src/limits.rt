@@ -20,7 +20,7 @@ pub struct Limits {
 }
 
 impl Limits {
-    /// Before the first declaration.
+    /// Returns the state before the first declaration.
     pub fn new(alloc: Global) -> Limits
         ensures { Knows [] result }
     {
@@ -29,7 +29,7 @@ impl Limits {
         }
     }
 
-    /// The limit exceeded by one more array, given the new total.
+    /// Returns the limit exceeded by one more array, given the new total.
     pub fn array(arrays: usize) -> Option<What>
         ensures { result ≡ array_passes arrays }
     {
@@ -40,7 +40,7 @@ impl Limits {
         }
     }
 
-    /// The limit exceeded by a new event.
+    /// Returns the limit exceeded by a new event.
     pub fn event(event: &EventDef) -> Option<What>
         ensures { result ≡ event_passes event.now }
     {
@@ -51,7 +51,7 @@ impl Limits {
         }
     }
 
-    /// The limit exceeded by a new handler with this body in the tree.
+    /// Returns the limit exceeded by a new handler with this body in the tree.
     #[tactic(auto, using(crate::proofs::Passing::body_limits_are))]
     pub fn handler(&self, handler: &HandlerDef, body: &[S]) -> Option<What>
         ensures { result ≡ handler_passes self.now.outs.items handler.now body.now }
@@ -59,7 +59,7 @@ impl Limits {
         body_passes(stmts(self.outs.as_slice(), handler.body.as_slice()), body)
     }
 
-    /// The limit exceeded by a new function with this body in the tree. If it exceeds none, it is added to the functions so far.
+    /// Returns the limit exceeded by a new function with this body in the tree. If it exceeds none, it is added to the functions so far.
     #[tactic(auto, using(crate::proofs::Passing::body_limits_are))]
     pub fn fun(&mut self, fun: &FunDef, body: &[S]) -> Result<Option<What>, Memory>
         ensures passed { IfOk result (λ w. w ≡ fun_passes self.old.outs.items fun.now body.now) }
@@ -80,7 +80,7 @@ impl Limits {
     }
 }
 
-/// The limit exceeded by a body of the tree, with the tally of its core.
+/// Returns the limit exceeded by a body of the tree, with the tally of its core.
 fn body_passes(tally: Tally, body: &[S]) -> Option<What>
     ensures { result ≡ first_passed (tally_limits tally body.now) }
 {

@@ -9,7 +9,7 @@ pub struct Tally {
     pub few: bool,
 }
 
-/// The tally of a part with this many outs and no arguments.
+/// Returns the tally of a part with this many outs and no arguments.
 #[tactic(auto, unfolding(crate::specs::Tally::tally))]
 pub fn outs(outs: u64) -> Tally
     ensures { result ≡ tally outs true }
@@ -44,7 +44,7 @@ impl Tally {
         }
     }
 
-    /// The tally of a call's parts, with `args` arguments of at most `most`.
+    /// Returns the tally of a call's parts, with `args` arguments of at most `most`.
     #[tactic(auto, unfolding(crate::specs::Tally::tally))]
     pub fn at_most(self, args: usize, most: usize) -> Tally
         ensures { (m : ℕ) (a : Bool) → self ≡ tally m a → result ≡ tally m (nat_le args most && a) }

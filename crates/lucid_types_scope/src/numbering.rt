@@ -15,14 +15,14 @@ pub struct Numbering {
 }
 
 impl Numbering {
-    /// The number of the next local. Memory is the answer past the last number that there is.
+    /// Returns the number of the next local. Memory is the answer past the last number that there is.
     pub fn next_local(&self) -> Result<u32, Memory>
         ensures { IfOk result (λ i. i ≡ length self.now.locals) }
     {
         number(self.locals.len())
     }
 
-    /// One local more, of this width.
+    /// Adds a local of this width.
     pub fn add_local(&mut self, width: Width) -> Result<(), Memory>
         ensures { OnOk result (numbered_of self.new ≡ one_local width (numbered_of self.old)) }
     {

@@ -4,7 +4,7 @@ ghost use Rattle.std.specs.Prelude.{◌≡◌, ◌+◌, IfOk};
 
 use lucid_base::Memory;
 
-/// The number of the next item of a list of this length.
+/// Returns the number of the next item of a list of this length.
 pub fn number(len: usize) -> Result<u32, Memory>
     ensures { IfOk result (λ number. number ≡ len) }
 {
@@ -14,7 +14,7 @@ pub fn number(len: usize) -> Result<u32, Memory>
     }
 }
 
-/// The number after this one.
+/// Returns the number after this one.
 pub fn next(number: u32) -> Result<u32, Memory>
     ensures { IfOk result (λ next. next ≡ number + 1) }
 {

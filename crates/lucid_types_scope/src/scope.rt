@@ -42,7 +42,7 @@ impl Model for Scope {
 }
 
 impl Scope {
-    /// No names.
+    /// Returns an empty scope.
     pub fn new(alloc: Global, seeded: Seeded) -> Scope
         ensures { result ≡ [] }
     {
@@ -53,7 +53,7 @@ impl Scope {
         }
     }
 
-    /// The entry of the name: its newest declaration.
+    /// Returns the entry of the name: its newest declaration.
     pub fn find(&self, name: &Id) -> Option<&Entry>
         ensures { option_copied result ≡ seen name.now self.now }
     {
@@ -79,7 +79,7 @@ impl Scope {
         Ok(())
     }
 
-    /// How many names there are.
+    /// Returns how many names there are.
     pub fn len(&self) -> usize
         ensures { result ≡ length self.now }
     {

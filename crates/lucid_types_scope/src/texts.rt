@@ -32,7 +32,7 @@ impl Model for Texts {
 }
 
 impl Texts {
-    /// No texts.
+    /// Returns an empty list of texts.
     pub fn new(alloc: Global, seeded: Seeded) -> Texts
         ensures { result ≡ [] }
     {
@@ -42,7 +42,7 @@ impl Texts {
         }
     }
 
-    /// The number of a text, which is added where it is new. Memory is the answer past the last number that there is.
+    /// Returns the number of a text, which is added if it is new. Memory is the answer past the last number that there is.
     pub fn number(&mut self, alloc: Global, text: &Id) -> Result<u32, Memory>
         ensures { IsNumbered result text.now self.old self.new }
     {
@@ -56,7 +56,7 @@ impl Texts {
         }
     }
 
-    /// The texts, in the order of their numbers.
+    /// Returns the texts, in the order of their numbers.
     pub fn into_vec(self) -> Vec<Id>
         ensures { result.items ≡ self }
     {

@@ -24,7 +24,7 @@ pub enum Entry {
     Memop(MemAlu),
     /// An event, with the widths of its parameters.
     Event(u32, Items<Width>),
-    /// A function, with its parameters, and the type of its value, where it gives one.
+    /// A function, with its parameters, and the type of its value, if it gives one.
     Fun(u32, Items<Param>, Option<ValueType>),
     /// A value parameter or a declared local.
     Local(u32, ValueType),

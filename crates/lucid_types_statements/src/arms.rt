@@ -100,7 +100,7 @@ pub struct Tested {
     pub value: Expr,
 }
 
-/// Its value goes into a local of its own. NoRule where there is no case, or two have one number, or it has no value.
+/// Its value goes into a local of its own. NoRule if there is no case, or two have one number, or it has no value.
 pub fn begin(
     alloc: Global,
     scope: &Scope,

@@ -127,7 +127,7 @@ fn add(behind: &mut Vec<Stmt>, steps: Items<Stmt>) -> Result<(), Memory>
     Ok(())
 }
 
-/// How an if ends, by its branches.
+/// Returns how an if ends, by its branches.
 pub fn either(first: Ending, second: Ending) -> Ending
     ensures { result ≡ of_either first second }
 {

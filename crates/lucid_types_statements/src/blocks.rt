@@ -77,7 +77,7 @@ fn statement(
     }
 }
 
-/// The body of these statements, in a body with this answer. NoRule where they have none.
+/// The body of these statements, in a body with this answer. NoRule if they have none.
 #[cycle(block)]
 #[tactic(auto, using(crate::proofs::Assembled::assembled, std::proofs::lemmas::Grind::common_steps))]
 pub fn block(

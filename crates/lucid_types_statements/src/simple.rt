@@ -37,7 +37,7 @@ pub fn does(alloc: Global, step: Stmt) -> Result<Part, Memory>
     Ok(Part::Does(body))
 }
 
-/// A declared local, with its name and its number behind it. NoRule where its type or its value has none.
+/// A declared local, with its name and its number behind it. NoRule if its type or its value has none.
 pub fn declare(
     alloc: Global,
     scope: &mut Scope,
@@ -64,7 +64,7 @@ pub fn declare(
     }
 }
 
-/// An assignment. NoRule where the name is no local's, or the value doesn't have its type.
+/// An assignment. NoRule if the name is no local's, or the value doesn't have its type.
 pub fn assign(alloc: Global, scope: &Scope, n: &Id, x: &E) -> Result<Stmt, Fault>
     ensures { Gives result (assigned n.now x.now scope.now) }
 {
@@ -101,7 +101,7 @@ pub fn generate(alloc: Global, scope: &Scope, x: &V) -> Result<Stmt, Fault>
     Ok(sendings::sent(out))
 }
 
-/// A print. NoRule where its arguments are not as many as its text has `%d`.
+/// A print. NoRule if its arguments are not as many as its text has `%d`.
 pub fn print(
     alloc: Global,
     scope: &Scope,
@@ -119,7 +119,7 @@ pub fn print(
     Ok(one(alloc, Stmt::Say { form, args }, Ending::Never)?)
 }
 
-/// A return in a body with this answer. NoRule where it gives a value and the answer is none, or the other way round.
+/// A return in a body with this answer. NoRule if it gives a value and the answer is none, or the other way round.
 pub fn give_back(
     alloc: Global,
     answer: &Option<ValueType>,

@@ -53,7 +53,7 @@ pub fn put_fit<W: Sink>(
     Ok(())
 }
 
-/// The names of the passes.
+/// Returns the names of the passes.
 pub fn names(alloc: Global, passes: &Vec<Box<dyn Pass>>) -> Result<Vec<Name>, Memory>
     ensures { IfOk result (λ names. names.items ≡ map called passes.now.items) }
 {

@@ -35,7 +35,7 @@ impl Measured {
         measured_in(alloc, target, passes)
     }
 
-    /// The pipeline with the places that the text gives.
+    /// Returns the pipeline with the places that the text gives.
     pub fn place(self, alloc: Global, text: &[u8]) -> Result<Pipes, Refusal>
         requires { MeasuredKeeps self }
         ensures pipes { Prepares (IsAuditedIn text.now (measured_view self)) pipes_view result }

@@ -17,7 +17,7 @@ use lucid_pipe::Watch;
 use lucid_top_words::Refusal;
 use std::alloc::Global;
 
-/// Writes the whole log, and shows all sights; or a part of both, where a write or memory failed. Memory is taken, while packets move, only
+/// Writes the whole log, and shows all sights; or a part of both, if a write or memory failed. Memory is taken, while packets move, only
 /// for events that wait, and the log of the ticks before is written in full by then.
 pub fn run_network<W: Sink, V: Watch>(
     alloc: Global,

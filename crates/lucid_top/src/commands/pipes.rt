@@ -17,7 +17,7 @@ use lucid_top_words::Refusal;
 use std::alloc::Global;
 
 impl Pipes {
-    /// The pipeline of the program of the first text under the limits of the second, after these passes.
+    /// Returns the pipeline of the program of the first text under the limits of the second, after these passes.
     pub fn read(
         alloc: Global,
         texts: &[Vec<u8>],
@@ -53,7 +53,7 @@ fn placed_in(
 }
 
 impl Ready {
-    /// The pipelines of the three texts, ready to run.
+    /// Returns the pipelines of the three texts, ready to run.
     pub fn read(
         alloc: Global,
         texts: &[Vec<u8>],

@@ -20,7 +20,7 @@ use lucid_top_words::Refusal;
 use std::alloc::Global;
 
 /// Does the steps of the scenario of the third text on the pipeline of the program of the first, placed under the limits of the second after
-/// these passes; then writes the snapshot that was begun after the first `after` steps, or after all where there are fewer.
+/// these passes; then writes the snapshot that was begun after the first `after` steps, or after all if there are fewer.
 pub fn snap<W: Sink>(
     alloc: Global,
     texts: &[Vec<u8>],

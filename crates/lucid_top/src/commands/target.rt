@@ -15,7 +15,7 @@ use lucid_top_words::Refusal;
 use std::alloc::Global;
 
 impl Target {
-    /// The program of the first text under the limits of the second.
+    /// Returns the program of the first text under the limits of the second.
     pub fn read(alloc: Global, texts: &[Vec<u8>]) -> Result<Target, Refusal>
         requires { 1 < length texts.now }
         ensures target { let text = word_at (texts_in texts.now) in
