@@ -47,14 +47,14 @@ fn parameter(alloc: Global, tokens: Tokens) -> Result<(P, Tokens), Stop>
     }
 }
 
-/// Parameters with commas between them.
+/// Reads parameters with commas between them.
 fn some_parameters<'a>(alloc: Global, tokens: Tokens<'a>) -> Result<(Items<P>, Tokens<'a>), Stop>
     ensures { Reads result (reader.separated spec.parameter (said tokens.entry)) }
 {
     separated(alloc, |part| parameter(alloc, part), tokens)
 }
 
-/// Parameters in parentheses.
+/// Reads parameters in parentheses.
 #[tactic(auto, unfolding(lucid_parse_spec::specs::ReadDeclaration::parameters))]
 fn parameters(alloc: Global, tokens: Tokens) -> Result<(Items<P>, Tokens), Stop>
     ensures { Reads result (spec.parameters (said tokens.entry)) }

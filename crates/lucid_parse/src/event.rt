@@ -18,7 +18,7 @@ pub(crate) fn event(alloc: Global, tokens: Tokens) -> Result<(Boxed<V>, Tokens),
     event_at(alloc, tokens.len(), tokens)
 }
 
-/// With at most `depth` events round one another.
+/// Reads an event with at most `depth` events within one another.
 #[cycle(event)]
 #[tactic(auto, unfolding(lucid_parse_spec::specs::ReadStatement::event_at))]
 fn event_at(alloc: Global, depth: usize, tokens: Tokens) -> Result<(Boxed<V>, Tokens), Stop>
@@ -57,7 +57,7 @@ fn event_within(alloc: Global, depth: usize, tokens: Tokens) -> Result<(Boxed<V>
     }
 }
 
-/// Behind `Event.` and this name.
+/// Reads an event after `Event.` and this name.
 #[cycle(event)]
 #[tactic(auto, unfolding(lucid_parse_spec::specs::ReadStatement::event_by))]
 fn event_by<'a>(

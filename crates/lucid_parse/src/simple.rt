@@ -27,7 +27,7 @@ pub(crate) fn simple(alloc: Global, tokens: Tokens) -> Result<(S, Tokens), Stop>
     }
 }
 
-/// An expression, up to the `;` behind it.
+/// Reads an expression, up to the `;` after it.
 #[tactic(auto, unfolding(lucid_parse_spec::specs::ReadStatement::ended_value))]
 fn ended_value(alloc: Global, tokens: Tokens) -> Result<(E, Tokens), Stop>
     ensures { Reads result (spec.ended_value (said tokens.entry)) }
@@ -47,7 +47,7 @@ fn ended_arguments(alloc: Global, tokens: Tokens) -> Result<(Items<E>, Tokens), 
     Ok((arguments, rest))
 }
 
-/// Behind the name that a statement begins with.
+/// Reads a statement after the name that it begins with.
 #[tactic(auto, unfolding(lucid_parse_spec::specs::ReadStatement::after_its_name))]
 fn after_its_name<'a>(
     alloc: Global,
@@ -79,7 +79,7 @@ fn declared_local(alloc: Global, tokens: Tokens) -> Result<(S, Tokens), Stop>
     Ok((S::Declare(ty, name, value), rest))
 }
 
-/// A call on an array, behind `Array`.
+/// Reads a call on an array, after `Array`.
 #[tactic(auto, unfolding(lucid_parse_spec::specs::ReadStatement::array_statement))]
 fn array_statement(alloc: Global, tokens: Tokens) -> Result<(S, Tokens), Stop>
     ensures { Reads result (spec.array_statement (said tokens.entry)) }
@@ -89,7 +89,7 @@ fn array_statement(alloc: Global, tokens: Tokens) -> Result<(S, Tokens), Stop>
     Ok((S::Array(call), rest))
 }
 
-/// Behind `return`.
+/// Reads a statement after `return`.
 #[tactic(auto, unfolding(lucid_parse_spec::specs::ReadStatement::returned))]
 fn returned(alloc: Global, tokens: Tokens) -> Result<(S, Tokens), Stop>
     ensures { Reads result (spec.returned (said tokens.entry)) }
@@ -103,7 +103,7 @@ fn returned(alloc: Global, tokens: Tokens) -> Result<(S, Tokens), Stop>
     }
 }
 
-/// Behind `generate`.
+/// Reads a statement after `generate`.
 #[tactic(auto, unfolding(lucid_parse_spec::specs::ReadStatement::generated))]
 fn generated(alloc: Global, tokens: Tokens) -> Result<(S, Tokens), Stop>
     ensures { Reads result (spec.generated (said tokens.entry)) }
@@ -122,7 +122,7 @@ fn quoted(alloc: Global, tokens: Tokens) -> Result<(Id, Tokens), Stop>
     }
 }
 
-/// Behind `printf`.
+/// Reads a statement after `printf`.
 #[tactic(auto, unfolding(lucid_parse_spec::specs::ReadStatement::printed))]
 fn printed(alloc: Global, tokens: Tokens) -> Result<(S, Tokens), Stop>
     ensures { Reads result (spec.printed (said tokens.entry)) }

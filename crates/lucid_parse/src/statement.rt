@@ -54,7 +54,7 @@ fn statements(alloc: Global, depth: usize, tokens: Tokens) -> Result<(Items<S>, 
     Ok((all, rest))
 }
 
-/// With at most `depth` statements round one another.
+/// Reads a statement with at most `depth` statements within one another.
 #[cycle(statement)]
 #[tactic(auto, unfolding(lucid_parse_spec::specs::ReadStatement::inner_at))]
 fn statement(alloc: Global, depth: usize, tokens: Tokens) -> Result<(S, Tokens), Stop>
@@ -92,7 +92,7 @@ fn condition(alloc: Global, tokens: Tokens) -> Result<(E, Tokens), Stop>
     Ok((test, rest))
 }
 
-/// Behind `if`.
+/// Reads a statement after `if`.
 #[cycle(statement)]
 #[tactic(auto, unfolding(lucid_parse_spec::specs::ReadStatement::inner_at, lucid_parse_spec::specs::ReadStatement::choice_within))]
 fn choice(alloc: Global, depth: usize, tokens: Tokens) -> Result<(C, Tokens), Stop>
@@ -127,7 +127,7 @@ fn alternative(alloc: Global, depth: usize, tokens: Tokens) -> Result<(No, Token
     }
 }
 
-/// An `if` behind `else`, which has all that follows it.
+/// Returns an `else` that is followed by this choice.
 fn else_if(alloc: Global, choice: C) -> Result<No, Stop>
     ensures { Gives result (Some (No.Cond choice)) }
 {
@@ -221,7 +221,7 @@ fn match_of(test: E, cases: Items<(u64, Items<S>)>, last: Option<Items<S>>) -> R
     Ok(S::Match { test, cases, last })
 }
 
-/// Behind `match`.
+/// Reads a statement after `match`.
 #[cycle(statement)]
 #[tactic(auto, unfolding(lucid_parse_spec::specs::ReadStatement::matched))]
 fn matched(alloc: Global, depth: usize, tokens: Tokens) -> Result<(S, Tokens), Stop>

@@ -14,7 +14,7 @@ use lucid_parse_spec::Method;
 use lucid_parse_tree::{A, E};
 use std::alloc::Global;
 
-/// Behind `Array`, up to the open parenthesis.
+/// Reads the tokens after `Array`, up to the open parenthesis.
 #[tactic(auto, unfolding(lucid_parse_spec::specs::ReadExpression::array_method))]
 pub(crate) fn array_method(tokens: Tokens) -> Result<(Method, Tokens), Stop>
     ensures { Reads result (spec.array_method (said tokens.entry)) }
@@ -49,7 +49,7 @@ fn call_of(method: Method, given: Items<E>) -> Result<A, Stop>
     array_at(name, method, given)
 }
 
-/// By the tokens after the array's name.
+/// Reads the tokens after the array's name.
 #[tactic(auto, unfolding(lucid_parse_spec::specs::ReadExpression::array_at))]
 fn array_at(name: Id, method: Method, given: Items<E>) -> Result<A, Stop>
     ensures { Gives result (spec.array_at name method given) }
@@ -58,7 +58,7 @@ fn array_at(name: Id, method: Method, given: Items<E>) -> Result<A, Stop>
     array_with(name, index, method, given)
 }
 
-/// By the tokens after the index. The call is made last, when nothing remains, so that no path drops a whole call.
+/// Reads the tokens after the index. The call is made last, when nothing remains, so that no path drops a whole call.
 fn array_with(name: Id, index: E, method: Method, given: Items<E>) -> Result<A, Stop>
     ensures { Gives result (spec.array_with name index method given) }
 {
