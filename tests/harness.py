@@ -55,8 +55,8 @@ class Options:
     large: bool = False
     fill: bool = False
     runs: Optional[int] = None
+    jobs: Optional[int] = None
     seed: int = 0
-    keep: Optional[Path] = None
     only: Sequence[str] = ()
 
 
@@ -216,8 +216,3 @@ def is_listed(ended: Ended) -> bool:
         return ended.err == b""
     line = LISTED.get(ended.status)
     return line is not None and re.fullmatch(line + "\n", ended.err.decode("utf-8", "replace")) is not None
-
-
-def is_well_ended(ended: Ended) -> bool:
-    """Whether a call that had memory and a stream to write on may end so: a listed line, and no output beside it."""
-    return is_listed(ended) and ended.status not in (10, 11) and (ended.status == 0 or ended.out == b"")

@@ -6,8 +6,9 @@ from dataclasses import dataclass, field
 from pathlib import Path
 from typing import Dict, List, Optional, Tuple
 
-from harness import Ended, fnv
+from harness import TESTS, Ended, fnv
 
+ROWS = TESTS / "rows"
 Sum = Tuple[int, int]
 
 
@@ -35,6 +36,13 @@ class Row:
         if self.accepts:
             return ended.status == 0 and ended.err == b"" and self.sum == sum_of(ended.out)
         return ended == Ended(self.status, self.out, self.err)
+
+    def read(self, name: bytes) -> bytes:
+        """Reads a file of the row, as the second implementation asks for it."""
+        found = self.files.get(name.decode("utf-8", "surrogateescape"))
+        if found is None:
+            raise OSError(name)
+        return found
 
     def bytes_read(self) -> int:
         return sum(len(self.files.get(word, b"")) for word in self.words)
@@ -166,6 +174,11 @@ def read_rows(path: Path) -> Tuple[List[Row], List[int]]:
         reader.take(line, number)
     reader.finish()
     return reader.rows, reader.unread
+
+
+def all_rows() -> List[Row]:
+    """The rows of tests/rows."""
+    return [row for path in sorted(ROWS.glob("*.rows")) for row in read_rows(path)[0]]
 
 
 def write_sums(path: Path, sums: Dict[int, str]) -> None:

@@ -9,9 +9,11 @@ from dataclasses import dataclass
 from pathlib import Path
 from typing import Callable, Dict, List
 
+from drawn.cases import draw_case
 from harness import Group, Stopped
+from model import deeply
 
-from . import generated, mutated, refused, rows, streams, words
+from . import drawn, generated, refused, rows, streams, words
 
 # The wrapper makes the call, lets the lie change its output, its error stream and its status, and ends with these.
 WRAPPER = """#!/bin/sh
@@ -52,10 +54,8 @@ def of(words_: str, text: str) -> str:
 
 NO_WINDOWS = r"""sed 's/"down" *: *\[\(\[[^]]*\][, ]*\)*\]/"down":[]/' "$5" >"$t/s"; set -- "$1" "$2" "$3" "$4" "$t/s" """
 WHOLE = '"$program" layout "$3" "$4" >/dev/null 2>&1 && { shift 2; set -- run whole "$@"; }'
-SWAPPED = """awk 'NR == 1 { first = $0; next } NR == 2 { print } NR == 2 { print first; next } { print } END { if (NR == 1) print first }' \\
-    "$t/out" >"$t/new" && mv "$t/new" "$t/out" """
-NO_LAST_CELL = """awk '/^s[0-9]+ / { if (held != "") print held; held = $0; next } { if (/^entered/) held = ""; if (held != "") print held
-    held = ""; print }' "$t/out" >"$t/new" && mv "$t/new" "$t/out" """
+SWAPPED = 'sed "1{\$!{h;d}};2G" "$t/out" >"$t/new" && mv "$t/new" "$t/out"'
+NO_LAST_CELL = 'tac "$t/out" | sed "0,/^s[0-9]/{/^s[0-9]/d}" | tac >"$t/new" && mv "$t/new" "$t/out"'
 LIES: Dict[str, Lie] = {
     "refuses every layout": Lie(["rows layouts", "rows pipelines", "generated", "drawn"], behind=of("layout*|run?pipe*", refusal(7, "nofit: node 0"))),
     "accepts no program": Lie(["rows checks", "generated", "drawn"], behind=of("check*", refusal(5, "types: declaration 1 line 1"))),
@@ -63,12 +63,12 @@ LIES: Dict[str, Lie] = {
     "runs `run pipe` by running handlers whole": Lie(["refused pipes"], before=of("run?pipe*", WHOLE), wrapper=REPLACED),
     "runs `run placed` whatever the placement": Lie(["rows placements"], behind=of("audit*", '[ $code != 12 ] || { code=0; : >"$t/err"; }')),
     "has no `bench`": Lie(["rows generated", "generated"], before=of("bench*", "echo usage >&2; exit 1")),
-    "reports `memory` always": Lie(["rows checks", "mutated", "generated"], before="echo memory >&2; exit 11"),
-    "ends by a signal": Lie(["mutated", "rows checks"], before="kill -SEGV $$"),
+    "reports `memory` always": Lie(["rows checks", "drawn", "generated"], before="echo memory >&2; exit 11"),
+    "ends by a signal": Lie(["drawn", "rows checks"], before="kill -SEGV $$"),
     "swaps two lines of a log": Lie(["rows networks"], behind=of("run*", SWAPPED)),
     "drops the last cell": Lie(["rows networks"], behind=of("run*", NO_LAST_CELL)),
     "ends with another status": Lie(["rows checks"], behind="[ $code != 6 ] || code=5"),
-    "prints errors on its output": Lie(["rows refusals", "mutated"], behind='cat "$t/err" >>"$t/out"; : >"$t/err"'),
+    "prints errors on its output": Lie(["rows refusals", "drawn"], behind='cat "$t/err" >>"$t/out"; : >"$t/err"'),
     "writes one byte more than it should": Lie(["rows accepted"], behind='[ $code != 0 ] || echo >>"$t/out"'),
     "is content with a full device": Lie(["streams"], behind='cat "$t/out" 2>/dev/null || exit $code; : >"$t/out"'),
 }
@@ -79,11 +79,11 @@ def of_rows(name: str) -> Callable[[Group], None]:
     return lambda group: rows.run_files(group, [f"{name}.rows"])
 
 
-def drawn(group: Group) -> None:
-    import drawn as module
-
-    _, failed = module.run_drawn(str(group.options.program), 100, 0, say=lambda text: None)
-    group.check("drawn calls", failed == 0, failed)
+def drawn_calls(group: Group) -> None:
+    program, room = str(group.options.program), str(group.room)
+    for number in range(100):
+        differs = deeply(lambda: drawn.differs(draw_case(0, number), program, room))
+        group.check(f"drawn call {number}", not differs)
 
 
 def one_network(group: Group) -> None:
@@ -95,18 +95,13 @@ def pipes(group: Group) -> None:
     refused.pipes_take_memory(group)
 
 
-def some_mutated(group: Group) -> None:
-    mutated.run_numbers(group, range(40))
-
-
 CHECKS: Dict[str, Callable[[Group], None]] = {
     **{f"rows {name}": of_rows(name) for name in "checks layouts pipelines networks placements generated refusals".split()},
     "rows accepted": of_rows("limits"),
     "generated": one_network,
-    "mutated": some_mutated,
     "streams": streams.faults_of_a_stream,
     "refused pipes": pipes,
-    "drawn": drawn,
+    "drawn": drawn_calls,
 }
 TRUTH = "tells the truth"
 TRUTHS = [Lie([name for name in CHECKS if name != "refused pipes"]), Lie(["refused pipes"], wrapper=REPLACED)]

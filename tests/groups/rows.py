@@ -6,14 +6,12 @@ Fails on any other byte, line or status of these calls. Sees nothing of programs
 from __future__ import annotations
 
 import shutil
-import sys
 from pathlib import Path
 from typing import Dict, Iterable, List
 
-from harness import TESTS, TOP, Ended, Group
-from rowfile import Row, read_rows, sum_of, write_sums
-
-ROWS = TESTS / "rows"
+from harness import Ended, Group
+from model import deeply, judge
+from rowfile import ROWS, Row, read_rows, sum_of, write_sums
 
 
 def make(group: Group, row: Row) -> Ended:
@@ -61,23 +59,15 @@ def read_all(group: Group, names: Iterable[str]) -> List[Row]:
     return rows
 
 
-def model_answer(row: Row) -> Ended:
-    """The answer of the second implementation, tools/lucid_model."""
-    sys.path.insert(0, str(TOP / "tools"))
-    import lucid_model
-    from lucid_tools.stack import deeply
-
-    read = lambda name: row.files[name.decode() if isinstance(name, bytes) else name]
-    return Ended(*deeply(lambda: lucid_model.answer(row.words, read)))
-
-
 def fill(group: Group, rows: Iterable[Row]) -> None:
     """Writes the missing sums of accepted texts into the files of rows."""
     sums: Dict[Path, Dict[int, str]] = {}
     for row in rows:
         ended = make(group, row)
         well = ended.status == 0 and not ended.err and bool(ended.out)
-        if group.check(f"{row.name}: {row.title}: accepted, and the model agrees", well and model_answer(row) == ended, ended):
+        made = deeply(lambda: judge(row.words, row.read))
+        agrees = Ended(made.status, made.out, made.err) == ended
+        if group.check(f"{row.name}: {row.title}: accepted, and the model agrees", well and agrees, ended):
             sums.setdefault(row.path, {})[row.line] = "= %d %016x" % sum_of(ended.out)
     for path, lines in sums.items():
         write_sums(path, lines)

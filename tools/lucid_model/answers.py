@@ -1,8 +1,8 @@
 """The answer of a call: its words, then its files in word order, and what is asked of each (docs/ERRORS.md)."""
 from dataclasses import dataclass, field
-from typing import Callable, Dict, List, Optional, Sequence, Tuple, Union
+from typing import Callable, Dict, List, Optional, Sequence, Union
 
-from . import gen, interpret, log
+from . import gen, interpret
 from .audit import audit
 from .code import Code
 from .core import Core
@@ -12,6 +12,7 @@ from .expand import Expanded, expand
 from .json_files import read_limits
 from .layout import Layout
 from .lexer import Token, lex
+from .log import block_text, cells_text
 from .network import Network
 from .order import check_order
 from .parser import parse
@@ -23,22 +24,22 @@ from .values import fnv
 Word = Union[str, bytes]
 ReadFile = Callable[[bytes], bytes]
 MOST_BYTES = {'program': 1048576, 'limits': 1048576, 'scenario': 8388608, 'placement': 8388608}
-NETWORK = ('program', 'limits', 'scenario')
-# The files of each form of words, which follow the command, and how many numbers follow them; `once` has an event and its arguments.
-FORMS = {('check',): (NETWORK[:1], 0), ('once',): (NETWORK[:1], None), ('expand',): (NETWORK[:1], 0), ('layout',): (NETWORK[:2], 0),
-         ('run', 'whole'): (NETWORK, 0), ('run', 'pipe'): (NETWORK, 0), ('run', 'placed'): (NETWORK + ('placement',), 0),
-         ('drive',): (NETWORK, 0), ('snap',): (NETWORK, 1), ('audit',): (NETWORK[:2] + ('placement',), 0),
-         ('gen', 'program'): ((), 2), ('gen', 'limits'): ((), 2), ('gen', 'scene'): ((), 2), ('bench',): ((), 2)}
 MOST_EVENTS = 10000
+# README, Usage: the files that follow each command, and how many numbers follow them; `once` has an event and its arguments.
+NETWORK = ['program', 'limits', 'scenario']
+FORMS = {'check': (['program'], 0), 'once': (['program'], None), 'expand': (['program'], 0), 'layout': (['program', 'limits'], 0),
+         'run whole': (NETWORK, 0), 'run pipe': (NETWORK, 0), 'run placed': (NETWORK + ['placement'], 0), 'drive': (NETWORK, 0),
+         'snap': (NETWORK, 1), 'audit': (['program', 'limits', 'placement'], 0), 'gen program': ([], 2), 'gen limits': ([], 2),
+         'gen scene': ([], 2), 'bench': ([], 2)}
 
 
 def usage(problem: str) -> Refused:
-    """Returns the refusal of words that are no form (docs/ERRORS.md, 1 usage)."""
+    """1 usage: returns the refusal of words that are no form."""
     return Refused(1, 'usage', Fault('usage', None, problem), 'words')
 
 
 def number_of(word: str) -> int:
-    """Returns the number below 2^64 that a word writes in decimal, without a leading zero."""
+    """1 usage: a number is decimal and below 2^64, without a leading zero."""
     plain = word.isascii() and word.isdigit() and (word == '0' or word[0] != '0') and len(word) <= 20
     if not plain or int(word) >= 2 ** 64:
         raise usage(f'{word!r} is no number below 2^64 in decimal without a leading zero')
@@ -56,28 +57,26 @@ class Call:
 
 
 def call_of(raw: Sequence[bytes]) -> Call:
-    """Returns the call of these words, which must be one of the forms of README."""
-    words = [word.decode('latin-1') for word in raw]
+    """1 usage: the words must be one of the forms of README."""
     try:
         b' '.join(raw).decode('utf-8')
     except UnicodeDecodeError:
         raise usage('a word is no UTF-8') from None
-    command = next((form for form in (tuple(words[:2]), tuple(words[:1])) if form in FORMS), None)
-    if command is None:
+    words = [word.decode('latin-1') for word in raw]
+    count = next((k for k in (2, 1) if ' '.join(words[:k]) in FORMS and len(words) >= k), 0)
+    kinds, numbers = FORMS.get(' '.join(words[:count]), ([], 0))
+    named, rest = words[count:count + len(kinds)], words[count + len(kinds):]
+    if count == 0 or len(named) < len(kinds) or (len(rest) != numbers if numbers is not None else not rest):
         raise usage('these words are no form of a call')
-    names, count = FORMS[command]
-    files, rest = words[len(command):][:len(names)], words[len(command) + len(names):]
-    if len(files) < len(names) or (len(rest) != count if count is not None else not rest):
-        raise usage('these words are no form of a call')
-    event, digits = (rest[0], rest[1:]) if count is None else ('', rest)
-    numbers = [number_of(word) for word in digits]
-    if command[0] in ('gen', 'bench') and not 1 <= numbers[1] <= MOST_EVENTS:
+    first = 1 if numbers is None else 0
+    call = Call(' '.join(words[:count]), dict(zip(kinds, named)), ''.join(rest[:first]), [number_of(word) for word in rest[first:]])
+    if not kinds and not 1 <= call.numbers[1] <= MOST_EVENTS:
         raise usage('N is 1 to 10,000')
-    return Call(' '.join(command), dict(zip(names, files)), event, numbers)
+    return call
 
 
 def read_files(call: Call, read: ReadFile) -> Dict[str, bytes]:
-    """Reads all files in word order, each whole, before any is looked at."""
+    """2 read fault, 3 too long: reads all files in word order, each whole, before any is judged."""
     found: Dict[str, bytes] = {}
     for kind, name in call.files.items():
         try:
@@ -130,17 +129,17 @@ class Answer:
 
 
 def once(core: Core, name: str, args: List[int]) -> str:
-    """Runs one event whole, from empty cells, at tick 0 on switch 0."""
+    """README, Usage: runs one event whole, from empty cells, at tick 0 on switch 0."""
     event = core.event_named(name)
     if event is None or not core.fits(event, args):
         raise usage(f'the program has no event {name!r} with these arguments')
     cells = interpret.empty_cells(core)
     outs = interpret.run_whole(core, cells, 0, 0, event, args)
-    return log.block_text(core, 0, 0, event, args, [(out, False) for out in outs]) + log.cells_text(core, 0, cells)
+    return block_text(core, 0, 0, event, args, [(out, False) for out in outs]) + cells_text(core, 0, cells)
 
 
 def run_call(call: Call, files: Dict[str, bytes], program: Program) -> str:
-    """Does the work of a command that reads a program."""
+    """Does the work of a command that reads a program, and refuses what is wrong first in the order of docs/ERRORS.md."""
     command = call.command
     if command == 'expand':
         return program.expand()
@@ -154,14 +153,13 @@ def run_call(call: Call, files: Dict[str, bytes], program: Program) -> str:
     if command == 'run whole':
         return Network(core, limits, read_scene(files['scenario'], core), None).run()
     program.code = compose(core)
-    placed, has_scene = Layout(program.code, limits), 'scenario' in files
+    placed = Layout(program.code, limits)
     placed.check_code()
-    if 'placement' in files:  # the scenario comes before the placement, but behind a first fit
-        scene = read_scene(files['scenario'], core) if has_scene else None
-        audit(placed, files['placement'])
-    else:
+    if 'placement' not in files:  # for `audit` and `run placed` only the counts of a layout come before the scenario
         placed.fit()
-        scene = read_scene(files['scenario'], core) if has_scene else None
+    scene = read_scene(files['scenario'], core) if 'scenario' in files else None
+    if 'placement' in files:
+        audit(placed, files['placement'])
     if scene is None:
         return placed.text()
     if command in ('run pipe', 'run placed'):
@@ -170,7 +168,7 @@ def run_call(call: Call, files: Dict[str, bytes], program: Program) -> str:
 
 
 def generated(call: Call) -> str:
-    """Does the work of `gen` and `bench`."""
+    """README, Usage: does the work of `gen` and `bench`."""
     seed, count = call.numbers
     texts = {'gen program': gen.make_program(seed), 'gen limits': gen.make_limits(), 'gen scene': gen.make_scene(seed, count)}
     if call.command != 'bench':
@@ -194,12 +192,6 @@ def judge(words: Sequence[Word], read: ReadFile) -> Answer:
     except Refused as refused:
         made.status, made.err, made.refused = refused.status, (refused.line + '\n').encode('latin-1'), refused
     return made
-
-
-def answer(words: Sequence[Word], read: ReadFile) -> Tuple[int, bytes, bytes]:
-    """Returns the exit code, the output and the line of errors of a call."""
-    made = judge(words, read)
-    return made.status, made.out, made.err
 
 
 def agrees(made: Answer, status: int, out: bytes, err: bytes) -> bool:

@@ -1,4 +1,4 @@
-"""Code: operations with guards over fields. What a packet carries is fields; an operation acts if its guard holds."""
+"""Code: operations with guards over fields (crates/lucid_code/specs). A packet carries fields; an operation acts if its guard holds."""
 from dataclasses import dataclass, field
 from typing import List, NamedTuple, Optional, Tuple
 
@@ -50,7 +50,7 @@ class Op:
         return [x.field for x in self.guard] + [x.value for x in self.operands if x.is_field]
 
     def key(self) -> int:
-        """Returns its key: a call of an array follows the operations before the call."""
+        """The order of nodes: a call of an array follows the operations before the call."""
         return 2 * self.number + 1 if self.kind == 'touch' else 2 * self.level
 
     def result(self, values: List[int], to_width: int) -> int:
@@ -79,7 +79,7 @@ class Code:
     gone: List[int] = field(default_factory=list)
 
     def bits(self) -> int:
-        """Returns what a packet carries: the inputs, and each field that some operation reads or writes."""
+        """The limits of a target, `bits`: a packet carries the inputs, and each field that an operation reads or writes."""
         used = set(range(self.inputs))
         for op in self.ops:
             used.update(op.reads())

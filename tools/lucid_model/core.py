@@ -3,14 +3,17 @@ from dataclasses import dataclass, field
 from typing import Any, Iterator, List, NamedTuple, Optional, Tuple, Union
 
 from .tree import form
-from .values import MemAlu
 
 
 class ArrayName(NamedTuple):
-    """A declared array, or an array parameter."""
+    """A declared array, or an array parameter, by its number; declared arrays come first."""
 
-    declared: bool
+    is_param: bool
     number: int
+
+    def among(self, arrays: List[Any]) -> Any:
+        """Returns the declared array that this means in a body whose array parameters mean these."""
+        return arrays[self.number] if self.is_param else self
 
 
 Expr = Any
@@ -29,48 +32,31 @@ Assign = form('Assign', 'local', 'value')
 Drop = form('Drop', 'value')
 If = form('If', 'test', 'yes', 'no', 'ending')  # `ending` says on which paths it returns
 Say = form('Say', 'form', 'args')
+# `args` are followed by what `extras` names, `delay` or `to` or both as they are written; `members` are those of a group, or None.
+Gen = form('Gen', 'event', 'args', 'extras', 'members')
 Return = form('Return', 'value')
-
-
-@dataclass
-class Gen:
-    """An event that is sent: here, to one switch, or to the members of a group."""
-
-    event: int
-    args: List[Expr]
-    delay: Optional[Expr] = None
-    to: Optional[Expr] = None
-    members: Optional[List[int]] = None
-    delay_first: bool = False
-    at: int = 0
-
-    def behind(self) -> List[str]:
-        """Returns which of `delay` and `to` there are, in the order in which they are evaluated, after the arguments."""
-        return [name for name in (('delay', 'to') if self.delay_first else ('to', 'delay')) if getattr(self, name) is not None]
-
-    def split(self, parts: List[Any]) -> Tuple[List[Any], Any, Any]:
-        """Splits what its expressions became into the arguments, the delay and the target; None for one that is missing."""
-        behind = dict(zip(self.behind(), parts[len(self.args):]))
-        return parts[:len(self.args)], behind.get('delay'), behind.get('to')
 
 
 # The fields of each form that are expressions, or lists of them, in the order in which they are evaluated.
 PARTS = {Un: ['arg'], Cast: ['arg'], Bin: ['left', 'right'], Hash: ['args'], Fun: ['args'], Touch: ['index', 'get_arg', 'set_arg'],
-         Assign: ['value'], Drop: ['value'], Return: ['value'], If: ['test'], Say: ['args']}
-
-
+         Assign: ['value'], Drop: ['value'], Return: ['value'], If: ['test'], Say: ['args'], Gen: ['args']}
 Node = Union[Expr, Stmt]
 
 
 def children(x: Node) -> List[Expr]:
     """Returns the expressions directly in a node, in the order in which they are evaluated."""
-    if isinstance(x, Gen):
-        return x.args + [getattr(x, name) for name in x.behind()]
     found: List[Expr] = []
     for name in PARTS.get(type(x), []):
         part = getattr(x, name)
         found += part if isinstance(part, list) else [part] if part is not None else []
     return found
+
+
+def sent_parts(s: Gen, parts: List[Any]) -> Tuple[List[Any], Any, Any]:
+    """Splits what the expressions of a `generate` became into the arguments, the delay and the target; None for one that is missing."""
+    count = len(parts) - len(s.extras)
+    extras = dict(zip(s.extras, parts[count:]))
+    return parts[:count], extras.get('delay'), extras.get('to')
 
 
 def walk(nodes: List[Node]) -> Iterator[Node]:
@@ -103,8 +89,7 @@ class EventDef:
 
 @dataclass
 class Body:
-    """A function or a handler: value parameters are the first locals. `event` is that of a handler; `long_matches` are the places of
-    matches with too many cases."""
+    """A function or a handler; value parameters are the first locals. `long_matches` are the places of matches with too many cases."""
 
     name: str
     decl: int

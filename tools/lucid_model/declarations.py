@@ -1,20 +1,37 @@
-"""The typing rules of declarations (docs/LANGUAGE.md, Declarations)."""
+"""The typing rules of declarations, and the limits that are asked after them (docs/LANGUAGE.md, Declarations and Limits)."""
 from collections import ChainMap
 from typing import List, Optional
 
 from . import core, tree
-from .bounds import exceeded, most_outs
 from .memops import Shape
 from .refusals import Fault, Refused
 from .statements import ALWAYS, Statements
 from .types import Entry, Expressions, bits, check_width, number, value_type
 
+MOST_ARRAYS, MOST = 64, 8  # MOST parameters, arguments and outs
 
-def int_width(ty: Optional[tree.Ty], at: int) -> int:
-    """Returns the width of a type that must be an int."""
-    if ty is None or not ty.is_int:
-        raise Fault('int', at, 'an array' if ty is None else 'bool')
-    return value_type(ty)
+
+def int_width(p: tree.Param) -> int:
+    """Returns the width of a parameter or a constant, whose type must be an int."""
+    if p.type is None or not p.type.is_int:
+        raise Fault('int', p.at, 'an array' if p.type is None else 'bool')
+    return value_type(p.type)
+
+
+def most_outs(nodes: List[core.Node], funs: List[int]) -> int:
+    """Limits: the most outs on any path; a call counts those of its function, and a group counts its members."""
+    total = 0
+    for x in nodes:
+        total += most_outs(core.children(x), funs)
+        if isinstance(x, core.Fun):
+            total += funs[x.number]
+        elif isinstance(x, core.Gen):
+            total += 1 if x.members is None else len(x.members)
+        elif isinstance(x, core.Say):
+            total += 1
+        elif isinstance(x, core.If):
+            total += max(most_outs(x.yes, funs), most_outs(x.no, funs))
+    return total
 
 
 class Elaboration:
@@ -31,7 +48,7 @@ class Elaboration:
         try:
             body = getattr(self, 'declare_' + d.kind)(d, number)
             outs = most_outs(body.body, self.outs) if body is not None else 0
-            limit = exceeded(self.core, d, body, outs)
+            limit = self.exceeded(d, body, outs)
             if limit is not None:
                 line += ' limit ' + limit.values[0]
                 raise limit
@@ -41,31 +58,39 @@ class Elaboration:
         if d.kind == 'fun':
             self.outs.append(outs)
 
+    def exceeded(self, d: tree.Decl, body: Optional[core.Body], outs: int) -> Optional[Fault]:
+        """Limits: returns the first, in their order, that the newest declaration exceeds, with the place at which it does."""
+        params = d.params if d.kind in ('fun', 'event') else []
+        wide = [x.at for x in core.walk(body.body if body is not None else [])
+                if isinstance(x, core.Hash) and len(x.args) > 1 + MOST or isinstance(x, core.Say) and len(x.args) > MOST]
+        places = {'arrays': [d.at] if len(self.core.arrays) > MOST_ARRAYS else [],
+                  'array parameters': [p.at for p in params if p.type is None][MOST:],
+                  'value parameters': [p.at for p in params if p.type is not None][MOST:],
+                  'arguments': wide, 'outs': [d.at] if outs > MOST else [], 'cases': body.long_matches if body is not None else []}
+        return next((Fault('limit', found[0], name, outs) for name, found in places.items() if found), None)
+
     def declare_const(self, d: tree.Decl, _: int) -> None:
-        """An int whose number fits."""
-        width = int_width(d.type, d.at)
+        """Constants and arrays: an int whose number fits its width."""
+        width = int_width(d)
         self.names[d.name.text] = Entry('constant', width, number(width, d.size).value)
 
     def declare_global(self, d: tree.Decl, _: int) -> None:
-        """An array of 1 to 65,536 cells, written or a constant."""
-        width = check_width(d.width, d.at)
-        if isinstance(d.size, tree.Name):
-            size = Expressions(self.names).entry(d.size.name, d.size.at, 'constant').number
-        else:
-            size = d.size.value
-        if not 1 <= size <= 65536:
-            raise Fault('array size', d.size.at, size)
-        self.names[d.name.text] = Entry('array', width, array=core.ArrayName(True, len(self.core.arrays)))
-        self.core.arrays.append(core.ArrayDef(d.name.text, width, size, d.at))
+        """Constants and arrays: 1 to 65,536 cells, written or a constant."""
+        width, size = check_width(d.width, d.at), d.size
+        cells = Expressions(self.names).entry(size.name, size.at, 'constant').number if isinstance(size, tree.Name) else size.value
+        if not 1 <= cells <= 65536:
+            raise Fault('array size', size.at, cells)
+        self.names[d.name.text] = Entry('array', width, array=core.ArrayName(False, len(self.core.arrays)))
+        self.core.arrays.append(core.ArrayDef(d.name.text, width, cells, d.at))
 
     def declare_event(self, d: tree.Decl, _: int) -> None:
-        """Parameters are ints."""
-        widths = [int_width(p.type, p.at) for p in d.params]
+        """Events and handlers: parameters are ints."""
+        widths = [int_width(p) for p in d.params]
         self.names[d.name.text] = Entry('event', None, len(self.core.events), params=[(False, w) for w in widths])
         self.core.events.append(core.EventDef(d.name.text, widths))
 
     def declare_group(self, d: tree.Decl, _: int) -> None:
-        """1 to 8 switch numbers below 64, none twice."""
+        """Groups: 1 to 8 switch numbers below 64, none twice."""
         members = [m.value for m in d.members]
         for i, m in enumerate(d.members):
             if m.value >= 64 or m.value in members[:i] or i >= 8:
@@ -73,51 +98,45 @@ class Elaboration:
         self.names[d.name.text] = Entry('group', members=members)
 
     def declare_memop(self, d: tree.Decl, _: int) -> None:
-        """Two parameters of one width, which is also the answer's; the body has the shape of a memop."""
-        first, second = d.params
-        width = int_width(first.type, first.at)
-        other = int_width(second.type, second.at)
+        """Memops: both parameters are ints of one width, which is also the width of the answer."""
+        width, other = (int_width(p) for p in d.params)
         if other != width:
-            raise Fault('memop parameters', second.at, width, other)
-        names = self.names.new_child()
-        names[first.name] = Entry('local', width, 0)
-        names[second.name] = Entry('local', width, 1)
+            raise Fault('memop parameters', d.params[1].at, width, other)
+        names = self.names.new_child({p.name: Entry('local', width, i) for i, p in enumerate(d.params)})
         self.names[d.name.text] = Entry('memop', None, alu=Shape(names, width).memop(d))
         self.core.memops += 1
 
     def declare_handle(self, d: tree.Decl, number: int) -> core.Body:
-        """Names a visible event that has no handler yet, and repeats its parameters' widths."""
-        name = d.name
-        entry = Expressions(self.names).entry(name.text, name.at, 'event')
-        event = self.core.events[entry.number]
+        """Events and handlers: names a visible event that has no handler yet, and repeats the widths of its parameters."""
+        name, found = d.name, Expressions(self.names).entry(d.name.text, d.name.at, 'event')
+        event = self.core.events[found.number]
         if event.handler is not None:
             raise Fault('two handlers', name.at, name.text, notes=[(self.core.handlers[event.handler].at, 'the other handler')])
-        widths = [int_width(p.type, p.at) for p in d.params]
+        widths = [int_width(p) for p in d.params]
         if widths != event.params:
             raise Fault('handler widths', name.at, event.params, widths)
         made = self.body(d, number)
-        made.event, event.handler = entry.number, len(self.core.handlers)
+        made.event, event.handler = found.number, len(self.core.handlers)
         self.core.handlers.append(made)
         return made
 
     def declare_fun(self, d: tree.Decl, number: int) -> core.Body:
-        """Parameters are ints, bools and arrays; its name is not visible in its body."""
+        """Functions: parameters are ints, bools and arrays. Names: a function can't call itself."""
         made = self.body(d, number)
-        answer = None if d.type is None else value_type(d.type)
         params = [(p.type is None, p.width if p.type is None else value_type(p.type)) for p in d.params]
-        self.names[d.name.text] = Entry('fun', answer, len(self.core.funs), params=params)
+        self.names[d.name.text] = Entry('fun', d.type and value_type(d.type), len(self.core.funs), params=params)
         self.core.funs.append(made)
         return made
 
     def body(self, d: tree.Decl, number: int) -> core.Body:
-        """Types the body of a function or a handler; later parameters hide earlier ones of their name."""
-        answer = None if d.type is None else value_type(d.type)
-        made = core.Body(d.name.text, number, d.line, d.at, answer=None if answer is None else bits(answer))
+        """Functions: a function with a value returns one on every path; a later parameter hides an earlier one of its name."""
+        answer = d.type and value_type(d.type)
+        made = core.Body(d.name.text, number, d.line, d.at, answer=answer and bits(answer))
         rules = Statements(self.names.new_child(), made, self.core.forms, answer)
         for p in d.params:
             if p.type is None:
                 check_width(p.width, p.at)
-                rules.names[p.name] = Entry('array', p.width, array=core.ArrayName(False, len(made.arrays)))
+                rules.names[p.name] = Entry('array', p.width, array=core.ArrayName(True, len(made.arrays)))
                 made.arrays.append((p.name, p.width))
             else:
                 t = value_type(p.type)

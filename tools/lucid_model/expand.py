@@ -1,23 +1,23 @@
 """Functions over a width, written out before the tree is read (docs/LANGUAGE.md, Functions over a width)."""
 import re
-from dataclasses import dataclass
-from typing import Dict, List, NamedTuple, Optional, Set, Tuple
+from dataclasses import dataclass, field
+from typing import List, Optional, Set, Tuple
 
 from .lexer import Token, depth_behind
 from .refusals import Fault, Refused
 
 MOST_BYTES = 8388608
-Use = Tuple[int, int]  # the number of a template, and a width
 
 
-class Span(NamedTuple):
-    """Tokens from `first` to before `end`. In an instance of a template, `value` replaces its name `width`, and `name` is renamed."""
+@dataclass
+class Template:
+    """A function over a width: the tokens of its `fun`, of its name and behind it, its name for the width, and the used widths."""
 
     first: int
+    name: int
     end: int
-    width: Optional[str] = None
-    value: int = 0
-    name: int = -1
+    width: str
+    used: Set[int] = field(default_factory=set)
 
 
 @dataclass
@@ -31,79 +31,70 @@ class Expanded:
 def is_text(tokens: List[Token], at: int, *texts: str) -> bool:
     """Whether these are the tokens from here on; '' is any name."""
     here = tokens[at:at + len(texts)]
-    return len(here) == len(texts) and all(t.kind == 'name' if text == '' else t.text == text and t.kind != 'text'
-                                           for t, text in zip(here, texts))
+    return len(here) == len(texts) and all(t.kind == 'name' if text == '' else t.text == text for t, text in zip(here, texts))
 
 
-def template_at(tokens: List[Token], first: int) -> Optional[Span]:
-    """Returns the template whose `fun` is here: its name is the first before the first `{` that `(` follows."""
-    at = next((at for at in range(first + 4, len(tokens)) if tokens[at].text == '{'), len(tokens))
-    name = next((k for k in range(first + 4, at) if is_text(tokens, k, '', '(')), None)
-    braces = 0
-    for end in range(at, len(tokens)):
-        braces += {'{': 1, '}': -1}.get(tokens[end].text, 0)
-        if braces == 0:
-            return None if name is None else Span(first, end + 1, tokens[first + 2].text, 0, name)
-    return None
+def template_at(tokens: List[Token], first: int) -> Template:
+    """It extends to the `}` that closes its first `{`; its name is the first name before that `{` that is followed by `(`."""
+    name = braces = 0
+    for at in range(first + 4, len(tokens)):
+        if name == 0 and is_text(tokens, at, '', '('):
+            name = at
+        if tokens[at].text == '{' and name == 0:
+            break
+        if tokens[at].text == '{' or tokens[at].text == '}' and braces > 0:
+            braces += 1 if tokens[at].text == '{' else -1
+            if braces == 0:
+                return Template(first, name, at + 1, tokens[first + 2].text)
+    raise Refused(13, f'sizes: broken at token {first + 1}', Fault('template', tokens[first].at))
 
 
-def templates_of(tokens: List[Token]) -> List[Span]:
-    """Returns the templates: those that begin outside all brackets and outside earlier templates."""
-    found: List[Span] = []
+def templates_of(tokens: List[Token]) -> List[Template]:
+    """`fun <<w>>`, outside all brackets, begins a function over a width; two of them have two names."""
+    found: List[Template] = []
     brackets = 0
     for at, token in enumerate(tokens):
-        is_outside = brackets == 0 and (not found or at >= found[-1].end)
-        if token.text == 'fun' and is_outside and is_text(tokens, at, 'fun', '<<', '', '>>'):
-            template = template_at(tokens, at)
-            if template is None:
-                raise Refused(13, f'sizes: broken at token {at + 1}', Fault('template', token.at))
-            found.append(template)
+        if brackets == 0 and (not found or at >= found[-1].end) and is_text(tokens, at, 'fun', '<<', '', '>>'):
+            found.append(template_at(tokens, at))
         brackets = depth_behind(brackets, token)
+    names: Set[str] = set()
+    for name in (tokens[t.name] for t in found):
+        if name.text in names:
+            raise Refused(13, f'sizes: {name.text} twice', Fault('two templates', name.at, name.text))
+        names.add(name.text)
     return found
 
 
 class Writer:
-    """Writes the expanded text: substitutes widths and names in instances, and names in uses."""
+    """Writes the expanded text. `of` and `value` are the template of the tokens at hand and its width; outside there is none."""
 
-    def __init__(self, text: str, tokens: List[Token], templates: List[Span]) -> None:
-        self.text, self.tokens, self.templates = text, tokens, templates
-        self.numbers: Dict[str, int] = {tokens[t.name].text: k for k, t in enumerate(templates)}
-        ends = [0] + [t.end for t in templates]
-        self.outside = [Span(a, b) for a, b in zip(ends, [t.first for t in templates] + [len(tokens)])]
+    def __init__(self, text: str, tokens: List[Token], templates: List[Template]) -> None:
+        self.text, self.tokens = text, tokens
+        self.templates = {tokens[t.name].text: t for t in templates}
         runs = [len(run) for t in tokens if t.kind == 'name' for run in re.findall('_+', t.text)]
         self.line = '_' * (1 + max(runs, default=0))
-        self.used: List[Set[int]] = [set() for _ in templates]
         self.out: List[str] = []
         self.pieces: List[Tuple[int, int]] = []
         self.size = 0
 
-    def instance(self, use: Use) -> Span:
-        """Returns the tokens of a template behind its `fun <<w>>`, at a width."""
-        template = self.templates[use[0]]
-        return template._replace(first=template.first + 4, value=use[1])
-
-    def use_at(self, at: int, span: Span) -> Optional[Use]:
-        """Returns the template and the width that a use here names: `NAME << width >> (`."""
+    def use_at(self, at: int, of: Optional[Template], value: int) -> Optional[Tuple[Template, int]]:
+        """Returns the template and the width of a use here, which is a name, `<<`, a number or the name of the width, `>>` and `(`."""
         if not is_text(self.tokens, at, '', '<<') or not is_text(self.tokens, at + 3, '>>', '('):
             return None
-        name, width = self.tokens[at], self.tokens[at + 2]
-        if name.text not in self.numbers or width.kind != 'number' and (width.kind, width.text) != ('name', span.width):
+        template, width = self.templates.get(self.tokens[at].text), self.tokens[at + 2]
+        if template is None or width.kind != 'number' and (of is None or width.text != of.width):
             return None
-        return self.numbers[name.text], width.value if width.kind == 'number' else span.value
+        return template, width.value if width.kind == 'number' else value
 
-    def uses(self, span: Span) -> List[Use]:
-        """Returns all uses among these tokens."""
-        found = [self.use_at(at, span) for at in range(span.first, span.end)]
-        return [use for use in found if use is not None]
-
-    def find_used(self) -> None:
-        """Finds the pairs of a template and a width that are used outside all templates or in a used pair."""
-        waiting = [use for span in self.outside for use in self.uses(span)]
+    def find_used(self, first: int, end: int, of: Optional[Template] = None, value: int = 0) -> None:
+        """A use counts if it is outside all templates, or in one at a width that is used itself."""
+        waiting = [(first, end, of, value)]
         while waiting:
-            use = waiting.pop()
-            if use[1] not in self.used[use[0]]:
-                self.used[use[0]].add(use[1])
-                waiting += self.uses(self.instance(use))
+            first, end, of, value = waiting.pop()
+            for use in (self.use_at(at, of, value) for at in range(first, end)):
+                if use is not None and use[1] not in use[0].used:
+                    use[0].used.add(use[1])
+                    waiting.append((use[0].first + 4, use[0].end, *use))
 
     def put(self, piece: str, source: int) -> None:
         """Adds a piece to the text, with the place in the file that it comes from."""
@@ -113,56 +104,45 @@ class Writer:
         if self.size > MOST_BYTES:
             raise Refused(13, 'sizes: too long', Fault('too long', source, MOST_BYTES))
 
-    def put_before(self, at: int) -> None:
-        """Adds the blanks and comments before a token."""
-        start = self.tokens[at - 1].end if at > 0 else 0
-        self.put(self.text[start:self.tokens[at].at if at < len(self.tokens) else len(self.text)], start)
+    def put_before(self, token: Token) -> None:
+        """Adds the blanks and comments before a token, which stay."""
+        self.put(self.text[token.before:token.at], token.before)
 
-    def write(self, span: Span) -> None:
-        """Writes these tokens with the blanks and comments before each."""
-        at = span.first
-        while at < span.end:
+    def copy(self, first: int, end: int, of: Optional[Template] = None, value: int = 0) -> None:
+        """Adds tokens; the width replaces its name in each `<<w>>`, and a use and the name of an instance become its new name."""
+        at = first
+        while at < end:
             token = self.tokens[at]
-            self.put_before(at)
-            use = self.use_at(at, span)
-            if at == span.name:
-                piece, count = f'{token.text}{self.line}{span.value}', 1
+            self.put_before(token)
+            use, piece, count = self.use_at(at, of, value), token.text, 1
+            if of is not None and at == of.name:
+                piece = f'{piece}{self.line}{value}'
             elif use is not None:
-                piece, count = f'{token.text}{self.line}{use[1]}(', 5
-            elif span.width is not None and is_text(self.tokens, at, '<<', span.width, '>>'):
-                piece, count = f'<<{span.value}>>', 3
-            else:
-                piece, count = token.text, 1
+                piece, count = f'{piece}{self.line}{use[1]}(', 5
+            elif of is not None and is_text(self.tokens, at, '<<', of.width, '>>'):
+                piece, count = f'<<{value}>>', 3
             self.put(piece, token.at)
             at += count
 
-    def write_all(self) -> Expanded:
-        """Writes the text, with the used instances in place of each template, by rising width."""
-        for number, template in enumerate(self.templates):
-            self.write(self.outside[number])
-            self.put_before(template.first)
-            at = self.tokens[template.first].at
-            for k, value in enumerate(sorted(self.used[number])):
-                self.put('\n' if k > 0 else '', at)
-                self.put('fun ', at)
-                self.write(self.instance((number, value)))
-            if not self.used[number]:
-                self.put('\n', at)
-        self.write(self.outside[-1])
-        self.put_before(len(self.tokens))
-        return Expanded(''.join(self.out), self.pieces)
-
 
 def expand(text: str, tokens: List[Token]) -> Expanded:
-    """Returns the expansion of a text; refuses broken templates first, then names that are there twice."""
+    """The functions at the used widths replace the original, by rising width; one that is not used is dropped."""
     templates = templates_of(tokens)
     if not templates:
         return Expanded(text, [(0, 0)])
-    names: Set[str] = set()
-    for name in (tokens[t.name] for t in templates):
-        if name.text in names:
-            raise Refused(13, f'sizes: {name.text} twice', Fault('two templates', name.at, name.text))
-        names.add(name.text)
-    writer = Writer(text, tokens, templates)
-    writer.find_used()
-    return writer.write_all()
+    made = Writer(text, tokens, templates)
+    outside = list(zip([0] + [t.end for t in templates], [t.first for t in templates] + [len(tokens)]))
+    for first, end in outside:
+        made.find_used(first, end)
+    for t, (first, end) in zip(templates, outside):
+        made.copy(first, end)
+        made.put_before(tokens[t.first])
+        at = tokens[t.first].at
+        for number, value in enumerate(sorted(t.used)):
+            made.put('\n' if number > 0 else '', at)
+            made.put('fun ', at)
+            made.copy(t.first + 4, t.end, t, value)
+        if not t.used:
+            made.put('\n', at)
+    made.copy(*outside[-1])
+    return Expanded(''.join(made.out), made.pieces)

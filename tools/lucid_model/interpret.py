@@ -1,6 +1,6 @@
 """The whole step: one event runs its handler to its end (docs/LANGUAGE.md, What a program means)."""
 from dataclasses import dataclass
-from typing import Any, Dict, List, Optional, Tuple
+from typing import Dict, List, Optional, Tuple
 
 from . import core
 from .values import binary, hash_of, low, unary
@@ -24,14 +24,14 @@ def empty_cells(c: core.Core) -> Cells:
 
 
 class Run:
-    """The run of a handler: statements in order, operands and arguments from left to right."""
+    """The run of a handler: statements run in order, and operands and arguments are evaluated from left to right."""
 
     def __init__(self, c: core.Core, cells: Cells, now: int, me: int) -> None:
         self.core, self.cells = c, cells
         self.inputs = {'now': low(now, 32), 'me': me}
         self.outs: List[Out] = []
 
-    def value(self, x: core.Expr, arrays: List[int], held: Dict[int, int]) -> Optional[int]:
+    def value(self, x: core.Expr, arrays: List[core.ArrayName], held: Dict[int, int]) -> Optional[int]:
         """Evaluates an expression; both sides of `&&` and `||` are evaluated, and no expression can fault."""
         if isinstance(x, core.Fixed):
             return x.value
@@ -48,16 +48,15 @@ class Run:
             return low(parts[0], x.width)
         if isinstance(x, core.Hash):
             return hash_of(x.width, parts)
-        named = lambda name: name.number if name.declared else arrays[name.number]
         if isinstance(x, core.Touch):
-            cells = self.cells[named(x.array)]
+            cells = self.cells[x.array.among(arrays).number]
             i = parts[0] % len(cells)
             old = cells[i]
             cells[i] = x.set.apply(old, parts[2])
             return x.get.apply(old, parts[1]) if x.answers else None
-        return self.block(self.core.funs[x.number].body, [named(a) for a in x.arrays], dict(enumerate(parts)))[1]
+        return self.block(self.core.funs[x.number].body, [a.among(arrays) for a in x.arrays], dict(enumerate(parts)))[1]
 
-    def block(self, stmts: List[core.Stmt], arrays: List[int], held: Dict[int, int]) -> Tuple[bool, Optional[int]]:
+    def block(self, stmts: List[core.Stmt], arrays: List[core.ArrayName], held: Dict[int, int]) -> Tuple[bool, Optional[int]]:
         """Runs statements; says whether they returned, and with which value."""
         for s in stmts:
             parts = [self.value(x, arrays, held) for x in core.children(s)]
@@ -72,7 +71,7 @@ class Run:
             elif isinstance(s, core.Say):
                 self.outs.append(Out(s.form, parts))
             elif isinstance(s, core.Gen):
-                args, delay, to = s.split(parts)
+                args, delay, to = core.sent_parts(s, parts)
                 self.outs += [Out(s.event, args, delay or 0, target) for target in s.members or [to]]
         return False, None
 

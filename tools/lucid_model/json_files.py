@@ -3,7 +3,7 @@ import json
 import math
 import re
 from dataclasses import dataclass
-from typing import Any, List, Optional, Tuple
+from typing import Any, List, Optional
 
 from .refusals import Fault, Refused
 
@@ -11,21 +11,13 @@ MOST_NESTING = 127
 STRING = r'"(?:[^"\\]|\\.)*"'
 
 
-class NotJson(Exception):
-    """The text is no JSON from a place on, and why."""
-
-    def __init__(self, at: int, problem: str) -> None:
-        super().__init__(problem)
-        self.at, self.problem = at, problem
-
-
 def check_nesting(text: str) -> None:
-    """Refuses the first bracket, outside texts in quotes, with which too many lists and objects are in one another."""
+    """What both files share: at most 127 lists and objects are in one another; brackets in texts in quotes do not count."""
     depth = 0
     for piece in re.finditer(STRING + r'|[][{}]', text, re.DOTALL):
         depth += {'[': 1, '{': 1, ']': -1, '}': -1}.get(piece.group(), 0)
         if depth > MOST_NESTING:
-            raise NotJson(piece.start(), f'more than {MOST_NESTING} lists and objects in one another')
+            raise Fault('not JSON', piece.start(), f'more than {MOST_NESTING} lists and objects in one another')
 
 
 def check_pieces(text: str) -> None:
@@ -34,11 +26,11 @@ def check_pieces(text: str) -> None:
         word = piece.group()
         is_half = '\\u' in word and any(0xd800 <= ord(c) < 0xe000 for c in json.loads(word))
         if is_half or word[0] != '"' and math.isinf(float(word)):
-            raise NotJson(piece.start(), 'half of a surrogate pair, or a number that no float holds')
+            raise Fault('not JSON', piece.start(), 'half of a surrogate pair, or a number that no float holds')
 
 
 def number_of(digits: str) -> Any:
-    """Returns the number that digits alone write below 2^64; a float for any other number."""
+    """What both files share: a number is digits alone, below 2^64; any other is a float."""
     plain = digits.isdigit() and len(digits) <= 20 and int(digits) < 2 ** 64
     return int(digits) if plain else float(digits)
 
@@ -49,21 +41,21 @@ def is_number(value: Any) -> bool:
 
 
 def read_json(data: bytes) -> Any:
-    """Reads one JSON value in UTF-8, without a byte order mark; of equal keys the last counts."""
+    """What both files share: one JSON value in UTF-8, without a byte order mark; of equal keys the last counts."""
     def no_constant(word: str) -> None:
-        raise NotJson(text.index(word), f'{word} is no JSON')
+        raise Fault('not JSON', text.index(word), f'{word} is no JSON')
 
     text = data.decode('latin-1')
     try:
         data.decode('utf-8')
         check_nesting(text)
         value = json.loads(text, parse_int=number_of, parse_constant=no_constant)
-        check_pieces(text)
-        return value
     except UnicodeDecodeError as e:
-        raise NotJson(e.start, 'a byte that is no UTF-8') from None
+        raise Fault('not JSON', e.start, 'a byte that is no UTF-8') from None
     except json.JSONDecodeError as e:
-        raise NotJson(e.pos, e.msg.lower()) from None
+        raise Fault('not JSON', e.pos, e.msg.lower()) from None
+    check_pieces(text)
+    return value
 
 
 class File:
@@ -73,8 +65,8 @@ class File:
         self.status, self.name = status, name
         try:
             self.root = read_json(data)
-        except NotJson as stop:
-            raise self.refused('not JSON', Fault('not JSON', stop.at, stop.problem)) from None
+        except Fault as fault:
+            raise self.refused('not JSON', fault) from None
         if not isinstance(self.root, dict):
             raise self.refused('file', Fault('value', (), 'an object'))
         for key in self.root:
@@ -85,35 +77,34 @@ class File:
         """Returns a refusal of the file."""
         return Refused(self.status, f'{"scene" if self.name == "scenario" else self.name}: {line}', fault, self.name)
 
-    def bad(self, line: str, wanted: str, *path: Any) -> Refused:
-        """Returns the refusal of a key, as `links`, or of an item, as `links 3`; `path` leads on to the value at fault."""
-        words = line.split()
-        return self.refused(line, Fault('value', (*words[:1], *map(int, words[1:]), *path), wanted))
+    def ask(self, holds: bool, line: str, wanted: str, *path: Any) -> None:
+        """Refuses a key, as `links`, or an item, as `links 3`, unless it holds; `path` leads on to the value at fault."""
+        if not holds:
+            key, *item = line.split()
+            raise self.refused(line, Fault('value', (key, *map(int, item), *path), wanted))
 
     def number(self, key: str, least: int, most: int, default: Optional[int]) -> int:
         """Reads a number from the least to the most, or the default if the key is absent."""
         n = self.root.get(key, default)
-        if not is_number(n) or not least <= n <= most:
-            raise self.bad(key, f'a number from {least} to {most}' if most < 2 ** 64 - 1 else 'a number below 2^64')
+        wanted = f'a number from {least} to {most}' if most < 2 ** 64 - 1 else 'a number below 2^64'
+        self.ask(is_number(n) and least <= n <= most, key, wanted)
         return n
 
     def items(self, key: str) -> List[Any]:
         """Reads a list, which is empty if the key is absent."""
         found = self.root.get(key, [])
-        if not isinstance(found, list):
-            raise self.bad(key, 'a list')
+        self.ask(isinstance(found, list), key, 'a list')
         return found
 
     def numbers(self, line: str, item: Any, count: int, wanted: str) -> List[int]:
         """Reads an item that is a list of so many numbers."""
-        if not isinstance(item, list) or len(item) != count or not all(is_number(n) for n in item):
-            raise self.bad(line, wanted)
+        self.ask(isinstance(item, list) and len(item) == count and all(is_number(n) for n in item), line, wanted)
         return item
 
 
 @dataclass
 class Limits:
-    """The limits of a target, with their defaults."""
+    """The limits of a target, with the defaults of the table."""
 
     stages: int = 12
     tables: int = 16
@@ -125,7 +116,7 @@ class Limits:
 
 
 def read_limits(data: bytes) -> Limits:
-    """Reads a limits file."""
+    """The limits of a target: reads the file."""
     ranges = {'stages': (1, 32), 'tables': (1, 64), 'rows': (1, 1024), 'arrays': (1, 64), 'arms': (1, 64), 'bits': (1, 1048576),
               'recirc': (0, 65536)}
     file = File(data, 8, 'limits', list(ranges))

@@ -1,4 +1,4 @@
-"""Rows, products of tables, first fit, and the lines of a layout (docs/ERRORS.md, 7 nofit)."""
+"""Rows, products of tables, first fit, and the lines of a layout (docs/ERRORS.md, 7 nofit, and docs/SCENARIO.md on the limits)."""
 from itertools import accumulate
 from typing import FrozenSet, List, NamedTuple, Tuple
 
@@ -50,7 +50,7 @@ class Layout:
         self.stages: List[List[Table]] = [[] for _ in range(limits.stages)]
 
     def check_code(self) -> None:
-        """Refuses code whose bits, or the calls of one of whose arrays, exceed their limit."""
+        """7 nofit: refuses code whose bits, or the calls of one of whose arrays, exceed their limit."""
         code, limits = self.code, self.limits
         if code.bits() > limits.bits:
             raise Refused(7, f'nofit: bits {code.bits()}', Fault('bits', None, code, limits))
@@ -89,7 +89,7 @@ class Layout:
         return False
 
     def fit(self) -> None:
-        """Places all nodes in their order, or refuses the first that has no place."""
+        """7 nofit: places all nodes in their order, or refuses the first that has no place."""
         for number, n in enumerate(self.nodes):
             if not self.place(n):
                 raise Refused(7, f'nofit: node {number}', Fault('node', self.code.ops[n.ops[0]].at, self))

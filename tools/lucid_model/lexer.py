@@ -15,13 +15,13 @@ PIECE = re.compile(r'''(?P<blank>[ \t\n\r]+|//[^\n]*|/\*.*?\*/)
 
 
 class Token(NamedTuple):
-    """A token: its kind ('name', 'number', 'text', 'word' or 'sign'), its bytes, where it begins and ends, and a number's value."""
+    """A token: its kind ('name', 'number', 'text', 'word', 'sign' or 'end'), its bytes, where it and the blanks before it begin."""
 
     kind: str
     text: str
     at: int
-    end: int
-    value: int = 0
+    before: int
+    value: int = 0  # of a number
 
 
 def number_of(digits: str) -> int:
@@ -32,9 +32,9 @@ def number_of(digits: str) -> int:
 
 
 def lex(text: str) -> List[Token]:
-    """Returns the tokens of a text; refuses it at the first byte at which no blank, comment or token begins."""
+    """Returns the tokens of a text and then its end; refuses it at the first byte at which no blank, comment or token begins."""
     tokens: List[Token] = []
-    at = 0
+    at = before = 0
     while at < len(text):
         found = PIECE.match(text, at)
         value = number_of(found.group()) if found is not None and found.lastgroup == 'number' else 0
@@ -42,9 +42,10 @@ def lex(text: str) -> List[Token]:
             raise Refused(4, f'syntax: byte {at}', Fault('no token', at, text))
         if found.lastgroup != 'blank':
             kind = 'word' if found.group() in WORDS else found.lastgroup
-            tokens.append(Token(kind, found.group(), at, found.end(), value))
+            tokens.append(Token(kind, found.group(), at, before, value))
+            before = found.end()
         at = found.end()
-    return tokens
+    return tokens + [Token('end', '', at, before)]
 
 
 def depth_behind(depth: int, token: Token) -> int:

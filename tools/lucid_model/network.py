@@ -30,7 +30,7 @@ class Network:
             heapq.heappush(self.waiting[e.switch], (e.at, False, 0, 0, i, e.event, e.args))
 
     def arrival(self, tick: int, me: int, out: Out) -> Optional[Tuple[int, int]]:
-        """Returns the switch and the tick at which a sent event arrives, given the tick at which its sender entered; None if it is lost."""
+        """Scenarios: returns where and when a sent event arrives, given the tick at which its sender entered; None if it is lost."""
         departs = min(LAST, tick + self.limits.stages + self.limits.recirc + out.delay)
         if out.to is None or out.to == me:
             return me, departs
@@ -39,7 +39,7 @@ class Network:
         return None if latency is None or is_down else (out.to, min(LAST, departs + latency))
 
     def leave(self, tick: int, me: int, event: int, args: List[int], outs: List[Out]) -> None:
-        """Writes the block of an event, and makes what it sends wait or be lost."""
+        """Scenarios: writes the block of an event, and makes what it sends wait or be lost."""
         shown: List[Tuple[Out, bool]] = []
         for index, out in enumerate(outs):
             arrival = self.arrival(tick, me, out) if out.delay is not None else None
@@ -54,7 +54,7 @@ class Network:
         self.leave(p.now, p.me, p.event, p.args, p.outs())
 
     def turn(self, tick: int, me: int) -> None:
-        """A switch moves its packets, from the last stage on, and then takes the event that is ready first."""
+        """What a program means: a switch moves its packets, from the last stage on, and takes the event that was ready first."""
         if self.pipes:
             pipe = self.pipes[me]
             for k in reversed(range(len(pipe.slots))):

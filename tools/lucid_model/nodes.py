@@ -16,7 +16,7 @@ class Node:
 
 
 def nodes_of(code: Code) -> List[Node]:
-    """Returns the nodes in the order of their keys, those of one key in the order of the list."""
+    """The order of nodes: by their keys, those of one key in the order of the text."""
     found: List[Node] = []
     for i in sorted(range(len(code.ops)), key=lambda i: (code.ops[i].key(), i)):
         op = code.ops[i]

@@ -1,10 +1,12 @@
-"""The normal form: each handler becomes operations under the guard that the event is its own; calls are inlined here."""
+"""The normal form: each handler becomes operations under the guard that the event is its own; calls are inlined here.
+
+It follows the definition in crates/lucid_normal_spec/specs (Translate), and docs/ERRORS.md, The order of nodes, in its order.
+"""
 from dataclasses import dataclass
 from typing import Any, Dict, List, Optional, Tuple
 
 from . import core
 from .code import Code, Literal, Op, Operand
-from .inline import needs_move
 from .values import COMPARE
 
 
@@ -20,9 +22,14 @@ class Held:
 class Frame:
     """A body that is translated: the arrays of its array parameters, what holds its locals, and what it answers."""
 
-    arrays: List[int]
+    arrays: List[core.ArrayName]
     held: Optional[Dict[int, Held]]  # None behind a return
     answer: Optional[Held] = None
+
+
+def needs_move(test: core.Expr) -> bool:
+    """Whether a condition needs a move of its own: a number, a local and a call of a function do."""
+    return isinstance(test, (core.Fixed, core.Local, core.Fun))
 
 
 def number(value: int, width: int) -> Held:
@@ -62,8 +69,6 @@ class Translation:
         """Moves a value to a new field."""
         return self.emit('move', [value], self.new_field(value.width), at)
 
-    # ---- expressions
-
     def value(self, x: core.Expr, f: Frame) -> Optional[Held]:
         """Translates an expression; it may give no value."""
         if isinstance(x, core.Fixed):
@@ -80,26 +85,20 @@ class Translation:
         if isinstance(x, (core.Cast, core.Hash)):
             return self.emit('cast' if isinstance(x, core.Cast) else 'hash', parts, self.new_field(x.width), x.at)
         if isinstance(x, core.Touch):
-            array, width = self.array(x.array, f), x.get.width
+            array, width = x.array.among(f.arrays).number, x.get.width
             to = self.new_field(width) if x.answers else None
             self.emit('touch', parts, to, x.at, number=array, get=x.get, set=x.set, width=width)
             self.place = array + 1
             return to
         return self.call(x, parts, f)
 
-    def array(self, name: core.ArrayName, f: Frame) -> int:
-        """Returns the declared array that a name means in a frame."""
-        return name.number if name.declared else f.arrays[name.number]
-
     def call(self, x: core.Fun, args: List[Held], f: Frame) -> Optional[Held]:
         """Translates a call: the body, with the parameters held by the arguments."""
-        callee = Frame([self.array(a, f) for a in x.arrays], dict(enumerate(args)))
+        callee = Frame([a.among(f.arrays) for a in x.arrays], dict(enumerate(args)))
         outer, self.via = self.via, self.via + (x.at,)
         self.block(self.core.funs[x.number].body, callee)
         self.via = outer
         return callee.answer
-
-    # ---- statements
 
     def block(self, stmts: List[core.Stmt], f: Frame) -> None:
         """Translates statements one after another."""
@@ -121,7 +120,7 @@ class Translation:
         """One operation; for a group moves of the arguments and of the delay, and then one for each member."""
         if s.members is not None:
             parts = [self.move(p, s.at) for p in parts]
-        args, delay, to = s.split(parts)
+        args, delay, to = core.sent_parts(s, parts)
         for target in [to] if s.members is None else [number(m, 32) for m in s.members]:
             targets = [] if target is None else [target]
             self.emit_out('gen', args + [delay or number(0, 32)] + targets, s.at, s.event, targeted=target is not None)

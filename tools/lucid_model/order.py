@@ -1,4 +1,4 @@
-"""The order of arrays (docs/LANGUAGE.md, The order of arrays): what each body needs, found once, and its cycles."""
+"""The order of arrays: what each body needs, found once, and its cycles (docs/LANGUAGE.md, The order of arrays)."""
 from collections import deque
 from dataclasses import dataclass, field
 from typing import Deque, Dict, List, Optional, Tuple
@@ -19,6 +19,10 @@ class Scheme:
     needs: Dict[Tuple[Atom, ArrayName], Tuple[int, int]] = field(default_factory=dict)
 
 
+FIRST = ArrayName(True, 0)
+CALL = Scheme({FIRST: 0}, {(None, FIRST): (0, 0)})  # a call of an array is a function that needs its one array parameter
+
+
 class Walk:
     """Walks along a body in the order of evaluation, from the schemes of the functions before."""
 
@@ -27,34 +31,24 @@ class Walk:
         self.found = Scheme({None: body.at})
         self.walk(body.body)
 
-    def call(self, array: ArrayName, at: int) -> None:
-        """Adds a call: the array must not come before the position, which is then behind the array."""
-        for atom, before in self.found.ends.items():
-            self.found.needs.setdefault((atom, array), (before, at))
-        self.found.ends = {array: at}
-
-    def enter(self, x: core.Fun) -> None:
-        """A function's scheme, with the caller's arrays and places for its own."""
+    def enter(self, scheme: Scheme, arrays: List[ArrayName], at: int) -> None:
+        """A call judges the function's body from the caller's position, with the arrays that it passes."""
         def put(atom: Atom) -> Places:
-            if atom is None:
-                return self.found.ends
-            return {atom if atom.declared else x.arrays[atom.number]: x.at}
+            return self.found.ends if atom is None else {atom.among(arrays): at}
 
-        scheme = self.schemes[x.number]
         for atom, array in scheme.needs:
-            for before, at in put(atom).items():
-                for behind in put(array):
-                    self.found.needs.setdefault((before, behind), (at, x.at))
-        self.found.ends = {atom: at for end in scheme.ends for atom, at in put(end).items()}
+            for before, place in put(atom).items():
+                self.found.needs.setdefault((before, array.among(arrays)), (place, at))
+        self.found.ends = {atom: place for end in scheme.ends for atom, place in put(end).items()}
 
     def walk(self, nodes: List[core.Node]) -> None:
-        """Arguments come before a call, and a condition before its branches, which begin where it ends."""
+        """Arguments come before the call, and the condition of an `if` before its branches, which both begin where it ends."""
         for x in nodes:
             self.walk(core.children(x))
             if isinstance(x, core.Touch):
-                self.call(x.array, x.at)
+                self.enter(CALL, [x.array], x.at)
             elif isinstance(x, core.Fun):
-                self.enter(x)
+                self.enter(self.schemes[x.number], x.arrays, x.at)
             elif isinstance(x, core.If):
                 begin = self.found.ends
                 self.walk(x.yes)
@@ -72,15 +66,11 @@ class Order:
 
     def needed(self, x: ArrayName, y: ArrayName) -> bool:
         """Whether x must come before y."""
-        return (x, y) in self.scheme.needs or x.declared and y.declared and x.number < y.number
-
-    def key(self, x: ArrayName) -> Tuple[bool, int]:
-        """Declared arrays come first in a cycle, then parameters."""
-        return not x.declared, x.number
+        return (x, y) in self.scheme.needs or not y.is_param and x < y
 
     def cycle(self) -> Optional[List[ArrayName]]:
         """Returns a shortest cycle, begun with its earliest name; None exactly if there is a numbering."""
-        touched = sorted({a for pair in self.scheme.needs for a in pair if a is not None}, key=self.key)
+        touched = sorted({a for pair in self.scheme.needs for a in pair if a is not None})
         cycles = [cycle for cycle in (self.cycle_from(start, touched) for start in touched) if cycle is not None]
         return min(cycles, key=len, default=None)
 
@@ -93,7 +83,7 @@ class Order:
             if self.needed(path[-1], start):
                 return path
             for y in touched:
-                if y not in seen and self.key(y) > self.key(start) and self.needed(path[-1], y):
+                if y not in seen and y > start and self.needed(path[-1], y):
                     seen.add(y)
                     waiting.append(path + [y])
         return None
@@ -104,20 +94,20 @@ class Order:
             if len(path) == len(names):
                 return all(self.needed(a, b) for a, b in zip(path, path[1:] + path[:1]))
             return any(extends(path + [x]) for x, name in self.names.items()
-                       if name == names[len(path)] and x not in path and (not path or self.key(x) > self.key(path[0])))
+                       if name == names[len(path)] and x not in path and (not path or x > path[0]))
         return len(names) > 0 and extends([])
 
 
 def check_order(c: core.Core) -> None:
-    """Refuses the first function or handler that no numbering derives, with a cycle of what it needs."""
+    """The first declaration that no numbering allows is refused, with a cycle of what it needs."""
     schemes: List[Scheme] = []
     refused: Dict[int, Refused] = {}  # by the number of the declaration: all functions are walked before the handlers
     for number, body in enumerate(c.funs + c.handlers):
         found = Walk(schemes, body).found
         if number < len(c.funs):
             schemes.append(found)
-        names = {ArrayName(True, i): a.name for i, a in enumerate(c.arrays)}
-        names.update({ArrayName(False, i): name for i, (name, _) in enumerate(body.arrays)})
+        names = {ArrayName(False, i): a.name for i, a in enumerate(c.arrays)}
+        names.update({ArrayName(True, i): name for i, (name, _) in enumerate(body.arrays)})
         order = Order(found, names)
         cycle = order.cycle()
         if cycle is not None:

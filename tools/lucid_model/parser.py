@@ -6,20 +6,21 @@ from .lexer import Token, depth_behind
 from .reader import Reader, Stuck
 from .refusals import Fault, Refused
 
-MOST_BRACKETS, MOST_TOKENS, MOST_ELSES = 64, 256, 256
+MOST_NESTING = {'open brackets': 64, 'tokens since the last `;`, `{` or `}`': 256, '`else` in a declaration': 256}
 
 
 def check_nesting(tokens: List[Token]) -> None:
-    """Refuses the first token at which one of the three counts exceeds its limit."""
+    """The tree: refuses the first token at which one of the three limits on tokens is exceeded."""
     brackets = since = elses = 0
-    for number, token in enumerate(tokens):
+    for number, token in enumerate(tokens[:-1]):
         sign = token.text if token.kind == 'sign' else ''
         brackets = depth_behind(brackets, token)
         since = 0 if sign in (';', '{', '}') else since + 1
         elses += token.text == 'else'
-        if brackets > MOST_BRACKETS or since > MOST_TOKENS or elses > MOST_ELSES:
-            raise Refused(4, f'syntax: nesting at token {number + 1}', Fault('nesting', token.at))
-        goes_on = sign == '}' and number + 1 < len(tokens) and tokens[number + 1].text == 'else'
+        for count, (what, most) in zip((brackets, since, elses), MOST_NESTING.items()):
+            if count > most:
+                raise Refused(4, f'syntax: nesting at token {number + 1}', Fault('nesting', token.at, most, what))
+        goes_on = sign == '}' and tokens[number + 1].text == 'else'
         if sign in ('}', ';') and brackets == 0 and not goes_on:
             elses = 0
 
@@ -43,7 +44,7 @@ class Parser(Reader):
         return decls
 
     def decl(self, line: int) -> tree.Decl:
-        """decl, by its first word"""
+        """decl = "const" .. | "global" .. | "memop" .. | "event" .. | "handle" .. | "fun" .. | "group" .."""
         at = self.token.at
         d = tree.Decl(self.one_of('const', 'global', 'memop', 'event', 'handle', 'fun', 'group'), at, line)
         if d.kind == 'const':
@@ -51,16 +52,16 @@ class Parser(Reader):
         elif d.kind == 'global':
             d.width, d.name, d.size = self.read(self.array, self.name, '=', 'Array', '.', 'create', '(', self.size, ')', ';')
         elif d.kind == 'memop':
-            d.name, first, second, d.body = self.read(self.name, '(', self.value_param, ',', self.value_param, ')', self.block)
+            d.name, first, second, d.body = self.read(self.name, '(', self.plain, ',', self.plain, ')', self.block)
             d.params = [first, second]
         elif d.kind == 'event':
-            d.name, d.params = self.read(self.name, self.params, ';')
+            d.name, d.params = self.read(self.name, lambda: self.bracketed(self.param), ';')
         elif d.kind == 'group':
             d.name, d.members = self.read(self.name, '=', '{', lambda: self.several(self.number, '}'), ';')
         else:
             if d.kind == 'fun' and not self.take('void'):
                 d.type = self.type()
-            d.name, d.params, d.body = self.read(self.name, self.params, self.block)
+            d.name, d.params, d.body = self.read(self.name, lambda: self.bracketed(self.param), self.block)
         return d
 
     def size(self) -> Union[tree.Number, tree.Name]:
@@ -70,23 +71,19 @@ class Parser(Reader):
         name = self.name('a number or a name')
         return tree.Name(name.text, name.at)
 
-    def params(self) -> List[tree.Param]:
-        """"(" [ param { "," param } ] ")" """
-        return self.bracketed(lambda: self.array_param() if self.token.text == 'Array' else self.value_param())
-
-    def array_param(self) -> tree.Param:
-        """array name"""
+    def param(self) -> tree.Param:
+        """param = ( type | array ) name"""
         at = self.token.at
+        if self.token.text != 'Array':
+            return self.plain()
         width, name = self.read(self.array, self.name)
         return tree.Param(None, width, name.text, at)
 
-    def value_param(self) -> tree.Param:
+    def plain(self) -> tree.Param:
         """type name"""
         at = self.token.at
         ty, name = self.read(self.type, self.name)
         return tree.Param(ty, 0, name.text, at)
-
-    # ---- statements
 
     def block(self) -> List[tree.Stmt]:
         """block = "{" { stmt } "}" """
@@ -97,7 +94,7 @@ class Parser(Reader):
         return found
 
     def stmt(self) -> tree.Stmt:
-        """stmt, by its first word"""
+        """stmt = type name "=" expr ";" | .., by its first word"""
         at, word = self.token.at, self.token.text
         if word == 'if':
             return self.choice()
@@ -128,15 +125,15 @@ class Parser(Reader):
 
     def choice(self) -> tree.Cond:
         """choice = "if" "(" expr ")" block [ "else" ( block | choice ) ]"""
-        made = tree.Cond(None, None, None, self.token.at)
-        made.test, made.yes = self.read('if', '(', self.expr, ')', self.block)
-        if self.take('else'):
-            made.no = self.choice() if self.token.text == 'if' else self.block()
-        return made
+        at = self.token.at
+        test, yes = self.read('if', '(', self.expr, ')', self.block)
+        if not self.take('else'):
+            return tree.Cond(test, yes, None, at)
+        return tree.Cond(test, yes, [self.choice()] if self.token.text == 'if' else self.block(), at)
 
     def match(self) -> tree.Match:
         """"match" expr "with" case { case } [ "|" '_' "->" block ]"""
-        made = tree.Match(None, [], None, self.token.at)
+        made = tree.Match(None, [], [], self.token.at)
         (made.test,) = self.read('match', self.expr, 'with', '|')
         while True:
             made.cases.append(self.read(self.number, '->', self.block))
@@ -153,8 +150,8 @@ class Parser(Reader):
             return self.read(self.sent, ')')[0]
         if self.take('Event'):
             self.read('.')
-            form = tree.Delay if self.one_of('delay', 'locate') == 'delay' else tree.Locate
-            return form(*self.read('(', self.sent, ',', self.expr, ')'), at)
+            word = 'delay' if self.one_of('delay', 'locate') == 'delay' else 'to'
+            return tree.SentWith(word, *self.read('(', self.sent, ',', self.expr, ')'), at)
         return tree.SentCall(self.name('an event').text, self.bracketed(self.expr), at)
 
 

@@ -1,4 +1,4 @@
-"""Takes tokens from the left, and reads types and expressions by the grammar of docs/LANGUAGE.md (The tree)."""
+"""Takes tokens from the left, and reads types and expressions: one method for each line of docs/LANGUAGE.md, The tree."""
 from typing import Any, Callable, List, Union
 
 from . import tree
@@ -19,10 +19,10 @@ class Stuck(Exception):
 
 
 class Reader:
-    """Takes tokens by the next one alone, or by the next two; behind the last is one without text."""
+    """Takes tokens by the next one alone, or by the next two."""
 
     def __init__(self, tokens: List[Token], text: str) -> None:
-        self.tokens, self.text, self.here = tokens + [Token('end', '', len(text), len(text))], text, 0
+        self.tokens, self.text, self.here = tokens, text, 0
 
     @property
     def token(self) -> Token:
@@ -61,7 +61,7 @@ class Reader:
         return found
 
     def several(self, item: Callable[[], Any], close: str) -> List[Any]:
-        """item { "," item } close"""
+        """Reads items with commas between, and a closing bracket."""
         found = [item()]
         while self.take(','):
             found.append(item())
@@ -69,7 +69,7 @@ class Reader:
         return found
 
     def bracketed(self, item: Callable[[], Any]) -> List[Any]:
-        """"(" [ item { "," item } ] ")" """
+        """Reads items in parentheses, of which there may be none."""
         self.read('(')
         return [] if self.take(')') else self.several(item, ')')
 
@@ -81,8 +81,6 @@ class Reader:
         """Takes a number."""
         token = self.kind('number', 'a number')
         return tree.Number(token.value, token.at)
-
-    # ---- types
 
     def type(self) -> tree.Ty:
         """type = "int" [ width ] | "bool" """
@@ -101,16 +99,12 @@ class Reader:
             self.read('t')
         return self.width()
 
-    # ---- expressions
-
     def expr(self, level: int = 0) -> tree.Expr:
-        """Operands with operators of this level and tighter ones between; operators of one level group to the left."""
-        at = self.token.at
-        left = self.pre()
+        """expr to sum: operands with operators of this level and tighter ones between; those of one level group to the left"""
+        at, left = self.token.at, self.pre()
         loosest = len(LEVELS) - 1
         while level <= LEVEL_OF.get(self.token.text, -1) <= loosest:
-            sign_at, sign = self.token.at, self.token.text
-            self.here += 1
+            sign_at, sign = self.token.at, self.take(self.token.text)
             here = LEVEL_OF[sign]
             if here == SHIFTS:
                 left = tree.Shift(left, sign, self.number().value, at)

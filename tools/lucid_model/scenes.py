@@ -38,65 +38,58 @@ class SceneFile(File):
         self.core, self.scene = core, Scene()
 
     def read(self) -> Scene:
-        """Reads the keys in the order of the table."""
+        """Scenarios: reads the keys in the order of the table."""
         s = self.scene
         version = self.number('version', 1, 2, 1)
         s.switches = self.number('switches', 1, 64, 1)
         cells = sum(a.size for a in self.core.arrays)
-        if cells * s.switches > MOST_CELLS:
-            raise self.bad('switches', f'at most {MOST_CELLS // cells} switches of {cells} cells')
+        self.ask(cells * s.switches <= MOST_CELLS, 'switches', f'at most {MOST_CELLS // max(1, cells)} switches of {cells} cells')
         s.stop = self.number('stop', 0, 2 ** 64 - 1, None)
-        if s.stop * s.switches > MOST_TICKS:
-            raise self.bad('stop', f'at most {MOST_TICKS // s.switches}')
+        self.ask(s.stop * s.switches <= MOST_TICKS, 'stop', f'at most {MOST_TICKS // s.switches}')
         for i, item in enumerate(self.items('links')):
             self.link(f'links {i}', item)
-        if 'down' in self.root and version == 1:
-            raise self.bad('down', 'no windows without `"version": 2`')
+        self.ask('down' not in self.root or version == 2, 'down', 'no windows without `"version": 2`')
         for i, item in enumerate(self.items('down')):
             a, b, start, until = self.numbers(f'down {i}', item, 4, '[a, b, from, until]')
-            if (a, b) not in s.links or start >= until or i >= MOST_WINDOWS:
-                raise self.bad(f'down {i}', f'a linked pair, `from` below `until`, and at most {MOST_WINDOWS} windows')
+            self.ask((a, b) in s.links and start < until and i < MOST_WINDOWS, f'down {i}',
+                     f'a linked pair, `from` below `until`, and at most {MOST_WINDOWS} windows')
             s.down.append(item)
         s.events = [self.event(f'events {i}', item) for i, item in enumerate(self.items('events'))]
         s.steps = [self.step(f'steps {i}', item) for i, item in enumerate(self.items('steps'))]
         return s
 
     def link(self, key: str, item: Any) -> None:
-        """Adds a link: two different switches that no link before joins, and a latency."""
+        """Scenarios: a link joins two different switches that no link before joins, with a latency."""
         a, b, latency = self.numbers(key, item, 3, '[a, b, latency]')
-        if max(a, b) >= self.scene.switches or a == b or (a, b) in self.scene.links:
-            raise self.bad(key, f'two different switches below {self.scene.switches} that no link before joins')
-        if not 1 <= latency <= 65536:
-            raise self.bad(key, 'a latency from 1 to 65536')
+        self.ask(max(a, b) < self.scene.switches and a != b and (a, b) not in self.scene.links, key,
+                 f'two different switches below {self.scene.switches} that no link before joins')
+        self.ask(1 <= latency <= 65536, key, 'a latency from 1 to 65536')
         self.scene.links[a, b] = self.scene.links[b, a] = latency
 
     def event(self, key: str, item: Any) -> FileEvent:
-        """Reads an event with just its four keys; of several events of a name the last declared is meant."""
-        if not isinstance(item, dict) or set(item) != {'at', 'switch', 'name', 'args'}:
-            raise self.bad(key, 'an object with the keys `at`, `switch`, `name` and `args`, and no others')
+        """Scenarios: an event has just its four keys; of several events of a name the last declared is meant."""
+        self.ask(isinstance(item, dict) and set(item) == {'at', 'switch', 'name', 'args'}, key,
+                 'an object with the keys `at`, `switch`, `name` and `args`, and no others')
         at, switch, name, args = item['at'], item['switch'], item['name'], item['args']
-        if not is_number(at):
-            raise self.bad(key, 'a tick', 'at')
-        if not is_number(switch) or switch >= self.scene.switches:
-            raise self.bad(key, f'a switch below {self.scene.switches}', 'switch')
+        self.ask(is_number(at), key, 'a tick', 'at')
+        self.ask(is_number(switch) and switch < self.scene.switches, key, f'a switch below {self.scene.switches}', 'switch')
         number = self.core.event_named(name) if isinstance(name, str) else None
-        if number is None:
-            raise self.bad(key, 'the name of an event of the program', 'name')
-        if not isinstance(args, list) or not all(is_number(n) for n in args) or not self.core.fits(number, args):
-            raise self.bad(key, f'the arguments of {name}, numbers of these bits: {self.core.events[number].params}', 'args')
+        self.ask(number is not None, key, 'the name of an event of the program', 'name')
+        self.ask(isinstance(args, list) and all(is_number(n) for n in args) and self.core.fits(number, args), key,
+                 f'the arguments of {name}, numbers of these bits: {self.core.events[number].params}', 'args')
         return FileEvent(at, switch, number, args)
 
     def step(self, key: str, item: Any) -> Tuple:
-        """Reads ["enter"], ["go", slot] or ["look", name, cell]; of several arrays of a name the last declared is meant."""
+        """Steps: ["enter"], ["go", slot] or ["look", name, cell]; of several arrays of a name the last declared is meant."""
         parts = item if isinstance(item, list) else []
         arrays = [k for k, a in enumerate(self.core.arrays) if parts[1:2] == [a.name]]
         if parts == ['enter']:
             return ('enter',)
         if parts[:1] == ['go'] and len(parts) == 2 and is_number(parts[1]) and parts[1] <= MOST_SLOT:
             return ('go', parts[1])
-        if parts[:1] == ['look'] and len(parts) == 3 and is_number(parts[2]) and arrays:
-            return ('look', arrays[-1], parts[2])
-        raise self.bad(key, '["enter"], ["go", slot below 32] or ["look", array, cell]')
+        is_look = parts[:1] == ['look'] and len(parts) == 3 and is_number(parts[2]) and len(arrays) > 0
+        self.ask(is_look, key, '["enter"], ["go", slot below 32] or ["look", array, cell]')
+        return ('look', arrays[-1], parts[2])
 
 
 def read_scene(data: bytes, core: Core) -> Scene:

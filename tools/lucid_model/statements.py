@@ -2,17 +2,12 @@
 from typing import ChainMap, Dict, List, Optional, Tuple
 
 from . import core, tree
-from .bounds import MOST_CASES
 from .refusals import Fault
 from .types import BOOL, Entry, Expressions, Type, bits, number, value_type
 
 NEVER, SOME, ALWAYS = 'never', 'on some paths', 'always'
+MOST_CASES = 32
 Steps = Tuple[List[core.Stmt], str]  # statements, and on which paths they return
-
-
-def either(a: str, b: str) -> str:
-    """Returns on which paths an `if` with these branches returns."""
-    return a if a == b else SOME
 
 
 class Statements(Expressions):
@@ -28,54 +23,41 @@ class Statements(Expressions):
         self.made.names.append(name)
         return len(self.made.locals) - 1
 
-    # ---- blocks
-
-    def block(self, stmts: List[tree.Stmt]) -> Steps:
-        """Types a block, whose names end with it."""
-        outer = self.names
-        self.names = outer.new_child()
-        found = self.steps(stmts, 0)
-        self.names = outer
-        return found
-
-    def steps(self, stmts: List[tree.Stmt], first: int) -> Steps:
-        """Types statements from one on; one that returns on some path is the last."""
+    def block(self, stmts: List[tree.Stmt], begin: int = 0) -> Steps:
+        """If: a statement that returns on some path is the last of its block; `if (c) {A} rest` means `if (c) {A} else {rest}` if A
+        returns on every path. Names: a declaration is visible to the end of its block."""
+        outer, self.names = self.names, self.names.new_child()
         found: List[core.Stmt] = []
-        for i in range(first, len(stmts)):
-            if isinstance(stmts[i], tree.Cond):
-                one, has_rest = self.choice(stmts[i], stmts, i + 1)
-                more, ending = [one], one.ending
-            else:
-                has_rest = False
-                more, ending = self.statement(stmts[i])
-            found += more
-            if ending != NEVER and i + 1 < len(stmts) and not has_rest:
-                raise Fault('behind return', stmts[i + 1].at, notes=[(stmts[i].at, 'this returns ' + ending)])
+        ending, has_rest = NEVER, False
+        for i in range(begin, len(stmts)):
+            s = stmts[i]
             if ending != NEVER:
-                return found, ending
-        return found, NEVER
-
-    def choice(self, s: tree.Cond, stmts: List[tree.Stmt], behind: int) -> Tuple[core.If, bool]:
-        """Types an `if`; `if (c) {A} rest` means `if (c) {A} else {rest}` if A returns on every path. Also says whether that is so."""
-        test = self.value(BOOL, s.test)
-        yes, first = self.block(s.yes)
-        has_rest = s.no is None and first == ALWAYS
-        if has_rest:
-            no, second = self.steps(stmts, behind)
-        else:
-            no, second = self.block([s.no] if isinstance(s.no, tree.Cond) else s.no or [])
-        return core.If(test, yes, no, either(first, second), s.at), has_rest
+                raise Fault('behind return', s.at, notes=[(stmts[i - 1].at, 'this returns ' + ending)])
+            if isinstance(s, tree.Cond):
+                test, (yes, first) = self.value(BOOL, s.test), self.block(s.yes)
+                has_rest = s.no is None and first == ALWAYS
+                no, second = self.block(stmts, i + 1) if has_rest else self.block(s.no or [])
+                ending = first if first == second else SOME
+                found.append(core.If(test, yes, no, ending, s.at))
+            else:
+                more, ending = self.statement(s)
+                found += more
+            if has_rest:
+                break
+        self.names = outer
+        return found, ending
 
     def statement(self, s: tree.Stmt) -> Steps:
-        """Types a statement that is no `if`."""
+        """Locals and assignments, Calls of arrays, Generate, Return: types a statement that is no `if`."""
         if isinstance(s, tree.Match):
             return self.match(s)
         if isinstance(s, tree.Return):
-            return [self.returned(s)], ALWAYS
+            if (s.value is None) != (self.answer is None):
+                raise Fault('return', s.at, self.answer)
+            return [core.Return(None if s.value is None else self.value(self.answer, s.value), s.at)], ALWAYS
         if isinstance(s, tree.Declare):
             t = value_type(s.type)
-            value = self.value(t, s.value)
-            local = self.new_local(t, s.name)
+            value, local = self.value(t, s.value), self.new_local(t, s.name)
             self.names[s.name] = Entry('local', t, local)
             return [core.Assign(local, value, s.at)], NEVER
         if isinstance(s, tree.Assign):
@@ -83,20 +65,10 @@ class Statements(Expressions):
             return [core.Assign(entry.number, self.value(entry.type, s.value), s.at)], NEVER
         if isinstance(s, tree.Do):
             return [core.Drop(self.call(s.call) if isinstance(s.call, tree.Call) else self.access(s.call), s.at)], NEVER
-        if isinstance(s, tree.Printf):
-            return [self.printf(s)], NEVER
-        made = self.sends(s.sent)
-        made.at = s.at
-        return [made], NEVER
-
-    def returned(self, s: tree.Return) -> core.Return:
-        """A function with a value returns one of its type, everything else returns without a value."""
-        if (s.value is None) != (self.answer is None):
-            raise Fault('return', s.at, self.answer)
-        return core.Return(None if s.value is None else self.value(self.answer, s.value), s.at)
+        return [self.printf(s) if isinstance(s, tree.Printf) else self.sends(s.sent, s.at)], NEVER
 
     def match(self, s: tree.Match) -> Steps:
-        """Types a match: its test goes to a local of its own, and each case is an `if` in the `else` of the one before."""
+        """Match: the value is evaluated once, into a local of its own; each case is an `if` in the `else` of the one before."""
         if len(s.cases) > MOST_CASES:
             self.made.long_matches.append(s.at)
         width = self.free_width(s.test)
@@ -110,14 +82,14 @@ class Statements(Expressions):
                 raise Fault('two cases', case.at, case.value, notes=[(seen[case.value], 'the first of them')])
             seen[case.value] = case.at
             arms.append((core.Bin('==', core.Local(local, width, case.at), fixed, width, case.at), self.block(body)))
-        found, ending = self.block(s.last or [])
-        for equal, (body, arm_ending) in reversed(arms):
-            ending = either(arm_ending, ending)
+        found, ending = self.block(s.last)
+        for equal, (body, first) in reversed(arms):
+            ending = first if first == ending else SOME
             found = [core.If(equal, body, found, ending, equal.at)]
         return [core.Assign(local, test, s.at)] + found, ending
 
     def printf(self, s: tree.Printf) -> core.Say:
-        """Types a print, which has as many further arguments as its text has `%d`."""
+        """Printf: it has as many further arguments as its text has `%d`."""
         args = [self.free(x) for x in s.args]
         if s.text.count('%d') != len(args):
             raise Fault('holes', s.at, s.text.count('%d'), len(args))
@@ -125,22 +97,18 @@ class Statements(Expressions):
             self.forms.append(s.text)
         return core.Say(self.forms.index(s.text), args, s.at)
 
-    def sends(self, v: tree.Sent) -> core.Gen:
-        """Types what a `generate` sends: a call of an event, with at most one delay and one locate round it."""
+    def sends(self, v: tree.Sent, at: int) -> core.Gen:
+        """Generate: a call of a visible event, in at most one delay and one locate; a target may be the bare name of a group."""
         if isinstance(v, tree.SentCall):
             entry = self.entry(v.name, v.at, 'event')
-            return core.Gen(entry.number, self.given(v, entry)[1])
-        g = self.sends(v.inner)
-        if isinstance(v, tree.Delay):
-            if g.delay is not None:
-                raise Fault('second', v.at, 'delay')
-            g.delay = self.free(v.amount)
-            return g
-        if g.to is not None or g.members is not None:
-            raise Fault('second', v.at, 'locate')
-        group = self.names.get(v.to.name) if isinstance(v.to, tree.Name) else None
+            return core.Gen(entry.number, self.given(v, entry)[1], [], None, at)
+        made = self.sends(v.inner, at)
+        group = self.names.get(v.more.name) if v.word == 'to' and isinstance(v.more, tree.Name) else None
+        if v.word in made.extras or v.word == 'to' and made.members is not None:
+            raise Fault('second', v.at, 'delay' if v.word == 'delay' else 'locate')
         if group is not None and group.kind == 'group':
-            g.members = group.members
+            made.members = group.members
         else:
-            g.to, g.delay_first = self.free(v.to), g.delay is not None
-        return g
+            made.args.append(self.free(v.more))
+            made.extras.append(v.word)
+        return made

@@ -31,16 +31,15 @@ Infix = form('Infix', 'sign', 'left', 'right', 'sign_at')
 # Events that are sent.
 Sent = Any
 SentCall = form('SentCall', 'name', 'args')
-Delay = form('Delay', 'inner', 'amount')
-Locate = form('Locate', 'inner', 'to')
+SentWith = form('SentWith', 'word', 'inner', 'more')  # with a `delay`, or a target, which is the word `to`
 
 # Statements.
 Stmt = Any
 Declare = form('Declare', 'type', 'name', 'value')
 Assign = form('Assign', 'name', 'value')
 Do = form('Do', 'call')  # a call of a function or of an array as a statement
-Cond = form('Cond', 'test', 'yes', 'no')  # `no` is None, the statements of the `else`, or the `if` behind it
-Match = form('Match', 'test', 'cases', 'last')  # pairs of a number and statements, and the statements of the last arm or None
+Cond = form('Cond', 'test', 'yes', 'no')  # `no` are the statements of the `else`, just one where it is an `if`; or None
+Match = form('Match', 'test', 'cases', 'last')  # pairs of a number and statements, and the statements of the last arm
 Return = form('Return', 'value')
 Generate = form('Generate', 'sent')
 Printf = form('Printf', 'text', 'args')

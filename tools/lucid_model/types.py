@@ -31,19 +31,19 @@ def bits(t: Type) -> int:
 
 
 def check_width(width: int, at: int) -> int:
-    """Returns a width, which must be 1 to 64."""
+    """Types and places: a width is 1 to 64."""
     if not 1 <= width <= 64:
         raise Fault('width', at, width)
     return width
 
 
 def value_type(ty: tree.Ty) -> Type:
-    """Returns the type that is written; `int` is `int<<32>>`."""
+    """Types and places: `int` is `int<<32>>`."""
     return check_width(32 if ty.width is None else ty.width, ty.at) if ty.is_int else BOOL
 
 
 def number(width: int, e: tree.Number) -> core.Fixed:
-    """Types a number, which must fit its place."""
+    """Types and places: a number must fit its place."""
     if e.value >= 2 ** width:
         raise Fault('number', e.at, e.value, width)
     return core.Fixed(width, e.value, e.at)
@@ -56,16 +56,14 @@ class Expressions:
         self.names = names
 
     def entry(self, name: str, at: int, *kinds: str) -> Entry:
-        """Returns what a visible name means, which must be of one of these kinds."""
+        """Names: returns what a visible name means, which must be of one of these kinds."""
         found = self.names.get(name)
         if found is None or found.kind not in kinds:
             raise Fault('name', at, name, ' or '.join(kinds), found and found.kind)
         return found
 
-    # ---- the widths of free places
-
     def leaf_width(self, e: tree.Expr) -> Optional[int]:
-        """Returns the width of the first leaf, from the left, that is no number; None if all are numbers."""
+        """Free places: returns the width of the first leaf that is no number; None if all are numbers."""
         if isinstance(e, tree.Number):
             return None
         if isinstance(e, tree.Paren):
@@ -81,7 +79,7 @@ class Expressions:
         return found
 
     def own_type(self, e: tree.Expr) -> Optional[Type]:
-        """Returns the type of an expression that has one of its own; None if it gives no value."""
+        """Casts, hashes, the switch and the time: returns the type of what has one of its own; None if it gives no value."""
         if isinstance(e, tree.Name):
             return self.entry(e.name, e.at, 'local', 'constant').type
         if isinstance(e, (tree.Cast, tree.Hash)):
@@ -96,26 +94,15 @@ class Expressions:
         return BOOL
 
     def free_width(self, *es: tree.Expr) -> int:
-        """Returns the width of a free place that these expressions share: 32 if all leaves are numbers."""
-        for e in es:
-            width = self.leaf_width(e)
-            if width is not None:
-                return width
-        return 32
+        """Free places: returns the width that these expressions share, which is 32 if all leaves are numbers."""
+        return next((width for width in map(self.leaf_width, es) if width is not None), 32)
 
     def free(self, e: tree.Expr) -> core.Expr:
-        """Types an expression at a free place of its own."""
+        """Free places: types an expression at a place of its own."""
         return self.value(self.free_width(e), e)
 
-    # ---- expressions
-
-    def must_be(self, asked: Type, found: Optional[Type], at: int) -> None:
-        """Asks that a type is the one that the place asks for."""
-        if asked != found:
-            raise Fault('type', at, asked, found)
-
     def value(self, asked: Type, e: tree.Expr) -> core.Expr:
-        """Types an expression at a place that asks for a type."""
+        """Types and places: types an expression at a place that expects a type."""
         if isinstance(e, tree.Paren):
             return self.value(asked, e.inner)
         if isinstance(e, tree.Number):
@@ -124,7 +111,9 @@ class Expressions:
             return number(asked, e)
         if isinstance(e, (tree.Shift, tree.Prefix, tree.Infix)):
             return self.operation(asked, e)
-        self.must_be(asked, self.own_type(e), e.at)
+        found = self.own_type(e)
+        if asked != found:
+            raise Fault('type', e.at, asked, found)
         if isinstance(e, tree.Truth):
             return core.Fixed(1, int(e.value), e.at)
         if isinstance(e, tree.Name):
@@ -141,11 +130,12 @@ class Expressions:
         return core.Input(e.name, e.at)
 
     def operation(self, asked: Type, e: Union[tree.Shift, tree.Prefix, tree.Infix]) -> core.Expr:
-        """Types an operator: arithmetic takes and gives the asked width, a comparison two ints of one free place."""
+        """Types and places: arithmetic takes and gives the expected width, a comparison two ints of one free place."""
         sign = e.sign
         at = e.sign_at if isinstance(e, tree.Infix) else e.at
         if sign == '!' or sign in LOGIC or sign in COMPARE:
-            self.must_be(asked, BOOL, at)
+            if asked != BOOL:
+                raise Fault('type', at, asked, BOOL)
             if sign == '!':
                 return core.Un('~', 0, self.value(BOOL, e.arg), 1, at)
             width = BOOL if sign in LOGIC else self.free_width(e.left, e.right)
@@ -156,15 +146,13 @@ class Expressions:
             return core.Bin(sign, self.value(asked, e.left), self.value(asked, e.right), asked, at)
         return core.Un(sign, e.amount if isinstance(e, tree.Shift) else 0, self.value(asked, e.arg), asked, at)
 
-    # ---- calls
-
     def call(self, e: tree.Call) -> core.Fun:
-        """Types a call of a function: a value for each value parameter, a bare name for each array parameter."""
+        """Calls: types a call of a function."""
         entry = self.entry(e.name, e.at, 'fun')
         return core.Fun(entry.number, *self.given(e, entry), e.at)
 
     def given(self, call: Union[tree.Call, tree.SentCall], entry: Entry) -> Tuple[List[core.ArrayName], List[core.Expr]]:
-        """Types the arguments of a function or an event, one for each parameter."""
+        """Calls: passes a value for each value parameter, and for each array parameter the bare name of an array."""
         if len(call.args) != len(entry.params):
             raise Fault('arguments', call.at, call.name, len(entry.params), len(call.args))
         arrays: List[core.ArrayName] = []
@@ -182,7 +170,7 @@ class Expressions:
         return arrays, values
 
     def access(self, e: tree.Access) -> core.Touch:
-        """Types a call of an array; without a named memop, the stored value or the argument is returned."""
+        """Calls of arrays: what a call answers and stores, by the table; each is a memop of the cells' width."""
         array = self.entry(e.array, e.at, 'array')
         width = array.type
         index = self.free(e.index)

@@ -1,24 +1,18 @@
-"""Calls with mutated files: bytes flipped, cut and doubled; tokens exchanged, dropped, doubled and put in the place of others.
+"""Changes texts: bytes flipped, cut and doubled; tokens exchanged, dropped, doubled and put in the place of others.
 
-Each call must end with a status and a line that docs/ERRORS.md lists, never by a signal, out of memory or with a write fault. A number
-makes the same call each time: `--runs 1 --seed NUMBER --keep FOLDER` makes one again and keeps its files. Fails on a program that accepts
-nothing, or reports `memory`, since a least number of calls must be accepted. Sees no wrong answer that is listed; `drawn` compares mutated
-texts with the second implementation.
+`bases()` are calls of tests/rows and of the examples whose files may be changed, by the form of their words.
 """
 from __future__ import annotations
 
 import random
 import re
-import shutil
-from collections import Counter
 from dataclasses import dataclass
-from pathlib import Path
-from typing import Dict, List, Sequence, Tuple
+from functools import lru_cache
+from typing import Dict, List, Tuple
 
-from harness import EXAMPLES, TOP, Ended, Group, is_well_ended, shell
-from rowfile import read_rows
+from harness import EXAMPLES, TOP
+from rowfile import all_rows
 
-COUNT = 2000
 MOST = 4096
 FILES = {"check": 1, "once": 1, "expand": 1, "layout": 2, "drive": 3, "audit": 3, "snap": 3, "run": 4}
 TOKEN = re.compile(rb'[ \t\r\n]+|[A-Za-z_0-9]+|"[^"\n]*"|[|][+-][|]|&&|[|][|]|==|!=|<=|>=|<<|>>|->|.', re.S)
@@ -47,18 +41,24 @@ class Base:
         return [word for word in names if len(self.files.get(word, b" " * MOST)) < MOST]
 
 
-def bases() -> List[Base]:
-    """The calls of tests/rows and of the examples that read their files, and others over the same files."""
-    found: List[Base] = []
-    for path in sorted((TOP / "tests/rows").glob("*.rows")):
-        if path.name not in ("large.rows", "files.rows"):
-            found += [Base(tuple(row.words), row.files) for row in read_rows(path)[0] if row.status not in (1, 2, 3)]
+@lru_cache
+def bases() -> List[List[Base]]:
+    """The calls of tests/rows and of the examples that read their files, and others over the same files, by the form of their words."""
+    found = [
+        Base(tuple(row.words), row.files)
+        for row in all_rows()
+        if row.path.name not in ("large.rows", "files.rows") and row.status not in (1, 2, 3)
+    ]
     for path in sorted(EXAMPLES.iterdir()):
         if path.suffix in (".once", ".run", ".layout"):
             words = tuple(path.read_text().split("\n", 1)[0].split())
             found.append(Base(words, {word: (TOP / word).read_bytes() for word in words if (TOP / word).is_file()}))
     found += [other for base in found for other in others(base)]
-    return [base for base in found if base.inputs()]
+    forms: Dict[Tuple[str, ...], List[Base]] = {}
+    for base in found:
+        if base.inputs():
+            forms.setdefault(base.words[: 2 if base.words[0] == "run" else 1], []).append(base)
+    return [forms[form] for form in sorted(forms)]
 
 
 def others(base: Base) -> List[Base]:
@@ -69,14 +69,6 @@ def others(base: Base) -> List[Base]:
         files = base.words[2:5]
         return [Base((*verb.split(), *files[:count]), base.files) for verb, count in (("layout", 2), ("drive", 3), ("run pipe", 3))]
     return []
-
-
-def by_form(found: List[Base]) -> List[List[Base]]:
-    """The calls of each form of words."""
-    forms: Dict[Tuple[str, ...], List[Base]] = {}
-    for base in found:
-        forms.setdefault(base.words[: 2 if base.words[0] == "run" else 1], []).append(base)
-    return [forms[form] for form in sorted(forms)]
 
 
 def change_tokens(draw: random.Random, tokens: List[bytes], words: List[bytes]) -> None:
@@ -147,41 +139,3 @@ def mutated(draw: random.Random, text: bytes, words: List[bytes]) -> bytes:
         for _ in range(1 + draw.randrange(3)):
             text = change_bytes(draw, text)
     return text
-
-
-def call_of(forms: List[List[Base]], number: int) -> Tuple[Base, Dict[str, bytes]]:
-    """The call of a number, with one of its files mutated; each form of words is drawn as often as another."""
-    draw = random.Random(number)
-    base = draw.choice(draw.choice(forms))
-    names = base.inputs()
-    name = draw.choice(names)
-    words = WORDS if name == names[0] else JSON_WORDS
-    return base, {**base.files, name: mutated(draw, base.files[name], words)}
-
-
-def make(group: Group, base: Base, files: Dict[str, bytes], number: int) -> Ended:
-    """Makes a call in a folder of its files, and keeps the folder if the call fails and the options say so."""
-    room = group.room / str(number)
-    for name, text in files.items():
-        (room / name).parent.mkdir(parents=True, exist_ok=True)
-        (room / name).write_bytes(text)
-    ended = shell('ulimit -S -t 20; ulimit -S -s 8192; exec "$@"', group.options.program, *base.words, cwd=room)
-    if not group.check(f"number {number}: {' '.join(base.words)}", is_well_ended(ended), ended) and group.options.keep:
-        shutil.copytree(room, group.options.keep / str(number))
-    shutil.rmtree(room)
-    return ended
-
-
-def run_numbers(group: Group, numbers: Sequence[int]) -> Counter:
-    """Makes the calls of these numbers, and counts their statuses."""
-    forms = by_form(bases())
-    return Counter(it.status for it in group.side_by_side(lambda number: make(group, *call_of(forms, number), number), numbers))
-
-
-def run(group: Group) -> None:
-    count = group.options.runs or COUNT
-    statuses = run_numbers(group, range(group.options.seed, group.options.seed + count))
-    group.note("mutated: " + ", ".join(f"{status}: {statuses[status]}" for status in sorted(statuses)))
-    if count >= COUNT:
-        for status in 0, 4, 5, 8, 9, 12:
-            group.check(f"enough calls end with {status}", statuses[status] >= count // 100, statuses[status])

@@ -1,9 +1,9 @@
 #!/usr/bin/env python3
 """How many drawn cases it takes to see a wrong meaning: faults of one line in copies of the second implementation.
 
-    tests/faults.py [--runs N] [--seed S] [--only WORD]
+    tests/drawn/faults.py [--runs N] [--seed S] [--only WORD]
 
-Each fault of FAULTS changes one text in a file of tools/lucid_model, on a copy. The cases that tests/drawn.py draws from the seed are
+Each fault of FAULTS changes one text in a file of tools/lucid_model, on a copy. The cases that `tests/run drawn` draws from the seed are
 answered by the copy, one after another, until its answer is another than that of the unchanged implementation. The output is a table
 with the number of that case, counted from 1. The status is 1 if a fault is not found, or if its text is not in its file exactly once.
 
@@ -23,11 +23,11 @@ from dataclasses import dataclass
 from pathlib import Path
 from typing import List, Optional, Tuple
 
-TOP = Path(__file__).resolve().parent.parent
+TOP = Path(__file__).resolve().parents[2]
 sys.dont_write_bytecode = True
 sys.path[:0] = [str(TOP / 'tests'), os.environ.get('LUCID_MODEL', str(TOP / 'tools'))]
-import lucid_model  # noqa: E402, F401; before drawn, which looks for it in tools/
-from drawn import Case, command_of, draw_case  # noqa: E402
+import lucid_model  # noqa: E402, F401; before the cases, which look for it in tools/
+from drawn.cases import Case, draw_case  # noqa: E402
 from lucid_tools.stack import deeply  # noqa: E402
 
 Given = Tuple[int, bytes, bytes]  # an exit code and both streams
@@ -53,17 +53,17 @@ FAULTS = [
     Fault('a free place of 32 bits if its first leaf is a number', 'types.py',
           'self.leaf_width(e.right) if left is None else left', 'left'),
     Fault('no else for the rest after an if that returns', 'statements.py', 's.no is None and first == ALWAYS', 'False'),
-    Fault('outs of both branches added', 'bounds.py', 'max(most_outs(x.yes, funs), most_outs(x.no, funs))',
+    Fault('outs of both branches added', 'declarations.py', 'max(most_outs(x.yes, funs), most_outs(x.no, funs))',
           'most_outs(x.yes, funs) + most_outs(x.no, funs)'),
     Fault('calls of arrays in a first branch forgotten', 'order.py', '{**first, **self.found.ends}', 'self.found.ends'),
-    Fault('instances by falling width', 'expand.py', 'enumerate(sorted(self.used[number]))',
-          'enumerate(sorted(self.used[number], reverse=True))'),
+    Fault('instances by falling width', 'expand.py', 'enumerate(sorted(t.used))', 'enumerate(sorted(t.used, reverse=True))'),
     Fault('an index beyond the array is its last cell', 'interpret.py', 'i = parts[0] % len(cells)',
           'i = min(parts[0], len(cells) - 1)'),
     Fault('a group of which one member gets the event', 'interpret.py', 's.members or [to]', '(s.members or [to])[:1]'),
     Fault('no moves before the events of a group', 'normal.py', '[self.move(p, s.at) for p in parts]', 'parts'),
-    Fault('outs of a second branch behind those of the first', 'normal.py', '(Literal(bit, True, truth),), place, slot',
-          '(Literal(bit, True, truth),), place, self.slot'),
+    Fault('outs behind an if in the slots of its branches', 'normal.py', 'max(end[2] for end in ends)', 'slot'),
+    Fault('calls behind an if before those in its branches', 'normal.py', 'max(end[1] for end in ends)', 'place'),
+    Fault('no join of an answer that both branches hold by the same', 'normal.py', 'if yes == no and not always:', 'if yes == no:'),
     Fault('guards that do not keep what they read', 'passes.py', 'read.update(op.reads())',
           'read.update(x.value for x in op.operands if x.is_field)'),
     Fault('a test of another width made direct', 'passes.py', 'op.width != code.widths[left.value] or ', ''),
@@ -73,7 +73,7 @@ FAULTS = [
           'len(self.arrays(k)) > self.limits.arrays'),
     Fault('a node beside what it reads', 'layout.py', 'max((s + 1 for', 'max((s for'),
     Fault('rows that never decide are kept', 'layout.py', ' and not any(row.pattern <= pattern for row in kept)', ''),
-    Fault('a placed node beside what it reads', 'audit.py', 'made.pairs[j][0] >= made.pairs[i][0]', 'made.pairs[j][0] > made.pairs[i][0]'),
+    Fault('a placed node beside what it reads', 'audit.py', 'made.pairs[j][0] < made.pairs[i][0]', 'made.pairs[j][0] <= made.pairs[i][0]'),
     Fault('later rows that match act, too', 'pipe.py', 'break', 'pass'),
     Fault('a window one tick too long', 'network.py', 'start <= departs < until', 'start <= departs <= until'),
     Fault('events that became ready at one tick by switch, then tick', 'network.py', 'True, tick, me, index,', 'True, me, tick, index,'),
@@ -136,7 +136,7 @@ def main() -> int:
             found = dict(zip(waiting, pool.map(lambda fault: search(fault, data), waiting)))
         for fault, number in found.items():
             if number is not None:
-                print(f'| {fault.name} | `{fault.file}` | {first + number + 1} | `{command_of(cases[number].words)}` |', flush=True)
+                print(f'| {fault.name} | `{fault.file}` | {first + number + 1} | `{cases[number].command}` |', flush=True)
         waiting = [fault for fault, number in found.items() if number is None]
     for fault in waiting:
         print(f'| {fault.name} | `{fault.file}` | not found in {a.runs} | |')

@@ -1,4 +1,4 @@
-"""Draws programs for tests/drawn.py: mostly accepted ones, with each form of the language, and slips now and then.
+"""Draws programs: mostly accepted ones, with each form of the language, and slips now and then.
 
 `Program(random).text()` is a program; its arrays and events are kept, so that scenarios can be drawn for it. Arrays are called in
 the order of their declarations, but for a slip. Conditions compare parameters with few numbers, so that branches within one another
@@ -220,6 +220,8 @@ class Program:
         if returns and b.depth < 4 and self.chance(0.2):
             test = self.truth(b, 1)
             yes, no = self.branches(b, [lambda: self.block(b, indent + '  ', True), lambda: self.block(b, indent + '  ', True)])
+            if b.answer > 0 and yes[-1].lstrip().startswith('return') and no[-1].lstrip().startswith('return') and self.chance(0.3):
+                yes[-1] = no[-1] = f'{indent}  return {self.leaf(b, b.answer)};'
             lines += [f'{indent}if ({test}) {{'] + yes + [f'{indent}}} else {{'] + no + [f'{indent}}}']
         elif returns:
             lines.append(f'{indent}return;' if b.answer < 0 else f'{indent}return {self.expr(b, b.answer)};')

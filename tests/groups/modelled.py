@@ -1,0 +1,41 @@
+"""The second implementation of tools/lucid_model answers each call of tests/rows as the row says, byte by byte.
+
+Fails on another byte, status or line of the second implementation in any row; but of an `order:` refusal it takes each cycle that the
+order allows. Leaves out full outputs and memory that ends, which it cannot have. Sees nothing of programs that no row has.
+"""
+from __future__ import annotations
+
+from concurrent.futures import ProcessPoolExecutor
+from typing import List, Tuple
+
+from harness import Ended, Group
+from model import agrees, deeply, judge
+from rowfile import Row, all_rows
+
+PIECES = 16
+OTHER_STREAMS = {10, 11}
+
+
+def differs(rows: List[Row]) -> List[Tuple[str, str]]:
+    """The rows that the second implementation answers otherwise, each with its answer."""
+
+    def work() -> List[Tuple[str, str]]:
+        found = []
+        for row in rows:
+            made = judge(row.words, row.read)
+            ended = Ended(made.status, made.out, made.err)
+            if not row.holds(ended) and (row.accepts or not agrees(made, row.status, row.out, row.err)):
+                found.append((f"{row.name}: {row.title}", str(ended)))
+        return found
+
+    return deeply(work)
+
+
+def run(group: Group) -> None:
+    rows = [row for row in all_rows() if row.status not in OTHER_STREAMS]
+    with ProcessPoolExecutor(group.options.jobs) as pool:
+        failed = [pair for pairs in pool.map(differs, [rows[at::PIECES] for at in range(PIECES)]) for pair in pairs]
+    for name, ended in failed:
+        group.check(name, False, ended)
+    group.passed += len(rows) - len(failed)
+    group.check("there are 1,800 rows", len(rows) >= 1800, len(rows))
