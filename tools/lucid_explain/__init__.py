@@ -24,7 +24,7 @@ GREATEST = Limits(stages=32, tables=64, rows=1024, arrays=64, arms=64, bits=1048
 
 @dataclass
 class Explanation:
-    """A refusal that is explained: its line, its words, its place where it has one, and what else is to be said."""
+    """A refusal that is explained: its line, its words, its place where it has one, what else is to be said, and the nodes."""
 
     refusal: str
     status: int
@@ -32,6 +32,7 @@ class Explanation:
     place: Optional[Place] = None
     notes: List[Tuple[Place, str]] = field(default_factory=list)
     details: List[str] = field(default_factory=list)
+    table: List[str] = field(default_factory=list)
 
     def lines(self) -> List[str]:
         """The explanation, without the refusal's own line."""
@@ -40,7 +41,7 @@ class Explanation:
         lines += [f'rule: {self.words.rule}', f'remedy: {self.words.remedy}']
         for place, text in self.notes:
             lines += [f'{place.head()}: note: {text}'] + place.shown()
-        return lines + self.details
+        return lines + self.details + self.table
 
     def data(self) -> Dict[str, Any]:
         """The explanation as JSON."""
@@ -55,8 +56,9 @@ def explanation_of(answer: Answer) -> Explanation:
     refused, sources = answer.refused, Sources(answer)
     fault, at, more = refused.fault, refused.fault.at, {}
     if isinstance(at, tuple):
+        key = str(at[0]) if at else ''
         at, found = sources.span(refused.file, at, fault.rule == 'other key')
-        more = {'found': found} if fault.rule in ('value', 'other key') else {}
+        more = {'value': {'found': found, 'file': refused.file, 'key': key}, 'other key': {'found': found}}.get(fault.rule, {})
     if fault.rule == 'no token':
         more = {'at': at}
     words = words_of(fault.rule, fault.values, **more)
@@ -70,8 +72,10 @@ def explanation_of(answer: Answer) -> Explanation:
     if fault.values and isinstance(fault.values[0], Layout):
         fit = fault.values[0]
         described = Described(fit.code, sources)
-        made.details += described.why(fit) if refused.status == 7 else []
-        made.details += described.table(fit if refused.status == 7 else Layout(fit.code, fit.limits))
+        if refused.status == 7:
+            words.problem = described.problem(fit)
+            made.details += described.why(fit)
+        made.table = described.table(fit if refused.status == 7 else Layout(fit.code, fit.limits))
     return made
 
 

@@ -1,10 +1,12 @@
 """The nodes of a program in words, and why first fit finds no stage for one of them."""
+from dataclasses import replace
 from typing import Any, Dict, List, Optional
 
 from lucid_model.code import Code, Literal, Op, Operand
 from lucid_model.json_files import Limits
 from lucid_model.layout import Layout, product
 from lucid_model.nodes import Node, nodes_of
+from lucid_model.refusals import Refused
 from lucid_model.values import COMPARE
 
 from .places import Sources
@@ -68,6 +70,11 @@ class Described:
         place = self.sources.place('program', at)
         return f'{place.line}:{place.column}'
 
+    def where(self, i: int) -> str:
+        """The place of a node, and the calls through which it comes from there."""
+        ops = [self.code.ops[k] for k in self.nodes[i].ops]
+        return self.at(ops[0].at) + ''.join(' in ' + self.at(at) for at in reversed(ops[0].via if len(ops) == 1 else ()))
+
     def data(self, i: int, made: Optional[Layout]) -> Dict[str, Any]:
         """A node as JSON; `made` is a first fit that got so far."""
         n = self.nodes[i]
@@ -92,13 +99,10 @@ class Described:
             d = self.data(i, made)
             reads = ', '.join([f'node {k}' for k in d['reads']] + d['inputs']) or '-'
             shown = lambda key: '-' if d[key] is None else str(d[key])
-            place = f'{d["line"]}:{d["column"]}' + ''.join(' in ' + at for at in reversed(d['via']))
-            rows.append([str(i), place, d['what'], reads, shown('array'), shown('earliest'), shown('stage'),
+            rows.append([str(i), self.where(i), d['what'], reads, shown('array'), shown('earliest'), shown('stage'),
                          shown('table'), str(d['rows']), str(d['bits'])])
         widths = [min(46, max(len(row[k]) for row in rows)) for k in range(len(rows[0]))]
         return ['  '.join(cell.ljust(width) for cell, width in zip(row, widths)).rstrip() for row in rows]
-
-    # ---- why a node has no place
 
     def refusing(self, made: Layout, n: Node, k: int) -> str:
         """Says why a stage has no room for a node."""
@@ -129,29 +133,38 @@ class Described:
             stage = made.pairs[i][0] if i < len(made.pairs) else None
             if stage is not None and stage > earliest:
                 reasons = '; '.join(self.refusing(self.until(made, i), n, k) for k in range(earliest, stage))
-                lines.append(f'  node {i} could stand in stage {earliest}, but {reasons}')
+                lines.append(f'node {i} could stand in stage {earliest}, but {reasons}')
             if not behind:
                 return lines
             s, j = max(behind)
-            place = self.sources.place('program', self.code.ops[self.nodes[j].ops[0]].at)
-            lines.append(f'  node {i} reads node {j} ({place.line}:{place.column}, {self.what(j)}), which stands in stage {s}')
+            lines.append(f'node {i} reads node {j} ({self.where(j)}, {self.what(j)}), which stands in stage {s}')
             i, n = j, self.nodes[j]
 
-    def why(self, made: Layout) -> List[str]:
-        """Why first fit stops: the chain that pushes the node beyond the last stage, or the tables that are full."""
-        i = len(made.pairs)
-        n = self.nodes[i]
-        place = self.sources.place('program', self.code.ops[n.ops[0]].at)
-        limits = made.limits
-        lines = [f'node {i} is {self.what(i)} ({place.line}:{place.column}); `stages` is {limits.stages}, so the last stage is '
-                 f'{limits.stages - 1}']
-        _, most = made.merged(n)
+    def needed(self, limits: Limits) -> str:
+        """How many stages are enough, if the other limits stay as they are."""
+        again = Layout(self.code, replace(limits, stages=32))
+        try:
+            again.fit()
+        except Refused:
+            return '32 stages are not enough, if the other limits stay as they are'
+        return f'{1 + max(k for k, _ in again.pairs)} stages are enough, if the other limits stay as they are'
+
+    def problem(self, made: Layout) -> str:
+        """Why first fit stops, in one line: the operation and the reason."""
+        i, limits = len(made.pairs), made.limits
+        earliest, (_, most) = made.earliest(self.nodes[i]), made.merged(self.nodes[i])
+        reason = f'it can stand in stage {earliest} at the earliest, and no stage from there on has room'
         if most > limits.rows:
-            return lines + [f'  the tables of its calls have {most} rows together, and `rows` is {limits.rows}']
-        earliest = made.earliest(n)
-        if earliest >= limits.stages:
-            lines.append(f'  it can stand in stage {earliest} at the earliest, behind the last:')
-        else:
-            lines.append(f'  it can stand in stage {earliest} at the earliest, but no stage from there on has room:')
-            lines += ['  ' + self.refusing(made, n, k) for k in range(earliest, limits.stages)]
-        return lines + self.chain(made, i)
+            reason = f'the tables of its calls have {most} rows together, and `rows` is {limits.rows}'
+        elif earliest >= limits.stages:
+            reason = f'it can stand in stage {earliest} at the earliest, and the last is stage {limits.stages - 1}'
+        return f'node {i} ({self.what(i)}) finds no stage: {reason}'
+
+    def why(self, made: Layout) -> List[str]:
+        """The chain that pushes the node beyond the last stage, or the stages that are full, and how many stages are enough."""
+        i, limits = len(made.pairs), made.limits
+        n = self.nodes[i]
+        if made.merged(n)[1] > limits.rows:
+            return []
+        full = [self.refusing(made, n, k) for k in range(made.earliest(n), limits.stages)]
+        return full + self.chain(made, i) + [self.needed(limits)]

@@ -35,6 +35,16 @@ def several(widths: List[int]) -> str:
     return '(' + ', '.join(shown(w) for w in widths) + ')'
 
 
+def counted(count: int, thing: str) -> str:
+    """A number of things, as `1 argument` and `2 arguments`."""
+    return f'{count} {thing}' + 's' * (count != 1)
+
+
+def with_article(kinds: str) -> str:
+    """Kinds of names with an article, as `an array` and `a local or a constant`."""
+    return ' or '.join(('an ' if kind[0] in 'aeiou' else 'a ') + kind.replace('fun', 'function') for kind in kinds.split(' or '))
+
+
 def no_token(text: str, at: int = 0) -> Words:
     """Why no token begins at a byte."""
     rule = 'Each piece of a text is a blank, a comment, a name, a number below 2^64, a text in quotes or a sign.'
@@ -64,11 +74,12 @@ def no_tree(token: Token, *texts: str) -> Words:
 
 def wrong_name(name: str, kind: str, found: Optional[str]) -> Words:
     """A name that is not visible, or that means something else."""
+    wanted = with_article(kind)
     if found is None:
-        return Words(f'no visible {kind} has the name {name}', 'A name is visible after its declaration only.',
-                     f'declare {name} before this place', kind, 'an unknown name')
-    return Words(f'{name} is a {found}, and a {kind} is wanted here',
-                 'All names share one space, and a declaration hides earlier ones of its name.', f'name a {kind}', kind, found)
+        return Words(f'no visible name {name}, and {wanted} is wanted here', 'A name is visible after its declaration only, to the end '
+                     'of its block or of the program.', f'declare {name} before this place', wanted, 'an unknown name')
+    return Words(f'{name} is {with_article(found)}, and {wanted} is wanted here', 'All names share one space, and a declaration hides '
+                 'earlier ones of its name.', f'name {wanted}', wanted, with_article(found))
 
 
 def wrong_type(asked: Type, found: Optional[Type]) -> Words:
@@ -123,17 +134,18 @@ def too_many(what: str) -> Callable[[int, int], Words]:
 
 def bits(code: Code, limits: Limits) -> Words:
     """The bits of a packet, with the widest fields."""
-    widest = sorted((op for op in code.ops if op.to is not None), key=lambda op: -code.widths[op.to])[:5]
-    return Words(f'a packet carries {code.bits()} bits, and {limits.bits} are allowed',
+    writing = [op for op in code.ops if op.to is not None]
+    widest = {op.at: code.widths[op.to] for op in sorted(writing, key=lambda op: code.widths[op.to])}
+    return Words(f'a packet carries {code.bits()} bits, and `bits` is {limits.bits}',
                  'A packet carries the inputs, and each field that an operation reads or writes.',
                  'use smaller widths, and fewer locals that are joined behind an `if`',
-                 notes=[(op.at, f'{code.widths[op.to]} bits are made here') for op in widest])
+                 notes=[(at, f'a field of {width} bits is written here') for at, width in list(widest.items())[:-6:-1]])
 
 
 def arms(code: Code, array: int, limits: Limits) -> Words:
     """The places at which an array is called."""
     name, calls = code.core.arrays[array].name, code.calls(array)
-    return Words(f'{name} is called at {len(calls)} places, and {limits.arms} are allowed',
+    return Words(f'{name} is called at {len(calls)} places, and `arms` is {limits.arms}',
                  'An array is called at no more places than `arms`.', 'make one call, with the cell chosen before it',
                  notes=[(code.ops[i].at, f'{name} is called here') for i in calls])
 
@@ -142,13 +154,24 @@ def node(made: Layout) -> Words:
     """The first node for which first fit finds no place."""
     return Words(f'node {len(made.pairs)} finds no stage', 'A node stands in a stage behind all nodes that write what it reads, which '
                  'has room for a table, its rows and its array.',
-                 'allow more, or send what depends on an array in an event of its own')
+                 'allow more, shorten the chain of nodes before it, or send what depends on an array in an event of its own')
 
 
 SHAPE = ('A memop is one return, or one `if` with one return in each branch; each returned expression and the condition '
          'have one or two operands, and use each parameter at most once.')
-REMEDIES = {'no comparison': 'compare two operands', 'the body is no return and no `if`': 'write `return ..;`',
-            'not just one return with a value': 'write `return ..;`'}
+REMEDIES = {'the condition is no comparison': 'compare two operands by one of == != < > <= >=',
+            'the body is no return and no `if`': 'write `return ..;`',
+            'a branch is one return with a value, and nothing else': 'write `return ..;`'}
+# What each key must be, by the file and the key.
+KEYS = {'limits': 'Each key of a limits file is a number within its range (docs/SCENARIO.md, The limits of a target).',
+        'placement': 'A placement gives each node, in their order, a pair of a stage and a table (docs/ERRORS.md, 12 placement).',
+        'scenario': 'Each key of a scenario follows its line of the table (docs/SCENARIO.md, Scenarios).',
+        'switches': 'A network has 1 to 64 switches, and 4,194,304 cells in all.',
+        'stop': '`stop` is given, and `stop` times `switches` is at most 131,072.',
+        'links': 'A link joins two different switches of the network, each pair once, with a latency from 1 to 65,536 ticks.',
+        'down': 'A window is of a pair that a link joins, begins before it ends, and needs `"version": 2`.',
+        'events': 'An event has a tick, a switch of the network, the name of an event of the program, and arguments that fit it.',
+        'steps': 'A step enters the next event, moves the packet of a slot, or looks at a cell.'}
 WORDS: Dict[str, Callable[..., Words]] = {
     'usage': lambda problem: Words(problem, 'The words must be one of the forms of docs/ERRORS.md and the README.',
                                    'use a form of the table in the README'),
@@ -157,9 +180,8 @@ WORDS: Dict[str, Callable[..., Words]] = {
     'long file': lambda name: Words(f'too long: {name}', 'A program or a limits file has at most 1,048,576 bytes, a scenario or a '
                                     'placement at most 8,388,608.', 'use a shorter file'),
     'no token': no_token,
-    'nesting': lambda: Words('more than 64 open brackets, 256 tokens since the last `;`, `{` or `}`, or 256 `else` in a declaration',
-                             'Brackets, expressions and `else` are limited in number.',
-                             'use locals for parts of an expression, and functions for parts of a body'),
+    'nesting': lambda most, what: Words(f'more than {most} {what}', f'A text has at most {most} {what}.',
+                                        'use locals for parts of an expression, and functions for parts of a body'),
     'no tree': no_tree,
     'template': lambda: Words('this function over a width has no name, no body or no end', 'A function over a width is `fun <<w>>`, a '
                               'name before its parameters, and a body in braces.',
@@ -169,7 +191,7 @@ WORDS: Dict[str, Callable[..., Words]] = {
     'too long': lambda most: Words(f'the expanded text has more than {most} bytes', 'Each width that is used is a copy of the function.',
                                    'use fewer widths'),
     # types
-    'width': lambda w: Words(f'the width {w}', 'A width is 1 to 64.', 'write a width from 1 to 64', '1 to 64', str(w)),
+    'width': lambda w: Words(f'a width of {w} bits', 'A width is 1 to 64.', 'write a width from 1 to 64', '1 to 64', str(w)),
     'number': lambda n, w: Words(f'{n} does not fit {w} bits', 'A number must fit its place.',
                                  f'write a number below {2 ** w}, or a wider place', f'a number below {2 ** w}', str(n)),
     'int': lambda found: Words(f'expected an int, found {found}', 'Constants, and parameters of events and memops, are ints.',
@@ -178,8 +200,8 @@ WORDS: Dict[str, Callable[..., Words]] = {
     'type': wrong_type,
     'free type': lambda found: Words(f'expected an int, found `{shown(found)}`', 'A free place takes ints alone.', 'write an int here',
                                      'an int', shown(found)),
-    'arguments': lambda name, wanted, given: Words(f'{name} takes {wanted} arguments, and {given} are given',
-                                                   'One argument is given for each parameter.', f'give {wanted} arguments',
+    'arguments': lambda name, wanted, given: Words(f'{name} takes {counted(wanted, "argument")}, and is given {given}',
+                                                   'One argument is given for each parameter.', f'give {counted(wanted, "argument")}',
                                                    str(wanted), str(given)),
     'bare name': lambda: Words('an array is wanted here', 'An array parameter is given the bare name of an array.',
                                'write the name of an array without parentheses', 'the bare name of an array', 'an expression'),
@@ -194,16 +216,18 @@ WORDS: Dict[str, Callable[..., Words]] = {
     'behind return': lambda: Words('a statement behind one that returns', 'What returns on some path is the last statement of its block.',
                                    'put it before the statement that returns, or into an `else`'),
     'return': wrong_return,
-    'no return': lambda name, found: Words(f'{name} returns {found}', 'A function with a value returns one of its type on every path.',
+    'no return': lambda name, found: Words(f'{"no" if found == "never" else "not every"} path of {name} returns a value',
+                                           'A function with a value returns one of its type on every path.',
                                            'end each path with a `return`', 'always', found),
     'two cases': lambda n: Words(f'two cases of {n}', 'No two cases of a match have one number.', 'remove one of them'),
-    'holes': lambda holes, given: Words(f'the text has {holes} `%d`, and {given} arguments are given',
-                                        'A `printf` has as many further arguments as its text has `%d`.', f'give {holes} arguments',
-                                        f'{holes} arguments', str(given)),
+    'holes': lambda holes, given: Words(f'the text has {holes} `%d`, and {counted(given, "argument")} after it',
+                                        'A `printf` has as many further arguments as its text has `%d`.',
+                                        f'give {counted(holes, "argument")}', counted(holes, 'argument'), str(given)),
     'second': lambda word: Words(f'a second {word}', 'An event has at most one delay and at most one locate.', f'remove one {word}'),
     'array size': lambda size: Words(f'an array of {size} cells', 'An array has 1 to 65,536 cells.', 'write a size from 1 to 65536',
                                      '1 to 65536', str(size)),
-    'member': lambda n: Words(f'member {n} of the group', 'A group has 1 to 8 switch numbers below 64, none twice.', 'remove this member'),
+    'member': lambda n: Words(f'{n} is no member that the group may have here', 'A group has 1 to 8 switch numbers below 64, none twice.',
+                              'remove this member'),
     'two handlers': lambda name: Words(f'{name} has a handler already', 'An event has at most one handler.', 'join the two handlers'),
     'handler widths': lambda wanted, found: Words(f'expected the parameters {several(wanted)}, found {several(found)}',
                                                   'A handler repeats its event\'s parameter widths.', 'write the widths of the event',
@@ -220,23 +244,24 @@ WORDS: Dict[str, Callable[..., Words]] = {
     'bits': bits,
     'arms': arms,
     'node': node,
-    'range': lambda made, i, pair: Words(f'node {i} is in stage {pair[0]}, table {pair[1]}', 'A node stands in a stage below `stages` and '
-                                         'in a table below `tables`.', 'move it, or allow more'),
+    'range': lambda made, i, pair: Words(
+        f'node {i} is in stage {pair[0]}, table {pair[1]}, and `stages` is {made.limits.stages}, `tables` {made.limits.tables}',
+        'A node stands in a stage below `stages` and in a table below `tables`.', 'move it, or allow more'),
     'early': lambda made, i, pair, j, stage: Words(
         f'node {i} is in stage {pair[0]}, and reads what node {j} in stage {stage} writes',
         'A node stands in a stage behind all nodes that write what it reads.', f'move node {i} behind stage {stage}'),
     'rows': lambda made, i, pair, rows: Words(
-        f'table {pair[1]} of stage {pair[0]} has {rows} rows with node {i}, and {made.limits.rows} are allowed',
+        f'table {pair[1]} of stage {pair[0]} has {rows} rows with node {i}, and `rows` is {made.limits.rows}',
         'A table, and each product on the way to it, has no more rows than `rows`.', f'move node {i} to another table'),
     'stage arrays': lambda made, i, pair, count: Words(
-        f'stage {pair[0]} holds {count} arrays, and {made.limits.arrays} are allowed',
+        f'stage {pair[0]} holds {count} arrays, and `arrays` is {made.limits.arrays}',
         'A stage holds no more arrays than `arrays`.', 'move the last of its array nodes to another stage'),
     # JSON files; `found` is the text of the value
     'not JSON': lambda problem: Words(problem, 'The file is one JSON value in UTF-8.', 'mend the JSON here'),
     'other key': lambda keys, found='': Words(f'the key {found}', 'The file has no other keys than ' + ', '.join(keys) + '.',
                                               'remove or rename this key', 'one of the keys ' + ', '.join(keys), found),
-    'value': lambda wanted, found='': Words(
-        f'expected {wanted}, found {found}', 'docs/SCENARIO.md says what each key must be, and docs/ERRORS.md of a placement.',
+    'value': lambda wanted, found='', file='', key='': Words(
+        f'expected {wanted}, found {found}', KEYS.get(key if file == 'scenario' else file, KEYS['scenario']),
         f'write {wanted}', wanted, found)}
 
 
