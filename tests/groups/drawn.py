@@ -27,7 +27,7 @@ from lucid_model import Answer
 from lucid_model.code import Literal
 
 RUNS, STEP, SHOWN, MOST_TRIES = 3000, 50, 5, 600
-LEAST = {"accepted": 250, "placed": 120, "never acts": 20, "lost": 20, "windows": 2, "waiting": 40, "changed": 100, "changed and accepted": 20}
+LEAST = {"accepted": 250, "placed": 120, "never acts": 20, "lost": 20, "windows": 2, "waiting": 40, "changed": 100, "changed and accepted": 10}
 
 
 @dataclass
