@@ -4,10 +4,22 @@ import sys
 
 from lucid_tools.stack import deeply, read_file
 
-from .answers import judge
+from .answers import Answer, judge
 
-made = deeply(lambda: judge([os.fsencode(word) for word in sys.argv[1:]], read_file))
-sys.stdout.buffer.write(made.out)
-sys.stdout.buffer.flush()
-sys.stderr.buffer.write(made.err)
-sys.exit(made.status)
+
+def write_all(stream: int, data: bytes) -> bool:
+    """10 write fault: says whether a stream took all bytes."""
+    try:
+        while data:
+            data = data[os.write(stream, data):]
+        return True
+    except OSError:
+        return False
+
+
+if __name__ == '__main__':
+    made: Answer = deeply(lambda: judge([os.fsencode(word) for word in sys.argv[1:]], read_file))
+    if not write_all(1, made.out):
+        made = Answer(10, b'', b'write fault\n')
+    write_all(2, made.err)
+    sys.exit(made.status)
