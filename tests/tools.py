@@ -201,6 +201,9 @@ def json_answers(t: Tests) -> None:
         text = answer_of(f"{TOP}/examples/{it}") if it.endswith((".run", ".layout", ".once")) else b""
         if text.startswith((b"[", b"pass")):
             round_trip(t, it, "layout" if it.endswith(".layout") else "log", text)
+    program, limits, _ = example("nat")
+    places = t.file("places.json", t.run("tools/explain", program, limits, "--placement", "--lucid", t.program).stdout)
+    round_trip(t, "an audit", "audit", t.lucid("audit", program, limits, places))
     drive = moves(t)
     round_trip(t, "a drive", "drive", t.lucid("drive", *drive))
     round_trip(t, "a snapshot", "snap", t.lucid("snap", *drive, "7"))
@@ -644,6 +647,9 @@ def completion(t: Tests) -> None:
 # The script `lucid` --------------------------------------------------------------------------------------------------------------
 # Broken by a typo that compiles the program, by a change of the sources that a call does not see, and by a file that is copied whole.
 
+# The quickest of five calls takes at most as many seconds where nothing is built.
+AT_ONCE = 0.2
+
 
 def copy_of(t: Tests, name: str) -> str:
     """A copy of the script and of all sources in which nothing is built, with an `rt` that fails and says that it was called."""
@@ -682,6 +688,13 @@ def script(t: Tests) -> None:
         ran = lucid(*words.split())
         t.check(f"lucid {words!r} where nothing is built", (ran.returncode, ran.stdout, ran.stderr) == (1, b"", b"usage\n"), ran)
     t.check("no typo calls the kit", not called())
+    for words in ("--help", "--version", "chekc p", "run hwole p l t"):
+        took = []
+        for _ in range(5):
+            began = time.monotonic()
+            lucid(*words.split())
+            took.append(time.monotonic() - began)
+        t.check(f"lucid {words} answers at once", min(took) <= AT_ONCE, min(took))
     for words in wrong + right:
         ran = t.run(t.program, *words.split())
         t.check(f"{words!r} is {'a' if words in right else 'no'} form", (ran.stderr == b"usage\n") == (words in wrong), ran)
@@ -766,11 +779,119 @@ def plans(t: Tests) -> None:
         t.call(f"prove {words}", "", "usage: tools/prove [--plan] JOBS\n", 2, "tools/prove", *words)
 
 
+# A build with a kit that only writes down what it is asked --------------------------------------------------------------------------
+# Broken by a crate that is proved twice, or before one that it stands on, by crates that wait for each other without need, and by a
+# lane that stays behind.
+
+# A crate and those that it stands on. Six stand on `low` alone, and `top` on all six.
+CRATES = {"low": "", **{f"side_{it}": "low" for it in "abcdef"}, "top": " ".join(f"side_{it}" for it in "abcdef"), "lucid_main": "top"}
+# `rt lib` proves a crate if its libraries are there and its own is not, and takes a moment for it. `rt run` links the program.
+KIT = """#!/bin/sh
+calls=${0%/*}/calls
+name=${PWD##*/}
+[ ! -e "${0%/*}/wrong-$name" ] || { echo "a function is wrong"; exit 1; }
+for low in $(sed -n "s/^$name: *//p" ../../crates.txt); do
+    [ -e "../$low/out/rlib/stamp" ] || { echo "lacks $name $low" >>"$calls"; exit 1; }
+done
+[ ! -e out/rlib/stamp ] || exit 0
+echo "begin $name" >>"$calls"
+sleep 0.2
+mkdir -p out/rlib out/incremental
+echo "$name" >out/incremental/kept
+echo "$name" >out/rlib/stamp
+if [ "$1" = run ]; then echo built >out/lucid_main; fi
+echo "end $name" >>"$calls"
+"""
+
+
+def project(t: Tests, name: str) -> str:
+    """A checkout of small crates with tools/prove and that kit."""
+    top = t.path(name)
+    for it in ("bin", "tools", "tests", "lanes", *(f"crates/{crate}/src" for crate in CRATES)):
+        os.makedirs(f"{top}/{it}")
+    shutil.copy2(f"{TOP}/tools/prove", f"{top}/tools")
+    with open(f"{top}/crates.txt", "w") as file:
+        file.write("# A note.\n" + "".join(f"{crate}: {low}\n" for crate, low in CRATES.items()))
+    with open(f"{top}/tests/seconds", "w") as file:
+        file.write("low 1\nside_f 600\n")
+    with open(f"{top}/bin/rt", "w") as file:
+        file.write(KIT)
+    os.chmod(f"{top}/bin/rt", 0o755)
+    return top
+
+
+def begin_build(top: str) -> "subprocess.Popen[bytes]":
+    """A build by four jobs, whose lanes are in a folder of the project."""
+    env = {**os.environ, "PATH": f"{top}/bin:{os.environ['PATH']}", "TMPDIR": f"{top}/lanes"}
+    return subprocess.Popen([sys.executable, f"{top}/tools/prove", "4"], env=env, stdout=subprocess.PIPE, stderr=subprocess.PIPE, start_new_session=True)
+
+
+def calls_of(top: str) -> List[str]:
+    """What the kit wrote down."""
+    try:
+        with open(f"{top}/bin/calls") as file:
+            return file.read().splitlines()
+    except FileNotFoundError:
+        return []
+
+
+def is_kept(top: str, crate: str) -> bool:
+    return os.path.exists(f"{top}/crates/{crate}/out/rlib/stamp")
+
+
+def builds(t: Tests) -> None:
+    top = project(t, "whole")
+    process = begin_build(top)
+    _, told = process.communicate(timeout=120)
+    calls = calls_of(top)
+    t.check("a build", process.returncode == 0 and os.path.exists(f"{top}/crates/lucid_main/out/lucid_main"), told)
+    t.check("each crate once, above what it stands on", sorted(it for it in calls if not it.startswith("end")) == sorted(f"begin {it}" for it in CRATES), calls)
+    t.check("the libraries are here", all(is_kept(top, it) for it in CRATES))
+    most = now = 0
+    for it in calls:
+        now += 1 if it.startswith("begin") else -1
+        most = max(most, now)
+    t.check("four crates side by side", most == 4, calls)
+    t.check("the longest chain first", "begin side_f" in calls[2:6], calls)
+    progress = told.decode().splitlines()
+    t.check("a line for each crate", len(progress) >= len(CRATES) // 2 and all(re.match(r"lucid: [0-9]+ of 9 crates built, proving [a-z_, ]*; 0 min gone, about [0-9]+ min left$", it) for it in progress), progress)
+    t.check("no lane stays", os.listdir(f"{top}/lanes") == [])
+    interrupted(t)
+    open(f"{top}/bin/wrong-side_c", "w").close()
+    process = begin_build(top)
+    _, told = process.communicate(timeout=120)
+    t.check("a crate that is not proved", process.returncode == 70 and told.decode().splitlines()[-2:] == [f"lucid: side_c could not be built; {top}/out/side_c.log ends:", "a function is wrong"], told)
+    t.check("no lane of it stays", os.listdir(f"{top}/lanes") == [])
+
+
+def interrupted(t: Tests) -> None:
+    """A build that is stopped, and one that is killed, continue: what was built is not proved again."""
+    for name, number in (("stopped", signal.SIGTERM), ("at the terminal", signal.SIGINT), ("killed", signal.SIGKILL)):
+        top = project(t, name.replace(" ", "-"))
+        process = begin_build(top)
+        for _ in range(600):
+            if sum(is_kept(top, it) for it in CRATES) >= 3:
+                break
+            time.sleep(0.02)
+        os.kill(process.pid, number)
+        process.communicate(timeout=60)
+        kept = [it for it in CRATES if is_kept(top, it)]
+        t.check(f"a build is {name} in the middle", process.returncode in (143, 130, -9) and 3 <= len(kept) < len(CRATES), (process.returncode, kept))
+        # A kit that outlived the killed build ends in its own lane.
+        time.sleep(1 if number == signal.SIGKILL else 0)
+        t.check(f"no lane of it stays, {name}", number == signal.SIGKILL or os.listdir(f"{top}/lanes") == [])
+        process = begin_build(top)
+        _, told = process.communicate(timeout=120)
+        calls = calls_of(top)
+        t.check(f"a build continues, {name}", process.returncode == 0 and all(is_kept(top, it) for it in CRATES), told)
+        t.check(f"what was built is not proved again, {name}", all(calls.count(f"begin {it}") == 1 for it in kept), calls)
+
+
 def run_tools(program: str, names: Sequence[str] = ()) -> Tuple[int, int]:
     """Runs the groups of these names, or all; returns how many checks passed and failed."""
     room = tempfile.mkdtemp(prefix="lucid-tools-")
     groups: List[Callable[[Tests], None]] = [where, json_answers, json_refusals, picture_words, picture_twins, picture_examples, picture_parts, picture_drives, picture_scales,
-                                                page_words, page_examples, page_cells, page_crowd, schemas, editors, completion, script, plans]
+                                                page_words, page_examples, page_cells, page_crowd, schemas, editors, completion, script, plans, builds]
 
     def run(group: Callable[[Tests], None]) -> Tests:
         """Runs a group in a folder of its own. A group that stops counts as a failure, and the others go on."""

@@ -11,9 +11,9 @@ from typing import Dict, List
 
 from harness import FIRST, PROGRAM, TOP, Group, Word, call
 
-# Calls that are measured, and the seconds of a processor that the script may add to one: three times its aim of 10 ms, for a busy machine.
-# The sums of all sources take 0.1 s.
-CALLS, MOST = 25, 0.03
+# Calls that are measured, and the seconds of a processor that the script may add to one. The quickest calls count, since a busy machine
+# makes calls slower. The sums of all sources take 0.1 s.
+CALLS, MOST = 100, 0.01
 EIGHT = "event wide(int a, int b, int c, int d, int e, int f, int g, int h);"
 
 
@@ -54,13 +54,13 @@ def spent() -> float:
 
 
 def cost_of_the_script(group: Group, lucid: Word) -> None:
-    """The median of the processor time of calls by the script, less that of the same calls of the program."""
+    """The processor time of the quickest call by the script, less that of the quickest call of the program."""
     took: Dict[Word, List[float]] = {lucid: [], PROGRAM: []}
     for _ in range(CALLS):
         for program, its in took.items():
             before = spent()
             call([program, "check", FIRST])
             its.append(spent() - before)
-    cost = median(took[lucid]) - median(took[PROGRAM])
-    group.note(f"words: the script `lucid` adds {1000 * cost:.1f} ms of a processor to a call")
+    cost = min(took[lucid]) - min(took[PROGRAM])
+    group.note(f"words: the script `lucid` adds {1000 * cost:.1f} ms of a processor to a call, in the middle {1000 * (median(took[lucid]) - median(took[PROGRAM])):.1f} ms")
     group.check(f"the script adds at most {1000 * MOST:.0f} ms", cost <= MOST, f"{1000 * cost:.1f} ms")
