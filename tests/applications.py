@@ -29,10 +29,11 @@ APPLICATIONS = (
         "firewall",
         "log",
         (
-            Change("  generate dropped(20,10) delay 0 here", "  generate passed(20,10) delay 0 to 1"),
-            Change("  generate passed(20,10) delay 0 to 1", "  generate dropped(20,10) delay 0 here"),
+            Change("  generate dropped(20,12) delay 0 here", "  generate passed(20,12) delay 0 to 1"),
+            Change("[2] s0 outside(20,11)", "[2] s0 outside(20,13)"),
+            Change("[16] s0 move(14,20,1)", "[16] s0 move(14,21,1)"),
         ),
-        Change("to, from) && is_open", "to, from) || is_open"),
+        Change("found != flow", "found == flow"),
     ),
     Application(
         "reroute",
