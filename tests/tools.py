@@ -35,6 +35,8 @@ class Tests:
     def __init__(self, program: str, room: str) -> None:
         self.program, self.room = program, room
         self.passed = self.failed = 0
+        # Whether a line already says that no browser is there.
+        self.said = False
 
     def check(self, name: str, holds: bool, seen: object = "") -> None:
         if holds:
@@ -452,6 +454,17 @@ def page_examples(t: Tests) -> None:
         t.check(f"handlers of {name}", all(re.match(rf"(handle|event) {it}\b", lines[line - 1]) for it, its in data["handlers"].items() for line in its))
         arrays = {array for table in data["layout"]["tables"] for array in table["arrays"]}
         t.check(f"cells of {name}", data["cells"] is not None and {it[1] for its in data["cells"] for it in its} <= arrays)
+        opened(t, name, ran.stdout, data)
+
+
+def opened(t: Tests, name: str, page: bytes, data: Dict[str, Any]) -> None:
+    """In a browser, the pipelines at the tick of an event in the middle hold the events that entered so many ticks before."""
+    middle = data["events"][len(data["events"]) // 2]["at"]
+    dom = dom_of(t, page, f"#tick={middle}")
+    stages = data["limits"]["stages"]
+    wanted = {(switch, stage): [number for number, it in enumerate(data["events"]) if (it["switch"], it["at"]) == (switch, middle - stage)]
+              for switch in range(data["switches"]) for stage in range(stages)}
+    t.check(f"pipelines of {name} in a browser", not dom or chips_of(dom) == wanted, chips_of(dom))
 
 
 def page_cells(t: Tests) -> None:
@@ -479,23 +492,45 @@ def page_cells(t: Tests) -> None:
     browse(t, page, data, looks)
 
 
-def browse(t: Tests, page: bytes, data: Dict[str, Any], looks: List[Tuple[int, ...]]) -> None:
-    """Opens the page in headless Chromium, if it is installed, and reads what it shows after tick 4."""
+def dom_of(t: Tests, page: bytes, part: str, then: str = "") -> str:
+    """What headless Chromium makes of a page that is opened at this part, and in which this script runs afterwards. Empty if it is not installed."""
     chromium = shutil.which("chromium") or shutil.which("chromium-browser")
     if not chromium:
-        print("tools: chromium is not installed, so no page was opened")
-        return
-    address = f"file://{t.file('run.html', page)}#tick=4&event=2"
+        if not t.said:
+            print("tools: chromium is not installed, so no page was opened")
+        t.said = True
+        return ""
+    address = f"file://{t.file('run.html', page.replace(b'</body>', f'<script>{then}</script></body>'.encode()))}{part}"
     ran = t.run(chromium, "--headless", "--no-sandbox", "--disable-gpu", f"--user-data-dir={t.room}/profile", "--window-size=1400,900", "--virtual-time-budget=2000", "--dump-dom", address)
     dom = ran.stdout.decode()
-    t.check("a page runs in a browser", 'data-ready="yes"' in dom, ran.stderr[-300:])
-    boxes = {int(it[1]): it[0] for it in re.findall(r'(<div class="stage" data-switch="0" data-stage="([0-9]+)".*?)(?=<div class="stage"|<h2|<details|$)', dom, re.S)}
-    chips = {stage: [int(it) for it in re.findall(r'data-event="([0-9]+)"', box)] for stage, box in boxes.items()}
-    t.check("packets of a page", chips == {0: [3], 1: [], 2: [2]}, chips)
-    cells = {it for box in boxes.values() for it in re.findall(r'data-cell="([^"]*)"', box)}
+    t.check(f"a page runs in a browser at {part}", 'data-ready="yes"' in dom, ran.stderr[-300:])
+    return dom
+
+
+def chips_of(dom: str) -> Dict[Tuple[int, int], List[int]]:
+    """The events before each stage of each switch."""
+    boxes = re.findall(r'(<div class="stage" data-switch="([0-9]+)" data-stage="([0-9]+)".*?)(?=<div class="stage"|<h2|<details|on the way back|$)', dom, re.S)
+    return {(int(switch), int(stage)): [int(it) for it in re.findall(r'data-event="([0-9]+)"', box)] for box, switch, stage in boxes}
+
+
+def browse(t: Tests, page: bytes, data: Dict[str, Any], looks: List[Tuple[int, ...]]) -> None:
+    """What the page shows after tick 4, and after some clicks."""
+    dom = dom_of(t, page, "#tick=4&event=2")
+    if not dom:
+        return
+    t.check("packets of a page", chips_of(dom) == {(0, 0): [3], (0, 1): [], (0, 2): [2]}, chips_of(dom))
+    cells = set(re.findall(r'data-cell="([^"]*)"', dom))
     wanted = {f"{array}[{cell}] = {value}" for (array, (cell, value)) in zip("xxyy", looks[16:20]) if value}
     t.check("cells of a page", cells == wanted, (cells, wanted))
     t.check("the block of a page", data["blocks"][2] in dom and 'class="here"' in dom)
+    dom = dom_of(t, page, "#tick=4&event=2", "['next', 'next', 'next', 'back'].forEach(it => document.getElementById(it).click())")
+    t.check("steps on and back", '<span id="at">6</span>' in dom and chips_of(dom) == {(0, 0): [], (0, 1): [], (0, 2): [3]}, chips_of(dom))
+    click = "document.querySelector('#time [data-event=\"1\"]').dispatchEvent(new MouseEvent('click', { bubbles: true }))"
+    dom = dom_of(t, page, "#tick=4&event=2", click)
+    t.check("a click on an event", f"Event 1, line {data['events'][1]['line']} of the log" in dom and data["blocks"][1] in dom and '<span id="at">1</span>' in dom)
+    drawn = len(re.findall(r'class="event" data-event=', dom))
+    dom = dom_of(t, page, "#tick=4", "document.querySelector('#names .link:nth-of-type(2)').click()")
+    t.check("no event of a name that is not chosen", drawn == len(data["events"]) and "data-event=" not in dom[dom.index('<svg id="time"'):dom.index("Pipelines after")], drawn)
 
 
 def page_crowd(t: Tests) -> None:
@@ -508,6 +543,7 @@ def page_crowd(t: Tests) -> None:
     ran = t.run("tools/page", program, t.file("l.json", '{"stages":6}'), scene, "--lucid", t.program, "--cells", "100")
     data = data_of(ran.stdout)
     t.check("a page of 1,500 events", len(data.get("events", [])) == 1500 and data["cells"] is None and any("Cells are not shown" in it for it in data["about"]), ran.stderr)
+    opened(t, "1,500 events", ran.stdout, data)
 
 
 # Schemas -------------------------------------------------------------------------------------------------------------------------
