@@ -77,9 +77,13 @@ class Picture:
         self.foot = max(self.foot, y + 4)
 
     def write_all(self, layer: int, x: float, y: float, text: str, kind: str = "") -> None:
-        """Writes a line of the picture's own words, which is not cut, however long it is."""
-        for at in range(0, len(text), CUT):
-            self.write(layer, x + at * (SMALL if "small" in kind else LETTER), y, text[at:at + CUT], kind)
+        """Writes a line of the picture's own words, which is not cut, however long it is. Its parts end before a blank: some viewers drop the
+        blank at the start of a text."""
+        at = 0
+        while at < len(text):
+            end = len(text) if len(text) - at <= CUT else text.rindex(" ", at, at + CUT + 1)
+            self.write(layer, x + at * (SMALL if "small" in kind else LETTER), y, text[at:end], kind)
+            at = end + 1
 
     def write_over(self, x: float, y: float, text: str, kind: str = "", title: Optional[str] = None) -> None:
         """Writes a text that stays readable over lines, on a white box through which they show faintly."""
