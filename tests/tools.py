@@ -663,8 +663,44 @@ def editors(t: Tests) -> None:
         scopes = scopes_of(grammar, text)
         wrong = [it for it in tokens.scan(text.encode()).tokens if not scopes.get(it.start, "").startswith(sorts[it.sort])]
         t.check(f"scopes of {name}", text.isascii() and not wrong, wrong[:3])
-    scopes = scopes_of(grammar, '/* if */ // event\nprintf("if %d", ifs);')
+    text = '/* if */ // event\nprintf("if %d", ifs);'
+    scopes = scopes_of(grammar, text)
     t.check("no reserved words in comments, texts and names", not any(it.startswith("keyword.control") for it in scopes.values()), scopes)
+    t.check("reserved words behind comments", scopes.get(text.index("printf"), "").startswith("support"), scopes)
+    in_vim(t)
+
+
+def in_vim(t: Tests) -> None:
+    """The group that vim shows each token of the examples in, if vim is installed with its syntax."""
+    vim = shutil.which("vim")
+    if not vim or b"+syntax" not in t.run(vim, "--version").stdout:
+        print("tools: vim is not installed, so no program was opened in it")
+        return
+    groups = {"number": "lucidNumber", "text": "lucidString", "comment": "lucidComment", "name": "", "sign": ""}
+    with open(f"{TOP}/tools/editor/lucid.vim") as file:
+        keywords = {word: line.split()[2] for line in file if line.startswith("syn keyword ") for word in line.split()[3:]}
+    paths = [f"{TOP}/examples/{it}" for it in sorted(os.listdir(f"{TOP}/examples")) if it.endswith(".luc")]
+    paths.append(t.file("words.luc", '/* if\n event */ // event\nprintf("if %d", ifs, 0x1F, 12); event e1(int<<3>> global_);\n'))
+    for path in paths:
+        with open(path, "rb") as file:
+            text = file.read()
+        tokens_ = scan_of(text)
+        # Of the file made here also two places in its comment.
+        comments = [(tokens.Token("comment", "", 0), it) for it in ((1, 4), (2, 2)) if path.endswith("words.luc")]
+        tokens_ += comments
+        t.file("places", "".join(f"{line} {column}\n" for _, (line, column) in tokens_))
+        made = f"map(readfile('places'), {{_, it -> synIDattr(synID(split(it)[0], split(it)[1], 1), 'name')}})"
+        script = t.file("open.vim", f"syntax on\nedit {path}\nsyntax clear\nunlet! b:current_syntax\nsource {TOP}/tools/editor/lucid.vim\ncall writefile({made}, 'groups')\nqall!\n")
+        t.run(vim, "-Nu", "NONE", "-i", "NONE", "-n", "-es", "-S", script)
+        with open(t.path("groups")) as file:
+            found = file.read().split("\n")[:-1]
+        wanted = [keywords[it.text] if it.sort == "reserved" else "lucidOperator" if it.sort == "sign" and it.text[0] in "-+&|^~!<>=" else groups[it.sort] for it, _ in tokens_]
+        t.check(f"groups of {os.path.basename(path)} in vim", found == wanted, [it for it in zip(tokens_, found, wanted) if it[1] != it[2]][:3])
+
+
+def scan_of(text: bytes) -> List[Tuple[tokens.Token, Tuple[int, int]]]:
+    """The tokens of a text, each with its line and its column."""
+    return [(it, tokens.position(text, it.start)) for it in tokens.scan(text).tokens]
 
 
 def completion(t: Tests) -> None:
