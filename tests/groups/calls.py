@@ -1,4 +1,4 @@
-"""Makes all calls that the README, the guides and the page of the examples show, and compares their output, error lines included.
+"""Makes all calls that the README, the guides and the pages of the examples and tools show, and compares their output, error lines included.
 
 Each page is tried in a folder of its own, in which its first call writes its files, so no page needs another. Fails on another output than
 a page shows, and on a file that a page writes outside its folder: a reader makes the calls of all pages in one folder, in any order. Sees
@@ -17,6 +17,7 @@ PAGES = {
     **{f"docs/{name}.md": name.lower() for name in "TOUR LANGUAGE ERRORS SCENARIO".split()},
     "docs/OUTPUT.md": "",
     "examples/README.md": "applications",
+    "tools/README.md": "heavy",
 }
 
 
