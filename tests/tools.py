@@ -709,7 +709,7 @@ def completion(t: Tests) -> None:
     t.file("b.json", "{}")
     for words, wanted in ((["lucid", ""], "--help"), (["lucid", "ch"], "check"), (["./lucid", "check", ""], "a.luc"), (["lucid", "run", "p"], "pipe placed"), (["lucid", "once", "a.luc", ""], "other packet"),
                           (["lucid", "layout", "a.luc", ""], "b.json"), (["lucid", "gen", "s"], "scene"), (["lucid", "run", "placed", "a.luc", "b.json", "b.json", ""], "b.json"), (["tools/picture", "lo"], "log"),
-                          (["tools/picture", "log", "--t"], "--ticks"), (["tools/json", "a"], "audit"), (["lucid", "once", "a.luc", "packet", ""], "")):
+                          (["tools/picture", "log", "--t"], "--ticks"), (["tools/json", "a"], "audit"), (["tools/explain", ""], "a.luc"), (["tools/explain", "a.luc", "--n"], "--nodes"), (["tools/scenario", "ri"], "rip"), (["lucid", "once", "a.luc", "packet", ""], "")):
         script = f'source {TOP}/tools/completion.bash; COMP_WORDS=({" ".join(repr(it) for it in words)}); COMP_CWORD={len(words) - 1}; f=$(complete -p "$1"); f=${{f#*-F }}; ${{f%% *}} 2>/dev/null; echo "${{COMPREPLY[@]}}"'
         ran = t.run("bash", "-c", script, "bash", words[0])
         offered = ran.stdout.decode().split()

@@ -50,7 +50,14 @@ _lucid_tool() {
                 *) _lucid_files json log ;;
             esac
             ;;
-        where-1 | page-1) _lucid_files luc ;;
+        where-1 | page-1 | explain-1) _lucid_files luc ;;
+        scenario-1) _lucid_words aging countmin dns firewall flowcache gateways nat reroute rip sro ;;
+        explain-*)
+            case ${COMP_WORDS[COMP_CWORD]} in
+                --*) _lucid_words --nodes --layout --placement --json --lucid ;;
+                *) _lucid_files json ;;
+            esac
+            ;;
         where-2) _lucid_words byte token syntax: types: order: ;;
         page-*)
             case ${COMP_WORDS[COMP_CWORD]} in
@@ -63,4 +70,4 @@ _lucid_tool() {
 }
 
 complete -F _lucid lucid ./lucid
-complete -F _lucid_tool tools/where tools/json tools/picture tools/page
+complete -F _lucid_tool tools/where tools/explain tools/json tools/picture tools/page tools/scenario

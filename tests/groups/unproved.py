@@ -1,6 +1,6 @@
 """The script `lucid` in a copy where nothing is built: it answers by a build without proofs, and a line says so.
 
-Fails on an answer without that line, and on another answer or status. Takes most of a minute. Sees only two calls.
+Fails on an answer without that line, and on another answer or status. Compiles the program for each of its two calls, and sees no others.
 """
 from __future__ import annotations
 
