@@ -4,8 +4,8 @@
   tests/tools.py [PROGRAM [GROUP..]]
 
 PROGRAM is the built program, crates/lucid_main/out/lucid_main if it is not given, and a GROUP a function
-below. The last line is 'N passed, N failed', and the status is
-0 if none failed. Each group below says what breaks it.
+below. The last line is 'N passed, N failed', and the status is 0 if none failed. Each group below says what breaks it. If Chromium is
+installed, pages are also opened in it, and if vim is installed, programs are.
 """
 import json
 import os
