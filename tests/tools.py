@@ -247,6 +247,49 @@ def json_refusals(t: Tests) -> None:
         t.check(f"json {kind} refuses {text[-60:]!r}", ran.returncode == 1 and ran.stdout == b"" and ran.stderr.startswith(b"json: "), ran)
 
 
+# The grammar of printed lines ------------------------------------------------------------------------------------------------------
+# Broken by a rule of docs/OUTPUT.md that is not what the program prints.
+
+# What the page says of these in words.
+WORDED = {"number": "(?:0|[1-9][0-9]{0,19})", "name": "[A-Za-z_][A-Za-z0-9_]*", "text": r"[ !#-\[\]-~]*", "NL": "\n"}
+
+
+def rules_of_the_page() -> Dict[str, str]:
+    """The rules of docs/OUTPUT.md, each as a regular expression."""
+    with open(f"{TOP}/docs/OUTPUT.md") as file:
+        block = re.search(r"^(number +=.*?)\n```", file.read(), re.S | re.M)
+    assert block
+    meanings = {rule.partition("=")[0].strip(): rule.partition("=")[2] for rule in re.split(r"\n(?=\w+ +=)", block[1])}
+    signs = {"{": "(?:", "}": ")*", "[": "(?:", "]": ")?", "(": "(?:", ")": ")", "|": "|"}
+
+    def form(name: str) -> str:
+        if name in WORDED:
+            return WORDED[name]
+        parts = re.findall(r"'([^']*)'|(\w+)|([][{}()|])", meanings[name])
+        return "".join(re.escape(quoted) if quoted else f"(?:{form(word)})" if word else signs[sign] for quoted, word, sign in parts)
+
+    return {name: form(name) for name in meanings}
+
+
+def grammar_of_the_page(t: Tests) -> None:
+    """Every answer of the examples is one of its rule, and none with a line changed is."""
+    rules = rules_of_the_page()
+    answers: List[Tuple[str, str]] = []
+    for it in sorted(os.listdir(f"{TOP}/examples")):
+        kind = {"run": "run", "layout": "layout", "once": "once"}.get(it.split(".")[-1])
+        text = answer_of(f"{TOP}/examples/{it}").decode() if kind else ""
+        if text.startswith(("[", "pass")):
+            answers.append((kind or "", text))
+    drive = moves(t)
+    answers += [("drive", t.lucid("drive", *drive).decode()), ("snap", t.lucid("snap", *drive, "7").decode())]
+    answers += [("check", t.lucid("check", example(name)[0]).decode()) for name in ("nat", "rip")]
+    t.check("the page has rules for all answers", {kind for kind, _ in answers} | {"audit"} <= set(rules) and len(answers) > 40, sorted(rules))
+    for number, (kind, text) in enumerate(answers):
+        t.check(f"answer {number} is a {kind}", re.fullmatch(rules[kind], text) is not None, text[:200])
+        for name, wrong in (("without its last line feed", text[:-1]), ("with a line more", text + "busy 0\n"), ("with another blank", text.replace(" ", "  ", 1)), ("with a leading zero", re.sub("([0-9])", r"0\1", text, count=1))):
+            t.check(f"answer {number} {name} is no {kind}", wrong == text or re.fullmatch(rules[kind], wrong) is None, wrong[:200])
+
+
 # picture -------------------------------------------------------------------------------------------------------------------------
 # Broken by an arrow that is guessed by name, by a log that does not fit its files, and by labels that make a picture wide.
 
@@ -962,7 +1005,7 @@ def interrupted(t: Tests) -> None:
 def run_tools(program: str, names: Sequence[str] = ()) -> Tuple[int, int]:
     """Runs the groups of these names, or all; returns how many checks passed and failed."""
     room = tempfile.mkdtemp(prefix="lucid-tools-")
-    groups: List[Callable[[Tests], None]] = [where, json_answers, json_refusals, picture_words, picture_twins, picture_examples, picture_parts, picture_drives, picture_scales,
+    groups: List[Callable[[Tests], None]] = [where, json_answers, json_refusals, grammar_of_the_page, picture_words, picture_twins, picture_examples, picture_parts, picture_drives, picture_scales,
                                                 page_words, page_examples, page_cells, page_crowd, schemas, editors, completion, script, plans, builds]
 
     def run(group: Callable[[Tests], None]) -> Tests:
