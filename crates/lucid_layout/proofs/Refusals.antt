@@ -1,18 +1,20 @@
--- What is remembered of a table that refused a row, is true of it.
-use Rattle.std.proofs.Common.{◌≡◌, ℕ, zero, suc, ◌+◌, ◌<◌, ◌≤◌, List, [], ◌∷◌, ◌++◌, Bool, true, false, ◌&&◌, ◌||◌, cond, length, map, take, slice_index_or, refl, sym, ap, subst, ◌∙◌, arith}
-use Rattle.std.specs.List.{flat_map, list_all}
-use Rattle.std.proofs.lemmas.Bool.{or_left, or_right, true≢false}
+-- The refusals of a table that are remembered are true of it.
+use Rattle.std.proofs.Common.{◌≡◌, ℕ, zero, suc, ◌+◌, ◌<◌, ◌≤◌, List, [], ◌∷◌, ◌++◌, Bool, true, false, ◌||◌, cond, length, map, take, slice_index_or, refl, sym, ap, ◌∙◌, ⊎_elim, arith}
+use Rattle.std.specs.List.{flat_map, list_any}
+use Rattle.std.proofs.lemmas.Bool.{or_cases, or_left, or_right, true≢false, false_from_ne_true}
 use Rattle.std.proofs.lemmas.List.{length-map, take_more_same, take_all}
+use Rattle.std.proofs.lemmas.List.Folds.{list_any-append, list_any_at}
 use Rattle.lucid_code.specs.declared.op.Literal.{Literal}
+use Rattle.lucid_code.specs.Guards.{opposed, contradict}
 use Rattle.lucid_tables.specs.declared.table.Row.{Row}
 use Rattle.lucid_tables.specs.Numbers.{is_in, with_numbers}
 use Rattle.lucid_tables.specs.Rows.{named_fields}
 use Rattle.lucid_tables.proofs.Rising.{in_with_numbers}
-use Rattle.lucid_merge.specs.Product.{is_same, has, includes, product}
-use Rattle.lucid_merge.specs.RowCounts.{patterns_of, SameFor, IsNew, CanMatch, RowsAreCounted}
-use Rattle.lucid_merge.proofs.Literals.{literal_is, included, same_refl}
+use Rattle.lucid_merge.specs.Product.{is_same, has, product}
+use Rattle.lucid_merge.specs.RowCounts.{patterns_of, SameFor, CanMatch, RowsAreCounted}
+use Rattle.lucid_merge.proofs.Literals.{literal_is, same_refl}
 use Rattle.lucid_layout.proofs.Settling.{numbers_append}
-use Rattle.lucid_layout.specs.Refusing.{Refuses, fields_of, shared}
+use Rattle.lucid_layout.specs.Refusing.{Refuses, StandsFor, fields_of, shared}
 
 -- the fields of rows are those of their patterns
 named_of : (a : List Row) → named_fields a ≡ flat_map (λ p. map (λ (l : Literal). l.field) p) (patterns_of a)
@@ -38,40 +40,108 @@ has_shared fields (m ∷ p) l h = by (is_in m.field fields) refl (has_shared fie
     by true e rest = ap (λ b. is_same l m || b) rest
     by false e rest = off (is_same l m) refl e rest
 
--- a row that was refused
-pub refuses : RowsAreCounted → (rows : ℕ) (b : List Row) (r : Row) → CanMatch r → IsNew b r.pattern → rows < length (product b (r ∷ [])) → Refuses rows (patterns_of b) (shared (fields_of (patterns_of b)) r.pattern)
-refuses counted rows b r plain new h a s sane e same other =
-    let to_b = λ (l : Literal) (n : is_in l.field (named_fields b) ≡ true). same_named a b l.field e ∙ n in
-    let alike : SameFor b s.pattern r.pattern = λ l n. same l (same_named a b l.field e ∙ n) ∙ has_shared (fields_of (patterns_of b)) r.pattern l (in_fields b (patterns_of b) l.field refl ∙ n) in
-    let new_b : IsNew b s.pattern = (other.0, other.1, sym (same_named a b other.0.field e) ∙ other.2) in
-    let sizes : length (product a (s ∷ [])) ≡ length (product b (s ∷ [])) =
-    sym (length-map (product a (s ∷ [])) (λ (r : Row). r.pattern)) ∙ ap length (counted.patterns a (s ∷ []) b (s ∷ []) e refl) ∙ length-map (product b (s ∷ [])) (λ (r : Row). r.pattern) in
-    subst (λ n. rows < n) (sym (sizes ∙ counted.new_field b s r sane plain alike new_b new)) h
+-- ---- rows that stand for others
 
--- what the tests of a row tell
-pub shares : (fields : List ℕ) (a : List Row) (patterns : List (List Literal)) (p literals : List Literal) → patterns_of a ≡ patterns → fields ≡ fields_of patterns →
-    includes literals (shared fields p) ≡ true → includes p literals ≡ true → SameFor a p literals
-shares fields a patterns p literals e f g h l n = both (has p l) (has literals l)
-    (λ q. included literals (shared fields p) g l (has_shared fields p l (ap (is_in l.field) f ∙ in_fields a patterns l.field e ∙ n) ∙ q))
-    (λ q. included p literals h l q)
-  where
-    both : (x y : Bool) → (x ≡ true → y ≡ true) → (y ≡ true → x ≡ true) → x ≡ y
-    both true y f g = sym (f refl)
-    both false true f g = g refl
-    both false false f g = refl
+sizes : RowsAreCounted → (a b c d : List Row) → patterns_of a ≡ patterns_of c → patterns_of b ≡ patterns_of d → length (product a b) ≡ length (product c d)
+sizes counted a b c d e f =
+    sym (length-map (product a b) (λ (r : Row). r.pattern)) ∙ ap length (counted.patterns a b c d e f) ∙ length-map (product c d) (λ (r : Row). r.pattern)
 
-pub is_new : (fields : List ℕ) (a : List Row) (patterns : List (List Literal)) (p : List Literal) → patterns_of a ≡ patterns → fields ≡ fields_of patterns → list_all (λ (l : Literal). is_in l.field fields) p ≡ false → IsNew a p
-is_new fields a patterns p e f h =
-    let l = found p h in
-    (l.0, l.1, sym (ap (is_in l.0.field) f ∙ in_fields a patterns l.0.field e) ∙ l.2)
+pub stands_plain : RowsAreCounted → (fields : List ℕ) (more : List Row) → StandsFor fields more (patterns_of more)
+stands_plain counted fields more a b e f = sizes counted a more a b refl (sym f)
+
+-- all literals of the one pattern are in the other
+abbrev IsWithin : List Literal → List Literal → Type 0
+IsWithin s p = (l : Literal) → has s l ≡ true → has p l ≡ true
+
+any_within : (t u : Literal → Bool) (s p : List Literal) → IsWithin s p → ((l : Literal) → t l ≡ true → u l ≡ true) → list_any t s ≡ true → list_any u p ≡ true
+any_within t u s p w f h = let l = one s h in other p l.0 (w l.0 l.1) (f l.0 l.2)
   where
-    found : (q : List Literal) → list_all (λ (l : Literal). is_in l.field fields) q ≡ false → (l : Literal) × (has q l ≡ true) × (is_in l.field fields ≡ false)
-    found [] h = absurd (true≢false h)
-    found (m ∷ q) h = by (is_in m.field fields) refl h (λ r. found q r)
+    one : (s : List Literal) → list_any t s ≡ true → (l : Literal) × (has s l ≡ true) × (t l ≡ true)
+    one [] h = absurd (true≢false (sym h))
+    one (m ∷ s) h = ⊎_elim
+        (λ (e : t m ≡ true). (m, or_left (is_same m m) (has s m) (same_refl m), e))
+        (λ (e : list_any t s ≡ true). let r = one s e in (r.0, or_right (is_same r.0 m) (has s r.0) r.1, r.2))
+        (or_cases (t m) (list_any t s) h)
+
+    other : (p : List Literal) (l : Literal) → has p l ≡ true → u l ≡ true → list_any u p ≡ true
+    other [] l h e = absurd (true≢false (sym h))
+    other (m ∷ p) l h e = ⊎_elim
+        (λ (s : is_same l m ≡ true). or_left (u m) (list_any u p) (ap u (sym (literal_is l m s)) ∙ e))
+        (λ (r : has p l ≡ true). or_right (u m) (list_any u p) (other p l r e))
+        (or_cases (is_same l m) (has p l) h)
+
+contradicts_within : (s p : List Literal) → IsWithin s p → contradict s s ≡ true → contradict p p ≡ true
+contradicts_within s p w h =
+    any_within (λ (l : Literal). list_any (opposed l) s) (λ (l : Literal). list_any (opposed l) p) s p w (λ l e. any_within (opposed l) (opposed l) s p w (λ m o. o) e) h
+
+shared_within : (fields : List ℕ) (p : List Literal) → IsWithin (shared fields p) p
+shared_within fields [] l h = h
+shared_within fields (m ∷ p) l h = by (is_in m.field fields) (λ g. shared_within fields p l g) h
+  where
+    by : (b : Bool) → (has (shared fields p) l ≡ true → has p l ≡ true) → has (cond b (m ∷ shared fields p) (shared fields p)) l ≡ true → has (m ∷ p) l ≡ true
+    by true rest g = ⊎_elim
+        (λ (e : is_same l m ≡ true). or_left (is_same l m) (has p l) e)
+        (λ (e : has (shared fields p) l ≡ true). or_right (is_same l m) (has p l) (rest e))
+        (or_cases (is_same l m) (has (shared fields p) l) g)
+    by false rest g = or_right (is_same l m) (has p l) (rest g)
+
+drop_false : (b : Bool) → (b || false) ≡ true → b ≡ true
+drop_false true e = refl
+drop_false false e = e
+
+-- the literals of the fields, and one more
+short_within : (fields : List ℕ) (p : List Literal) (m : Literal) → has p m ≡ true → IsWithin (shared fields p ++ m ∷ []) p
+short_within fields p m i l h = ⊎_elim
+    (λ (e : has (shared fields p) l ≡ true). shared_within fields p l e)
+    (λ (e : (is_same l m || false) ≡ true). ap (has p) (literal_is l m (drop_false (is_same l m) e)) ∙ i)
+    (or_cases (has (shared fields p) l) (is_same l m || false) (sym (list_any-append (is_same l) (shared fields p) (m ∷ [])) ∙ h))
+
+short_has : (fields : List ℕ) (p : List Literal) (m l : Literal) → is_in m.field fields ≡ false → is_in l.field fields ≡ true → has p l ≡ has (shared fields p ++ m ∷ []) l
+short_has fields p m l out inside = sym (list_any-append (is_same l) (shared fields p) (m ∷ []) ∙ by (is_same l m) refl ∙ has_shared fields p l inside)
+  where
+    by : (b : Bool) → is_same l m ≡ b → (has (shared fields p) l || (b || false)) ≡ has (shared fields p) l
+    by true e = absurd (true≢false (sym inside ∙ ap (λ (l : Literal). is_in l.field fields) (literal_is l m e) ∙ out))
+    by false e = none (has (shared fields p) l)
       where
-        by : (b : Bool) → is_in m.field fields ≡ b → (b && list_all (λ (l : Literal). is_in l.field fields) q) ≡ false → (list_all (λ (l : Literal). is_in l.field fields) q ≡ false → (l : Literal) × (has q l ≡ true) × (is_in l.field fields ≡ false)) → (l : Literal) × (has (m ∷ q) l ≡ true) × (is_in l.field fields ≡ false)
-        by true e h again = let r = again h in (r.0, or_right (is_same r.0 m) (has q r.0) r.1, r.2)
-        by false e h again = (m, or_left (is_same m m) (has q m) (same_refl m), e)
+        none : (b : Bool) → (b || (false || false)) ≡ b
+        none true = refl
+        none false = refl
+
+pub stands_short : RowsAreCounted → (fields : List ℕ) (r : Row) (m : Literal) → CanMatch r → has r.pattern m ≡ true → is_in m.field fields ≡ false → StandsFor fields (r ∷ []) ((shared fields r.pattern ++ m ∷ []) ∷ [])
+stands_short counted fields r m can i out a b e f =
+    let s : Row = record { pattern = shared fields r.pattern ++ m ∷ []; ops = [] } in
+    let named : (k : ℕ) → is_in k fields ≡ is_in k (named_fields a) = λ k. ap (is_in k) e ∙ in_fields a (patterns_of a) k refl in
+    let within : IsWithin s.pattern r.pattern = short_within fields r.pattern m i in
+    let can_too : CanMatch s = false_from_ne_true (contradict s.pattern s.pattern) (λ h. true≢false (sym (contradicts_within s.pattern r.pattern within h) ∙ can)) in
+    let same : SameFor a r.pattern s.pattern = λ l n. short_has fields r.pattern m l out (named l.field ∙ n) in
+    let new : is_in m.field (named_fields a) ≡ false = sym (named m.field) ∙ out in
+    let has_it : has s.pattern m ≡ true = list_any-append (is_same m) (shared fields r.pattern) (m ∷ []) ∙ or_right (has (shared fields r.pattern) m) (is_same m m || false) (or_left (is_same m m) false (same_refl m)) in
+    counted.new_field a r s can can_too same (m, i, new) (m, has_it, new) ∙ sizes counted a (s ∷ []) a b refl (sym f)
+
+-- rows of these patterns
+abbrev bare_row : List Literal → Row
+bare_row p = record { pattern = p; ops = [] }
+
+abbrev pub bare : List (List Literal) → List Row
+bare ps = map (λ (p : List Literal). bare_row p) ps
+
+pub bare_patterns : (ps : List (List Literal)) → patterns_of (bare ps) ≡ ps
+bare_patterns [] = refl
+bare_patterns (p ∷ ps) = ap (λ (qs : List (List Literal)). p ∷ qs) (bare_patterns ps)
+
+pub refused : (rows other : ℕ) (patterns : List (List Literal)) (fields : List ℕ) (shape : List (List Literal)) (a more : List Row) → other ≡ rows → patterns_of a ≡ patterns → fields ≡ fields_of patterns → StandsFor fields more shape → Refuses other patterns shape →
+    rows < length (product a more)
+refused rows other patterns fields shape a more o e f s h =
+    let same : length (product a more) ≡ length (product a (bare shape)) = s a (bare shape) (f ∙ ap fields_of (sym e)) (bare_patterns shape) in
+    let more_rows : other < length (product a (bare shape)) = h a (bare shape) e (bare_patterns shape) in
+    omega (arith, o, same, more_rows)
+
+pub refuses : RowsAreCounted → (rows : ℕ) (patterns : List (List Literal)) (fields : List ℕ) (shape : List (List Literal)) (a more : List Row) → patterns_of a ≡ patterns → fields ≡ fields_of patterns → StandsFor fields more shape → rows < length (product a more) →
+    Refuses rows patterns shape
+refuses counted rows patterns fields shape a more e f s h b c g i =
+    let same : length (product a more) ≡ length (product a c) = s a c (f ∙ ap fields_of (sym e)) i in
+    let again : length (product b c) ≡ length (product a c) = sizes counted b c a c (g ∙ sym e) refl in
+    omega (arith, same, again, h)
 
 -- ---- patterns one by one
 
@@ -91,10 +161,7 @@ pub more_fields : (p : List Literal) (ps : List (List Literal)) (xs : List ℕ) 
     with_numbers xs (flat_map (λ p. map (λ (l : Literal). l.field) p) (p ∷ ps)) ≡ with_numbers (with_numbers xs (map (λ (l : Literal). l.field) p)) (flat_map (λ p. map (λ (l : Literal). l.field) p) ps)
 more_fields p ps xs = numbers_append xs (map (λ (l : Literal). l.field) p) (flat_map (λ p. map (λ (l : Literal). l.field) p) ps)
 
--- ---- a refusal that is remembered
+-- ---- loops over patterns
 
-pub refused : (rows other : ℕ) (patterns : List (List Literal)) (fields : List ℕ) (literals shares_of : List Literal) (a : List Row) (r : Row) → Refuses other patterns literals → fields ≡ fields_of patterns → other ≡ rows → CanMatch r → patterns_of a ≡ patterns →
-    list_all (λ (l : Literal). is_in l.field fields) r.pattern ≡ false → shares_of ≡ shared fields r.pattern → includes literals shares_of ≡ true → includes r.pattern literals ≡ true → rows < length (product a (r ∷ []))
-refused rows other patterns fields literals shares_of a r h f o plain e new s g i =
-    subst (λ n. n < length (product a (r ∷ []))) o
-    (h a r plain e (shares fields a patterns r.pattern literals e f (ap (includes literals) (sym s) ∙ g) i) (is_new fields a patterns r.pattern e f new))
+pub has_at : (p : List Literal) (i : ℕ) (d : Literal) → i < length p → has p (slice_index_or p i d) ≡ true
+has_at p i d h = list_any_at (is_same (slice_index_or p i d)) p i d h (same_refl (slice_index_or p i d))

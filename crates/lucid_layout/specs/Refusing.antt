@@ -1,23 +1,30 @@
--- The refusals of a table that are remembered, so that no row is merged in vain again. Only the search uses them.
-use Rattle.std.specs.Prelude.{◌≡◌, ℕ, ◌<◌, List, [], ◌∷◌, length, map}
-use Rattle.std.specs.List.{filter, flat_map}
+-- The refusals of a table that are remembered, so that no rows are merged in vain again. Only the search uses them.
+use Rattle.std.specs.Prelude.{◌≡◌, ℕ, ◌<◌, List, [], length, map}
+use Rattle.std.specs.List.{filter, flat_map, fold}
 use Rattle.lucid_code.specs.declared.op.Literal.{Literal}
 use Rattle.lucid_tables.specs.declared.table.Row.{Row}
 use Rattle.lucid_tables.specs.Numbers.{is_in, rising}
-use Rattle.lucid_merge.specs.Product.{product}
-use Rattle.lucid_merge.specs.RowCounts.{patterns_of, SameFor, IsNew, CanMatch}
+use Rattle.lucid_merge.specs.Product.{with_literal, product}
+use Rattle.lucid_merge.specs.RowCounts.{patterns_of}
 
--- Any table of these patterns has more than `rows` rows with a row that could match, has these literals of the table's fields, and has
--- some literal of another field.
-abbrev pub Refuses : ℕ → List (List Literal) → List Literal → Type 0
-Refuses rows patterns literals =
-    (a : List Row) (r : Row) → CanMatch r → patterns_of a ≡ patterns → SameFor a r.pattern literals → IsNew a r.pattern
-    → rows < length (product a (r ∷ []))
+-- Any table of these patterns has more than `rows` rows with any rows of the shape's patterns.
+abbrev pub Refuses : ℕ → List (List Literal) → List (List Literal) → Type 0
+Refuses rows patterns shape =
+    (a b : List Row) → patterns_of a ≡ patterns → patterns_of b ≡ shape → rows < length (product a b)
 
 -- The fields that patterns name, in rising order.
 abbrev pub fields_of : List (List Literal) → List ℕ
 fields_of patterns = rising (flat_map (λ p. map (λ (l : Literal). l.field) p) patterns)
 
+-- The literals of patterns, each once.
+abbrev pub literals_of : List (List Literal) → List Literal
+literals_of patterns = fold (fold with_literal) [] patterns
+
 -- The literals of these fields.
 abbrev pub shared : List ℕ → List Literal → List Literal
 shared fields pattern = filter (λ (l : Literal). is_in l.field fields) pattern
+
+-- With any table that names these fields, any rows of the shape's patterns make as many rows as these.
+abbrev pub StandsFor : List ℕ → List Row → List (List Literal) → Type 0
+StandsFor fields more shape =
+    (a b : List Row) → fields ≡ fields_of (patterns_of a) → patterns_of b ≡ shape → length (product a more) ≡ length (product a b)

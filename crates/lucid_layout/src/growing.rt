@@ -1,204 +1,199 @@
-// Tables that grow: a table's refusals are remembered, so that nothing is merged in vain again.
-ghost use Rattle.std.specs.Prelude.{◌≡◌, ◌<◌, [], ◌∷◌, map, length, IfOk, OnOk, IsTrue};
-ghost use Rattle.std.specs.List.{list_all};
-ghost use Rattle.lucid_tables.specs.Numbers.{is_in, rises, with_numbers};
+// Tables that grow: the shapes of the rows that a table refused are remembered, so that nothing is merged in vain again.
+ghost use Rattle.std.specs.Prelude.{◌≡◌, ◌<◌, length, IfOk, IsTrue};
 ghost use Rattle.lucid_merge.specs.Product.{product, within};
-ghost use Rattle.lucid_merge.specs.RowCounts.{patterns_of, CanMatch};
-ghost use Rattle.lucid_layout.specs.Refusing.{Refuses, fields_of, shared};
+ghost use Rattle.lucid_merge.specs.RowCounts.{patterns_of};
+ghost use Rattle.lucid_layout.specs.Refusing.{Refuses};
 
-use crate::refusal::Refusal;
+use crate::literals::literals_of;
+use crate::readings::fits;
+use crate::refusal::Refusals;
+use crate::shape::{fields_of, patterns_of, same_patterns, shape_of};
 use lucid_base::{Items, Memory};
 use lucid_code::Literal;
-use lucid_merge::{contradict, includes, is_same, merge, rows_are_counted};
-use lucid_tables::{Row, Table, put_number};
+use lucid_merge::{merge, rows_are_counted};
+use lucid_tables::{Row, Table};
 use std::alloc::Global;
 
-/// Whether a row could match: its pattern doesn't ask for two values of one field.
-fn can_match(row: &Row) -> bool
-    ensures { IsTrue result → CanMatch row.now }
+/// Returns whether a remembered refusal implies that the table refuses this shape.
+fn refuses_shape(alloc: Global, known: &Refusals, shape: &[Items<Literal>]) -> Result<bool, Memory>
+    ensures { IfOk result (λ r. IsTrue r → Refuses known.now.rows known.now.patterns shape.now) }
 {
-    let pattern = row.pattern.as_slice();
-    !contradict(pattern, pattern)
-}
-
-/// Whether a field is one of these.
-fn is_field(fields: &[u32], field: u32) -> bool
-    ensures { result ≡ is_in field fields.now }
-{
-    fields.iter().any(|k| *k == field)
-}
-
-/// Whether all literals of a pattern are of these fields.
-fn names_alone(fields: &[u32], pattern: &[Literal]) -> bool
-    ensures { result ≡ list_all (λ l. is_in l.field fields.now) pattern.now }
-{
-    pattern.iter().all(|l| is_field(fields, l.field))
-}
-
-/// The literals of these fields.
-fn shared(alloc: Global, fields: &[u32], pattern: &[Literal]) -> Result<Items<Literal>, Memory>
-    ensures { IfOk result (λ literals. literals ≡ shared fields.now pattern.now) }
-{
-    let mut literals = Items::new(alloc);
-    for literal in pattern {
-        if is_field(fields, literal.field) {
-            literals.push(*literal)?;
+    rows_are_counted();
+    let literals = known.literals.as_slice();
+    let shapes = known.shapes.as_slice();
+    for found in shapes {
+        let own = found.as_slice();
+        if fits(alloc, literals, own, shape)? {
+            return Ok(true);
         }
     }
-    Ok(literals)
+    Ok(false)
 }
 
-/// Whether two patterns are the same, literal by literal.
-fn same_pattern(p: &[Literal], q: &[Literal]) -> bool
-    ensures { IsTrue result → p.now ≡ q.now }
-{
-    if p.len() != q.len() {
-        return false;
-    }
-    for at in 0..p.len() {
-        if !is_same(p[at], q[at]) {
-            return false;
-        }
-    }
-    true
-}
-
-/// Whether these are the patterns of the rows.
-fn same_patterns(patterns: &[Items<Literal>], rows: &[Row]) -> bool
-    ensures { IsTrue result → patterns_of rows.now ≡ patterns.now }
-{
-    if patterns.len() != rows.len() {
-        return false;
-    }
-    for at in 0..rows.len() {
-        if !same_pattern(rows[at].pattern.as_slice(), patterns[at].as_slice()) {
-            return false;
-        }
-    }
-    true
-}
-
-/// The fields that the patterns of these rows name, in rising order.
-#[tactic(auto, using(crate::proofs::Refusals::more_fields))]
-fn fields_of(alloc: Global, rows: &[Row]) -> Result<Vec<u32>, Memory>
-    ensures { IfOk result (λ fields. fields.items ≡ fields_of (patterns_of rows.now)) }
-{
-    let mut fields = Vec::new(alloc);
-    for row in rows {
-        put_fields(row.pattern.as_slice(), &mut fields)?;
-    }
-    Ok(fields)
-}
-
-/// Puts the fields of a pattern at their places.
-fn put_fields(pattern: &[Literal], fields: &mut Vec<u32>) -> Result<(), Memory>
-    requires { IsTrue (rises fields.old.items) }
-    ensures value { OnOk result (fields.new.items ≡ with_numbers fields.old.items (map (λ l. l.field) pattern.now)) }
-    ensures rises { OnOk result (IsTrue (rises fields.new.items)) }
-{
-    for literal in pattern {
-        put_number(fields, literal.field)?;
-    }
-    Ok(())
-}
-
-/// The patterns of these rows, in memory of their own.
-fn patterns_of(alloc: Global, rows: &[Row]) -> Result<Items<Items<Literal>>, Memory>
-    ensures { IfOk result (λ patterns. patterns ≡ patterns_of rows.now) }
-{
-    let mut patterns = Items::new(alloc);
-    for row in rows {
-        patterns.push(Items::from_slice(alloc, row.pattern.as_slice())?)?;
-    }
-    Ok(patterns)
-}
-
-/// Returns whether a remembered refusal applies: this table has more than `rows` rows with this row.
+/// Returns whether a remembered refusal applies: this table has more than `rows` rows with these rows.
 fn is_refused(
     alloc: Global,
-    known: &Option<Refusal>,
+    known: &Option<Refusals>,
     table: &[Row],
-    row: &Row,
+    more: &[Row],
     rows: usize,
 ) -> Result<bool, Memory>
-    ensures { IfOk result (λ r. IsTrue r → rows < length (product table.now (row.now ∷ []))) }
+    ensures { IfOk result (λ r. IsTrue r → rows < length (product table.now more.now)) }
 {
     match known {
         None => Ok(false),
-        Some(known) => refuses(alloc, known, table, row, rows),
+        Some(known) => refuses(alloc, known, table, more, rows),
     }
 }
 
-/// Returns whether a refusal implies that a table has more than `rows` rows with this row.
-fn refuses(
-    alloc: Global,
-    known: &Refusal,
-    table: &[Row],
-    row: &Row,
-    rows: usize,
-) -> Result<bool, Memory>
-    ensures { IfOk result (λ r. IsTrue r → rows < length (product table.now (row.now ∷ []))) }
+/// Returns whether these are refusals of this table for this number of rows.
+fn are_of(known: &Refusals, table: &[Row], rows: usize) -> bool
+    ensures rows { IsTrue result → known.now.rows ≡ rows }
+    ensures patterns { IsTrue result → patterns_of table.now ≡ known.now.patterns }
 {
     if known.rows != rows {
-        return Ok(false);
+        return false;
     }
-    if !can_match(row) {
-        return Ok(false);
-    }
-    if names_alone(known.fields.as_slice(), row.pattern.as_slice()) {
-        return Ok(false);
-    }
-    if !same_patterns(known.patterns.as_slice(), table) {
-        return Ok(false);
-    }
-    let literals = shared(alloc, known.fields.as_slice(), row.pattern.as_slice())?;
-    if !includes(known.literals.as_slice(), literals.as_slice()) {
-        return Ok(false);
-    }
-    Ok(includes(row.pattern.as_slice(), known.literals.as_slice()))
+    same_patterns(known.patterns.as_slice(), table)
 }
 
-/// The refusal to remember for a table that refused a row; none if the row names fields of the table alone.
-fn refusal(alloc: Global, table: &[Row], row: &Row, rows: usize) -> Result<Option<Refusal>, Memory>
-    requires { rows < length (product table.now (row.now ∷ [])) }
+/// Returns whether these refusals are of this table, and one implies that it has more than `rows` rows with these.
+fn refuses(
+    alloc: Global,
+    known: &Refusals,
+    table: &[Row],
+    more: &[Row],
+    rows: usize,
+) -> Result<bool, Memory>
+    ensures { IfOk result (λ r. IsTrue r → rows < length (product table.now more.now)) }
 {
-    rows_are_counted();
-    if !can_match(row) {
-        return Ok(None);
+    if !are_of(known, table, rows) {
+        return Ok(false);
     }
+    if !are_short(more) {
+        return Ok(false);
+    }
+    let fields = known.fields.as_slice();
+    let shape = shape_of(alloc, fields, more)?;
+    let asked = shape.as_slice();
+    if refuses_shape(alloc, known, asked)? {
+        return Ok(true);
+    }
+    Ok(false)
+}
+
+/// Returns whether rows have so few literals that a table remembers them.
+fn are_short(rows: &[Row]) -> bool {
+    let mut count = 0usize;
+    for row in rows {
+        count = count.saturating_add(row.pattern.len());
+    }
+    count <= 4096
+}
+
+/// No refusals of a table yet.
+fn no_refusals(alloc: Global, table: &[Row], rows: usize) -> Result<Refusals, Memory>
+    ensures rows { IfOk result (λ known. known.rows ≡ rows) }
+    ensures patterns { IfOk result (λ known. patterns_of table.now ≡ known.patterns) }
+{
     let fields = Items::from_vec(fields_of(alloc, table)?);
-    if names_alone(fields.as_slice(), row.pattern.as_slice()) {
-        return Ok(None);
-    }
-    let literals = shared(alloc, fields.as_slice(), row.pattern.as_slice())?;
     let patterns = patterns_of(alloc, table)?;
-    Ok(Some(Refusal {
+    let literals = literals_of(alloc, table)?;
+    Ok(Refusals {
         rows,
         patterns,
         fields,
         literals,
-    }))
+        shapes: Items::new(alloc),
+    })
 }
 
-/// Merges a table with a row, if it then has few enough rows; otherwise remembers the refusal.
-fn with_row(
+/// The known refusals if they are of this table and are fewer than 16, and otherwise none yet.
+fn refusals_of(
     alloc: Global,
-    known: &mut Option<Refusal>,
+    known: Option<Refusals>,
+    table: &[Row],
+    rows: usize,
+) -> Result<Refusals, Memory>
+    ensures rows { IfOk result (λ known. known.rows ≡ rows) }
+    ensures patterns { IfOk result (λ known. patterns_of table.now ≡ known.patterns) }
+{
+    let Some(known) = known else {
+        return no_refusals(alloc, table, rows);
+    };
+    if known.shapes.len() < 16 && are_of(&known, table, rows) {
+        return Ok(known);
+    }
+    no_refusals(alloc, table, rows)
+}
+
+/// Adds the refusal of these rows to those of a table.
+fn with_refusal(
+    alloc: Global,
+    known: Refusals,
+    table: &[Row],
+    more: &[Row],
+) -> Result<Refusals, Memory>
+    requires refused { known.rows < length (product table.now more.now) }
+    requires patterns { patterns_of table.now ≡ known.patterns }
+{
+    rows_are_counted();
+    let named = known.fields.as_slice();
+    let shape = shape_of(alloc, named, more)?;
+    let Refusals {
+        rows,
+        patterns,
+        fields,
+        literals,
+        mut shapes,
+    } = known;
+    shapes.push(shape)?;
+    Ok(Refusals {
+        rows,
+        patterns,
+        fields,
+        literals,
+        shapes,
+    })
+}
+
+/// Remembers that a table has more than `rows` rows with these, if these are short.
+fn remember(
+    alloc: Global,
+    known: &mut Option<Refusals>,
+    table: &[Row],
+    more: &[Row],
+    rows: usize,
+) -> Result<(), Memory>
+    requires { rows < length (product table.now more.now) }
+{
+    if !are_short(more) {
+        return Ok(());
+    }
+    let found = refusals_of(alloc, known.take(), table, rows)?;
+    *known = Some(with_refusal(alloc, found, table, more)?);
+    Ok(())
+}
+
+/// Merges a table with another, if it then has few enough rows; otherwise remembers the refusal.
+fn merged(
+    alloc: Global,
+    known: &mut Option<Refusals>,
     table: &Table,
     more: &Table,
-    row: &Row,
     rows: usize,
 ) -> Result<Option<Table>, Memory>
-    requires { more.now.rows ≡ row.now ∷ [] }
     ensures { IfOk result (λ found. found ≡ within rows (product table.now.rows more.now.rows)) }
 {
-    if is_refused(alloc, &*known, table.rows.as_slice(), row, rows)? {
+    let own = table.rows.as_slice();
+    let others = more.rows.as_slice();
+    if is_refused(alloc, &*known, own, others, rows)? {
         return Ok(None);
     }
     match merge(alloc, table, more, rows)? {
         Some(made) => Ok(Some(made)),
         None => {
-            *known = refusal(alloc, table.rows.as_slice(), row, rows)?;
+            remember(alloc, known, own, others, rows)?;
             Ok(None)
         }
     }
@@ -207,7 +202,7 @@ fn with_row(
 /// The remembered refusals of each table of each stage, by number.
 #[derive(Drop)]
 pub(crate) struct Known {
-    tables: Vec<Option<Refusal>>,
+    tables: Vec<Option<Refusals>>,
 }
 
 impl Known {
@@ -233,12 +228,8 @@ pub(crate) fn grown(
 ) -> Result<Option<Table>, Memory>
     ensures { IfOk result (λ found. found ≡ within rows (product table.now.rows more.now.rows)) }
 {
-    let rows_of_more = more.rows.as_slice();
-    if rows_of_more.len() != 1 {
-        return merge(alloc, table, more, rows);
-    }
     match known.tables.get_mut(64 * stage as usize + t as usize) {
         None => merge(alloc, table, more, rows),
-        Some(known) => with_row(alloc, known, table, more, &rows_of_more[0], rows),
+        Some(known) => merged(alloc, known, table, more, rows),
     }
 }

@@ -1,7 +1,8 @@
 -- Literals and patterns: the literals of a pattern, the union of two, and when one includes another.
-use Rattle.std.proofs.Common.{◌≡◌, ℕ, List, [], ◌∷◌, ◌++◌, Bool, true, false, not, ◌&&◌, ◌||◌, if◌then◌else◌, map, nat_eq, refl, sym, ap, ap₂, ◌∙◌, ⊎_elim}
-use Rattle.std.specs.List.{fold}
+use Rattle.std.proofs.Common.{◌≡◌, ℕ, zero, suc, List, [], ◌∷◌, ◌++◌, Option, Some, None, Bool, true, false, not, ◌&&◌, ◌||◌, if◌then◌else◌, map, nat_eq, slice_get, refl, sym, ap, ap₂, ◌∙◌, ⊎_elim}
+use Rattle.std.specs.List.{fold, list_all}
 use Rattle.std.proofs.lemmas.Bool.{and_parts, and_from, or_cases, or_left, or_right, eqb-true, eq-eqb, true≢false}
+use Rattle.std.proofs.lemmas.Option.{same_Some, none-some}
 use Rattle.lucid_code.specs.declared.op.Literal.{Literal}
 use Rattle.lucid_tables.specs.Numbers.{is_in}
 use Rattle.lucid_merge.specs.Product.{is_same, has, with_literal, union, includes}
@@ -56,7 +57,7 @@ has_with p m l = by (has p m) refl
     by true h = there h (is_same l m) refl
     by false h = has_push p m l
 
-has_fold : (q p : List Literal) (l : Literal) → has (fold with_literal p q) l ≡ (has p l || has q l)
+pub has_fold : (q p : List Literal) (l : Literal) → has (fold with_literal p q) l ≡ (has p l || has q l)
 has_fold [] p l = none (has p l)
   where
     none : (b : Bool) → b ≡ (b || false)
@@ -88,3 +89,16 @@ has_field (m ∷ p) l h = ⊎_elim
     (λ e. or_left (nat_eq m.field l.field) (is_in l.field (map (λ (l : Literal). l.field) p)) (eq-eqb m.field l.field (ap (λ (l : Literal). l.field) (sym (literal_is l m e)))))
     (λ e. or_right (nat_eq m.field l.field) (is_in l.field (map (λ (l : Literal). l.field) p)) (has_field p l e))
     (or_cases (is_same l m) (has p l) h)
+
+-- a test that all literals pass
+pub passes : (t : Literal → Bool) (p : List Literal) (l : Literal) → list_all t p ≡ true → has p l ≡ true → t l ≡ true
+passes t [] l a h = absurd (true≢false (sym h))
+passes t (m ∷ p) l a h =
+    let parts = and_parts (t m) (list_all t p) a in
+    ⊎_elim (λ e. ap t (literal_is l m e) ∙ parts.0) (λ e. passes t p l parts.1 e) (or_cases (is_same l m) (has p l) h)
+
+-- a literal at some position is one of the pattern
+pub has_got : (p : List Literal) (i : ℕ) (m l : Literal) → slice_get p i ≡ Some m → is_same l m ≡ true → has p l ≡ true
+has_got [] i m l e h = absurd (none-some m e)
+has_got (n ∷ p) zero m l e h = or_left (is_same l n) (has p l) (ap (is_same l) (same_Some n m e) ∙ h)
+has_got (n ∷ p) (suc i) m l e h = or_right (is_same l n) (has p l) (has_got p i m l e h)

@@ -7,9 +7,9 @@ use Rattle.std.proofs.lemmas.List.Folds.{list_any-append}
 use Rattle.std.proofs.lemmas.Option.{same_Some, none-some}
 use Rattle.lucid_code.specs.declared.op.Literal.{Literal}
 use Rattle.lucid_tables.specs.declared.table.Row.{Row}
-use Rattle.lucid_merge.specs.Marks.{slot, long_slot, own_slot, is_marked, has_other, tells, may_cover, is_told, AreTold}
+use Rattle.lucid_merge.specs.Marks.{slot, long_slot, own_slot, is_marked, has_other, tells, may_cover, is_told, AreTold, AreSeen}
 use Rattle.lucid_merge.specs.Product.{is_same, has, union, includes}
-use Rattle.lucid_merge.proofs.Literals.{literal_is, same_refl, has_union, included}
+use Rattle.lucid_merge.proofs.Literals.{literal_is, same_refl, has_union, included, passes}
 
 -- ---- literals that pass a test
 
@@ -134,3 +134,18 @@ module _ {A : Type 0} (t : A → Bool) (rows before behind : List A) (cut : rows
 
   pub covered_before : (r s : Bool) → r ≡ list_any t behind → r ≡ false → s ≡ list_any t before → s ≡ list_any t rows
   covered_before r s e h f = f ∙ sym (turned ∙ ap (λ b. b || list_any t before) (sym e ∙ h))
+
+-- ---- a pattern that is put together
+
+pub unseen : (seen : List ℕ) (p : List Literal) (l : Literal) → AreSeen seen p → is_marked seen (slot l) ≡ false → has p l ≡ false
+unseen seen p l h n = false_from_ne_true (has p l) (λ e. true≢false (sym (passes (λ m. is_marked seen (slot m)) p l h e) ∙ n))
+
+-- one literal more, and its mark
+pub one_seen : (seen new : List ℕ) (p after : List Literal) (l : Literal) → ((i : ℕ) → is_marked seen i ≡ true → is_marked new i ≡ true) → is_marked new (slot l) ≡ true → after ≡ p ++ l ∷ [] → AreSeen seen p → AreSeen new after
+one_seen seen new p after l more t is h = subst (AreSeen new) (sym is) (pushed p h)
+  where
+    pushed : (p : List Literal) → AreSeen seen p → AreSeen new (p ++ l ∷ [])
+    pushed [] h = and_from (is_marked new (slot l)) true t refl
+    pushed (m ∷ p) h =
+        let parts = and_parts (is_marked seen (slot m)) (list_all (λ l. is_marked seen (slot l)) p) h in
+        and_from (is_marked new (slot m)) (list_all (λ l. is_marked new (slot l)) (p ++ l ∷ [])) (more (slot m) parts.0) (pushed p parts.1)

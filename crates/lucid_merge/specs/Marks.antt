@@ -38,3 +38,7 @@ is_told marks pattern = may_cover marks pattern []
 
 abbrev pub AreTold : List ℕ → List Row → Type 0
 AreTold marks rows = list_all (λ (r : Row). is_told marks r.pattern) rows ≡ true
+
+-- While a pattern is put together: each of its literals has its mark.
+abbrev pub AreSeen : List ℕ → List Literal → Type 0
+AreSeen seen pattern = list_all (λ l. is_marked seen (slot l)) pattern ≡ true

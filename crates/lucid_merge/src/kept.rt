@@ -61,7 +61,7 @@ fn long_slot(literal: Literal) -> usize
     slot(literal) + 4096
 }
 
-fn mark(marks: &[usize], place: usize) -> usize
+pub(crate) fn mark(marks: &[usize], place: usize) -> usize
     ensures { result ≡ slice_index_or marks.now place 1 }
 {
     match marks.get(place) {
@@ -70,7 +70,7 @@ fn mark(marks: &[usize], place: usize) -> usize
     }
 }
 
-fn is_marked(marks: &[usize], place: usize) -> bool
+pub(crate) fn is_marked(marks: &[usize], place: usize) -> bool
     ensures { result ≡ is_marked marks.now place }
 {
     mark(marks, place) != 0
@@ -128,7 +128,7 @@ fn likely(marks: &[usize], pattern: &[Literal]) -> usize {
 }
 
 /// Marks a place, if it is there.
-fn set_mark(marks: &mut Vec<usize>, place: usize, number: usize)
+pub(crate) fn set_mark(marks: &mut Vec<usize>, place: usize, number: usize)
     requires { 0 < number }
     ensures place { is_marked marks.new.items place ≡ true }
     ensures others { (i : ℕ) → is_marked marks.old.items i ≡ true → is_marked marks.new.items i ≡ true }

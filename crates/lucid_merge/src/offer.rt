@@ -7,7 +7,7 @@ ghost use Rattle.lucid_merge.specs.Standing.{rows_at, IsNear};
 
 use crate::kept::Kept;
 use crate::near::{Near, suits};
-use crate::patterns::pair;
+use crate::pairing::pair;
 use lucid_base::{Memory, Steps};
 use lucid_tables::Row;
 use std::alloc::Global;

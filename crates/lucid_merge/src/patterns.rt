@@ -1,13 +1,10 @@
-// Patterns: contradiction, inclusion, and the union of two.
-ghost use Rattle.std.specs.Prelude.{◌≡◌, ◌++◌, OnOk, IfOk};
-ghost use Rattle.std.specs.List.{list_any, fold};
+// Patterns: contradiction and inclusion.
+ghost use Rattle.std.specs.Prelude.{◌≡◌, true, IsTrue};
+ghost use Rattle.std.specs.List.{list_any};
 ghost use Rattle.lucid_code.specs.Guards as guards;
-ghost use Rattle.lucid_merge.specs.Product.{is_same, has, includes, with_literal, union, pair};
+ghost use Rattle.lucid_merge.specs.Product.{is_same, has, includes, union};
 
-use lucid_base::{Items, Memory};
 use lucid_code::Literal;
-use lucid_tables::Row;
-use std::alloc::Global;
 
 /// Whether two literals never hold together: a field equals two values, or equals a value and doesn't.
 fn opposed(l: Literal, m: Literal) -> bool
@@ -42,48 +39,43 @@ fn has(pattern: &[Literal], literal: Literal) -> bool
     pattern.iter().any(|m| is_same(literal, *m))
 }
 
-/// Returns whether all literals of the second pattern are in the first.
-pub fn includes(p: &[Literal], q: &[Literal]) -> bool
-    ensures { result ≡ includes p.now q.now }
+/// Returns whether the literal is at a position of the pattern.
+#[tactic(auto, using(crate::proofs::Literals::has_got))]
+fn is_at(pattern: &[Literal], at: usize, literal: Literal) -> bool
+    ensures { IsTrue result → has pattern.now literal ≡ true }
 {
-    q.iter().all(|literal| has(p, *literal))
+    match pattern.get(at) {
+        None => false,
+        Some(found) => is_same(literal, *found),
+    }
 }
 
-/// Whether one of two patterns has a literal.
+/// Whether a pattern has a literal. It is looked for at a likely position first.
+pub fn has_near(pattern: &[Literal], at: usize, literal: Literal) -> bool
+    ensures { result ≡ has pattern.now literal }
+{
+    if is_at(pattern, at, literal) {
+        return true;
+    }
+    has(pattern, literal)
+}
+
+/// Whether one of two patterns has a literal. It is looked for at a likely position first.
 #[tactic(auto, using(crate::proofs::Literals::has_union))]
-fn has_either(p: &[Literal], q: &[Literal], literal: Literal) -> bool
+fn has_either(p: &[Literal], q: &[Literal], at: usize, literal: Literal) -> bool
     ensures { result ≡ has (union p.now q.now) literal }
 {
-    has(p, literal) || has(q, literal)
+    has_near(p, at, literal) || has_near(q, at, literal)
 }
 
-/// Returns whether all literals of the third pattern are in the first two together.
+/// Returns whether all literals of the third pattern are in the first two together. Most are at the same position in one of these.
 pub(crate) fn include_together(p: &[Literal], q: &[Literal], r: &[Literal]) -> bool
     ensures { result ≡ includes (union p.now q.now) r.now }
 {
-    r.iter().all(|literal| has_either(p, q, *literal))
-}
-
-/// Two rows as one.
-pub(crate) fn pair(alloc: Global, a: &Row, b: &Row) -> Result<Row, Memory>
-    ensures { IfOk result (λ row. row ≡ pair a.now b.now) }
-{
-    let mut pattern = Items::new(alloc);
-    put_literals(a.pattern.as_slice(), &mut pattern)?;
-    put_literals(b.pattern.as_slice(), &mut pattern)?;
-    let mut ops = Items::from_slice(alloc, a.ops.as_slice())?;
-    ops.append(Items::from_slice(alloc, b.ops.as_slice())?)?;
-    Ok(Row { pattern, ops })
-}
-
-/// Puts each of these literals behind a pattern that doesn't have it.
-fn put_literals(more: &[Literal], pattern: &mut Items<Literal>) -> Result<(), Memory>
-    ensures { OnOk result (pattern.new ≡ fold with_literal pattern.old more.now) }
-{
-    for literal in more {
-        if !has(pattern.as_slice(), *literal) {
-            pattern.push(*literal)?;
+    for (at, literal) in r.iter().enumerate() {
+        if !has_either(p, q, at, *literal) {
+            return false;
         }
     }
-    Ok(())
+    true
 }

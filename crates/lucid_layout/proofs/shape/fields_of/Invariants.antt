@@ -4,7 +4,7 @@ use Rattle.lucid_code.specs.declared.op.Literal.{Literal}
 use Rattle.lucid_tables.specs.Numbers.{with_numbers, rises}
 use Rattle.lucid_merge.specs.RowCounts.{patterns_of}
 use Rattle.lucid_layout.specs.Refusing.{fields_of}
-use Rattle.lucid_layout.proofs.growing.fields_of.Given as goal
+use Rattle.lucid_layout.proofs.shape.fields_of.Given as goal
 
 -- the rest gives, with the items so far, the result of the whole
 abbrev pub invariant-loop-row : goal.invariant-loop-row

@@ -1,7 +1,7 @@
 use Rattle.std.proofs.Common.{sym, ◌∙◌, arith}
 use Rattle.std.proofs.lemmas.List.{take_more_same, take_all}
 use Rattle.lucid_merge.proofs.Literals.{literal_is}
-use Rattle.lucid_layout.proofs.growing.same_pattern.Goals as goal
+use Rattle.lucid_layout.proofs.shape.same_pattern.Goals as goal
 
 pub loop-at-preserved : goal.loop-at-preserved
 loop-at-preserved c =

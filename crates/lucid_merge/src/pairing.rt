@@ -1,0 +1,84 @@
+// Two rows as one: the union of their patterns, and the operations of both. Marks of the literals so far tell which of the others are new.
+ghost use Rattle.std.specs.Prelude.{◌≡◌, IfOk, OnOk};
+ghost use Rattle.std.specs.List.{fold};
+ghost use Rattle.lucid_merge.specs.Marks.{AreSeen};
+ghost use Rattle.lucid_merge.specs.Product.{has, with_literal, pair};
+
+use crate::kept::{is_marked, mark, set_mark, slot};
+use crate::patterns::has_near;
+use lucid_base::{Items, Memory};
+use lucid_code::Literal;
+use lucid_tables::Row;
+use std::alloc::Global;
+
+/// Two rows as one.
+pub(crate) fn pair(alloc: Global, a: &Row, b: &Row) -> Result<Row, Memory>
+    ensures { IfOk result (λ row. row ≡ pair a.now b.now) }
+{
+    let p = a.pattern.as_slice();
+    let q = b.pattern.as_slice();
+    let mut seen = marks_for(alloc, p, q)?;
+    let mut pattern = Items::new(alloc);
+    put_literals(p, &mut seen, &mut pattern)?;
+    put_literals(q, &mut seen, &mut pattern)?;
+    let mut ops = Items::from_slice(alloc, a.ops.as_slice())?;
+    ops.append(Items::from_slice(alloc, b.ops.as_slice())?)?;
+    Ok(Row { pattern, ops })
+}
+
+/// Places for the marks of the literals of two patterns; none where there are so few literals that all are marked.
+fn marks_for(alloc: Global, p: &[Literal], q: &[Literal]) -> Result<Vec<usize>, Memory> {
+    if p.len() > 32 || q.len() > 32 {
+        Ok(vec![in alloc; 0; 4097]?)
+    } else {
+        Ok(Vec::new(alloc))
+    }
+}
+
+/// Whether a pattern has a literal. The mark of a literal in it is its number from 1, or that of another literal with the same place.
+fn has_seen(seen: &[usize], pattern: &[Literal], literal: Literal) -> bool
+    requires { AreSeen seen.now pattern.now }
+    ensures { result ≡ has pattern.now literal }
+{
+    let place = slot(literal);
+    if !is_marked(seen, place) {
+        return false;
+    }
+    has_near(pattern, mark(seen, place).saturating_sub(1), literal)
+}
+
+/// Puts a literal behind a pattern that doesn't have it.
+fn put_literal(
+    literal: Literal,
+    seen: &mut Vec<usize>,
+    pattern: &mut Items<Literal>,
+) -> Result<(), Memory>
+    requires { AreSeen seen.old.items pattern.old }
+    ensures value { OnOk result (pattern.new ≡ with_literal pattern.old literal) }
+    ensures seen { OnOk result (AreSeen seen.new.items pattern.new) }
+{
+    if has_seen(seen.as_slice(), pattern.as_slice(), literal) {
+        return Ok(());
+    }
+    let place = slot(literal);
+    let number = pattern.len().saturating_add(1);
+    set_mark(seen, place, number);
+    pattern.push(literal)?;
+    Ok(())
+}
+
+/// Puts each of these literals behind a pattern that doesn't have it.
+fn put_literals(
+    more: &[Literal],
+    seen: &mut Vec<usize>,
+    pattern: &mut Items<Literal>,
+) -> Result<(), Memory>
+    requires { AreSeen seen.old.items pattern.old }
+    ensures value { OnOk result (pattern.new ≡ fold with_literal pattern.old more.now) }
+    ensures seen { OnOk result (AreSeen seen.new.items pattern.new) }
+{
+    for literal in more {
+        put_literal(*literal, seen, pattern)?;
+    }
+    Ok(())
+}
