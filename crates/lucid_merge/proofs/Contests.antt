@@ -61,7 +61,7 @@ module _ (lone : List Literal) where
       by true e =
           let left : slice_get lone (field_slot l) ≡ Some l = found_is l (slice_get lone (field_slot l)) (not_true (is_found l (slice_get lone (field_slot l))) h) in
           let right : slice_get lone (field_slot m) ≡ Some m = found_is m (slice_get lone (field_slot m)) e in
-          let same : l ≡ m = some_same l m (sym left ∙ ap (λ k. slice_get lone (k % 1024)) (opposed_field l m o) ∙ right) in
+          let same : l ≡ m = some_same l m (sym left ∙ ap (λ k. slice_get lone (k % 4096)) (opposed_field l m o) ∙ right) in
           absurd (true≢false (sym o ∙ ap (opposed l) (sym same) ∙ self_unopposed l))
 
   -- a finding of one side is one of both

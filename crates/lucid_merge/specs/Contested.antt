@@ -7,7 +7,7 @@ use Rattle.lucid_merge.specs.Product.{is_same}
 
 -- Where a literal's field has its place.
 abbrev pub field_slot : Literal → ℕ
-field_slot l = l.field % 1024
+field_slot l = l.field % 4096
 
 abbrev pub is_found : Literal → Option Literal → Bool
 is_found l None = false

@@ -14,7 +14,7 @@ use std::alloc::Global;
 fn field_slot(literal: Literal) -> usize
     ensures { result ≡ field_slot literal }
 {
-    (literal.field % 1024) as usize
+    (literal.field % 4096) as usize
 }
 
 /// Returns whether another literal is at the place of the literal's field.
@@ -63,7 +63,7 @@ pub(crate) fn lone_literals(alloc: Global, a: &[Row], b: &[Row]) -> Result<Vec<L
         equal: false,
         value: u64::MAX,
     };
-    let mut lone = vec![in alloc; none; 1024]?;
+    let mut lone = vec![in alloc; none; 4096]?;
     note_rows(&mut lone, a);
     note_rows(&mut lone, b);
     Ok(lone)
