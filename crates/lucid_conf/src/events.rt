@@ -1,17 +1,19 @@
 // The events of a scenario.
 ghost use Rattle.std.specs.Prelude.{◌≡◌, [], IfOk, IfSome};
 ghost use Rattle.std.specs.List.{All};
+ghost use Rattle.serde_json.specs.Find.{get as get_of};
 ghost use Rattle.serde_json.specs.View.{view, items_view, members_view};
 ghost use Rattle.lucid_conf.specs.declared.key.Key.TheVariants as key;
 ghost use Rattle.lucid_conf.specs.Answers.{Gives};
 ghost use Rattle.lucid_conf.specs.Items.{is_event_key as is_key, are_event_keys as are_keys, event as event_read};
+ghost use Rattle.lucid_conf.specs.Keys.{name_of};
 ghost use Rattle.lucid_conf.specs.Kept.{IsFileEvent};
 ghost use Rattle.lucid_conf.specs.Named.{NumbersLast, event_names};
 ghost use Rattle.lucid_conf.specs.Reading.{each, list};
 
 use crate::items::{args_of, number_of, text_of};
 use crate::names::{Names, events_by_name, number_named};
-use crate::reading::{bad_at, items};
+use crate::reading::{bad_at, take_items};
 use crate::{ConfError, FileEvent, Key};
 use lucid_base::{Event, Items};
 use lucid_core::Core;
@@ -61,35 +63,37 @@ fn event(core: &Core, names: &Names, switches: u32, item: &Value) -> Option<File
     })
 }
 
-/// The events that the file has.
+/// The events that the file has, which are moved out of its value. The steps stay.
 pub(crate) fn events(
     alloc: Global,
-    value: &Value,
+    value: &mut Value,
     core: &Core,
     switches: u32,
 ) -> Result<Items<FileEvent>, ConfError>
-    ensures value { Gives result (list (view value.now) key.Events (event_read core.now switches)) }
+    ensures value { Gives result (list (view value.old) key.Events (event_read core.now switches)) }
     ensures each { IfOk result (All (IsFileEvent core.now switches)) }
+    ensures steps { get_of (name_of key.Steps) (view value.new) ≡ get_of (name_of key.Steps) (view value.old) }
 {
-    let values = items(value, Key::Events)?;
+    let values = take_items(alloc, value, Key::Events)?;
     let names = events_by_name(alloc, core.events())?;
     each_event(alloc, core, &names, switches, values)
 }
 
+// Drops the value of each event as soon as the event is read.
 fn each_event(
     alloc: Global,
     core: &Core,
     names: &Names,
     switches: u32,
-    values: &[Value],
+    values: Vec<Value>,
 ) -> Result<Items<FileEvent>, ConfError>
     requires { NumbersLast names.now (event_names core.now.events) }
-    ensures value { Gives result (each key.Events (event_read core.now switches) [] (items_view values.now)) }
+    ensures value { Gives result (each key.Events (event_read core.now switches) [] (items_view values.items)) }
     ensures each { IfOk result (All (IsFileEvent core.now switches)) }
 {
     let mut events = Items::new(alloc);
     for value in values {
-        match event(core, names, switches, value) {
+        match event(core, names, switches, &value) {
             None => return bad_at(Key::Events, events.len()),
             Some(event) => events.push(event)?,
         }

@@ -1,13 +1,14 @@
 // Reading a value key by key. Each function is the word of its name in specs/Reading.antt.
-ghost use Rattle.std.specs.Prelude.{◌≡◌, IfOk, IfErr, Ok, None};
+ghost use Rattle.std.specs.Prelude.{◌≡◌, List, ℕ, IfOk, IfErr, Ok, None, bytes_eq, if◌then◌else◌};
+ghost use Rattle.serde_json.specs.Find.{get as get_of};
 ghost use Rattle.serde_json.specs.View.{view, items_view, members_view};
 ghost use Rattle.lucid_conf.specs.Answers.{Reads, Refuses, Gives, Fails};
-ghost use Rattle.lucid_conf.specs.Keys.{is_known as is_known_name};
+ghost use Rattle.lucid_conf.specs.Keys.{name_of, is_known as is_known_name};
 ghost use Rattle.lucid_conf.specs.Reading.{IsBetween, bad as bad_key, or_bad_at, all_known as all_are_known, file as file_read};
 ghost use Rattle.lucid_conf.specs.Reading.{number as number_read, required as required_read, items as items_read};
 
 use crate::{ConfError, Key};
-use lucid_json::{Map, Unread, Value, get, items_in, members_in, number_in};
+use lucid_json::{Map, Unread, Value, get, into_items, items_in, members_in, number_in, take};
 use std::alloc::Global;
 
 /// Reads the value that the bytes spell.
@@ -118,6 +119,25 @@ pub(crate) fn items(value: &Value, key: Key) -> Result<&[Value], ConfError>
     match get(value, key.name()) {
         None => Ok(&[]),
         Some(found) => match items_in(found) {
+            None => bad(key),
+            Some(list) => Ok(list),
+        },
+    }
+}
+
+/// Moves out the items of a list, none if the key is absent. The other keys stay.
+pub(crate) fn take_items(
+    alloc: Global,
+    value: &mut Value,
+    key: Key,
+) -> Result<Vec<Value>, ConfError>
+    ensures ok { IfOk result (λ items. items_read (view value.old) key ≡ Ok (items_view items.items)) }
+    ensures err { IfErr result (λ e. Fails e (items_read (view value.old) key)) }
+    ensures left { (name : List ℕ) → get_of name (view value.new) ≡ (if bytes_eq (name_of key) name then None else get_of name (view value.old)) }
+{
+    match take(value, key.name()) {
+        None => Ok(Vec::new(alloc)),
+        Some(found) => match into_items(found) {
             None => bad(key),
             Some(list) => Ok(list),
         },

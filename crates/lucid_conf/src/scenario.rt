@@ -37,8 +37,8 @@ pub fn scene_of(alloc: Global, bytes: &[u8], core: &Core) -> Result<Scene, ConfE
     ensures answers { Answers result (scene_read core.now) bytes.now }
     ensures keeps { IfOk result (IsScene core.now) }
 {
-    let value = value_of(alloc, bytes)?;
-    read_scene(alloc, &value, core)
+    let mut value = value_of(alloc, bytes)?;
+    read_scene(alloc, &mut value, core)
 }
 
 /// The cells of all arrays. A core has at most 64 arrays, of sizes below 2^32.
@@ -77,8 +77,9 @@ fn stop(value: &Value, switches: u32) -> Result<u64, ConfError>
     }
 }
 
-fn read_scene(alloc: Global, value: &Value, core: &Core) -> Result<Scene, ConfError>
-    ensures value { Gives result (scene_read core.now (view value.now)) }
+// Moves the events and the steps out of the value.
+fn read_scene(alloc: Global, value: &mut Value, core: &Core) -> Result<Scene, ConfError>
+    ensures value { Gives result (scene_read core.now (view value.old)) }
     ensures keeps { IfOk result (IsScene core.now) }
 {
     file(value, &KEYS)?;

@@ -12,7 +12,7 @@ ghost use Rattle.lucid_conf.specs.Reading.{each, list};
 
 use crate::items::{number_at, text_at};
 use crate::names::{Names, arrays_by_name, number_named};
-use crate::reading::{bad_at, items};
+use crate::reading::{bad_at, take_items};
 use crate::{ConfError, Key, Step};
 use lucid_base::Items;
 use lucid_core::Core;
@@ -68,29 +68,30 @@ fn step(core: &Core, names: &Names, item: &Value) -> Option<Step>
     }
 }
 
-/// The steps that the file has.
-pub(crate) fn steps(alloc: Global, value: &Value, core: &Core) -> Result<Items<Step>, ConfError>
-    ensures value { Gives result (list (view value.now) key.Steps (step_read core.now)) }
+/// The steps that the file has, which are moved out of its value.
+pub(crate) fn steps(alloc: Global, value: &mut Value, core: &Core) -> Result<Items<Step>, ConfError>
+    ensures value { Gives result (list (view value.old) key.Steps (step_read core.now)) }
     ensures each { IfOk result (All (IsStep core.now)) }
 {
-    let values = items(value, Key::Steps)?;
+    let values = take_items(alloc, value, Key::Steps)?;
     let names = arrays_by_name(alloc, core.arrays())?;
     each_step(alloc, core, &names, values)
 }
 
+// Drops the value of each step as soon as the step is read.
 fn each_step(
     alloc: Global,
     core: &Core,
     names: &Names,
-    values: &[Value],
+    values: Vec<Value>,
 ) -> Result<Items<Step>, ConfError>
     requires { NumbersLast names.now (array_names core.now.arrays) }
-    ensures value { Gives result (each key.Steps (step_read core.now) [] (items_view values.now)) }
+    ensures value { Gives result (each key.Steps (step_read core.now) [] (items_view values.items)) }
     ensures each { IfOk result (All (IsStep core.now)) }
 {
     let mut steps = Items::new(alloc);
     for value in values {
-        match step(core, names, value) {
+        match step(core, names, &value) {
             None => return bad_at(Key::Steps, steps.len()),
             Some(step) => steps.push(step)?,
         }
