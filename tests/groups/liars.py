@@ -28,7 +28,7 @@ cat "$t/err" >&2
 cat "$t/out" 2>/dev/null || {{ echo 'write fault' >&2; exit 10; }}
 exit $code
 """
-# The program takes the place of this wrapper's shell, so its requests for memory are counted and not those of the shell.
+# The program takes the place of this wrapper's shell, so its requests for memory and its writes are counted, and not those of the shell.
 REPLACED = "#!/bin/sh\nprogram='{program}'\n{before}\nexec \"$program\" \"$@\"\n"
 
 
@@ -56,6 +56,9 @@ NO_WINDOWS = r"""sed 's/"down" *: *\[\(\[[^]]*\][, ]*\)*\]/"down":[]/' "$5" >"$t
 WHOLE = '"$program" layout "$3" "$4" >/dev/null 2>&1 && { shift 2; set -- run whole "$@"; }'
 SWAPPED = 'sed "1{\$!{h;d}};2G" "$t/out" >"$t/new" && mv "$t/new" "$t/out"'
 NO_LAST_CELL = 'tac "$t/out" | sed "0,/^s[0-9]/{/^s[0-9]/d}" | tac >"$t/new" && mv "$t/new" "$t/out"'
+BUFFERED = 't=$(mktemp) || exit 99; "$program" "$@" >"$t"; code=$?; cat "$t"; rm "$t"; exit $code'
+BY_LINES = r"""t=$(mktemp) || exit 99; "$program" "$@" >"$t"; code=$?
+while IFS= read -r line; do printf '%s\n' "$line"; done <"$t"; rm "$t"; exit $code"""
 LIES: Dict[str, Lie] = {
     "refuses every layout": Lie(["rows layouts", "rows pipelines", "generated", "drawn"], behind=of("layout*|run?pipe*", refusal(7, "nofit: node 0"))),
     "accepts no program": Lie(["rows checks", "generated", "drawn"], behind=of("check*", refusal(5, "types: declaration 1 line 1"))),
@@ -70,6 +73,8 @@ LIES: Dict[str, Lie] = {
     "ends with another status": Lie(["rows checks"], behind="[ $code != 6 ] || code=5"),
     "prints errors on its output": Lie(["rows refusals", "drawn"], behind='cat "$t/err" >>"$t/out"; : >"$t/err"'),
     "writes one byte more than it should": Lie(["rows accepted"], behind='[ $code != 0 ] || echo >>"$t/out"'),
+    "holds a log until its end": Lie(["streams blocks"], before=BUFFERED, wrapper=REPLACED),
+    "writes a block line by line": Lie(["streams blocks"], before=BY_LINES, wrapper=REPLACED),
     "is content with a full device": Lie(["streams"], behind='cat "$t/out" 2>/dev/null || exit $code; : >"$t/out"'),
 }
 SCRIPT_70 = "#!/bin/sh\nexit 70\n"
@@ -100,11 +105,14 @@ CHECKS: Dict[str, Callable[[Group], None]] = {
     "rows accepted": of_rows("limits"),
     "generated": one_network,
     "streams": streams.faults_of_a_stream,
+    "streams blocks": streams.one_write_a_block,
     "refused pipes": pipes,
     "drawn": drawn_calls,
 }
 TRUTH = "tells the truth"
-TRUTHS = [Lie([name for name in CHECKS if name != "refused pipes"]), Lie(["refused pipes"], wrapper=REPLACED)]
+# Checks that count what the program asks of the machine.
+DIRECT = ["refused pipes", "streams blocks"]
+TRUTHS = [Lie([name for name in CHECKS if name not in DIRECT]), Lie(DIRECT, wrapper=REPLACED)]
 
 
 def wrapper(group: Group, name: str, lie: Lie) -> Path:

@@ -17,8 +17,9 @@ from typing import List, Sequence
 from harness import FIRST, FIRST_LOG, TOP, Ended, Group, Word, call, is_listed, shell
 
 FAULT = b"write fault\n"
-# A line that begins with a bracket, and lines that begin with two blanks.
-BLOCK = re.compile(rb"\[[^\n]*\n(?:  [^\n]*\n)*")
+# A line that begins with a bracket and the lines below it that begin with two blanks; and the begin of any such line.
+BLOCK = re.compile(rb"(?m)^\[[^\n]*\n(?:  [^\n]*\n)*")
+LINE_OF_BLOCK = re.compile(rb"(?m)^(?:\[|  )")
 FORMS = """check P|expand P|once P pkt 5|layout P L|run whole P L S|run pipe P L S|run placed P L S Q|drive P L S|audit P L Q|snap P L S 0
 gen program 0 1|gen limits 0 1|gen scene 0 1|bench 0 1"""
 
@@ -83,7 +84,7 @@ def writes_of(words: Sequence[Word]) -> List[bytes]:
 
 
 def one_write_a_block(group: Group) -> None:
-    """The logs of all commands that run events: each write is a whole block and nothing else, or has no line of a block's head."""
+    """The logs of all commands that run events: each write is a whole block and nothing else, or has no line of a block."""
     limits = group.file("blocks.limits", "{}")
     events = ",".join('{"at":%d,"switch":0,"name":"pkt","args":[%d]}' % (at, at) for at in range(40))
     network = group.file("blocks.network", '{"stop":60,"events":[%s]}' % events)
@@ -96,11 +97,12 @@ def one_write_a_block(group: Group) -> None:
         ["drive", FIRST, limits, driven],
     ):
         writes = writes_of([group.options.program, *words])
-        blocks = [write for write in writes if BLOCK.fullmatch(write)]
-        heads = len(re.findall(rb"(?m)^\[", b"".join(writes)))
+        blocks = BLOCK.findall(b"".join(writes))
         name = " ".join(word for word in words if isinstance(word, str))
         group.check(f"{name}: all its output", b"".join(writes) == group.call(*words).out)
-        group.check(f"{name}: one write for each block", len(blocks) == heads > 0, writes[0][:200] if writes else "")
+        lines = any(block.count(b"\n") > 1 for block in blocks)
+        alone = [write for write in writes if LINE_OF_BLOCK.search(write)] == blocks
+        group.check(f"{name}: one write for each block", lines and alone, writes[0][:200] if writes else "")
 
 
 def is_cut(ended: Ended, whole: bytes) -> bool:
