@@ -3,7 +3,9 @@
 Runs the program that `gen` makes of 7 in a network of 64 switches, in pipes that are half full, and in one pipe that is driven by hand.
 Fails if the two write other bytes. Then prints a line of a table for each call: processor seconds, the least of five calls that take
 turns, or of `--runs` many, and their factor; and the nanoseconds of one stage of a packet. A second table splits `run whole` into reading
-its files and the rest, also beside the plain program that writes each block at once, as ours does. Sees no speed of other programs.
+its files and the rest, also beside the plain program that writes each block at once, as ours does. A third has `run whole` with one write
+for each block, and with a buffer of 64 KiB (buffer.c). Fails if the buffer changes the output (seen with a buffer
+that drops its last bytes). Sees no speed of other programs.
 """
 from __future__ import annotations
 
@@ -12,9 +14,9 @@ import random
 import statistics
 import subprocess
 from pathlib import Path
-from typing import Dict, List
+from typing import Dict, List, Union
 
-from harness import TESTS, Group, compile_c, measure, table
+from harness import TESTS, Group, call, compile_c, measure, table
 
 CALLS = [
     "run whole program limits network",
@@ -92,6 +94,7 @@ def run(group: Group) -> None:
     steps = [statistics.median(turn[CALLS[-2]][side] - turn[CALLS[-1]][side] for turn in times) / count * 1e9 for side in (0, 1)]
     table(group, ["Command", "Ours", "Plain Rust", "Factor"], [*rows, row("a stage of a packet, ns", "%.1f", *steps)])
     reading(group, spent, reference)
+    buffering(group, spent)
 
 
 def reading(group: Group, spent: Path, reference: Path) -> None:
@@ -107,9 +110,23 @@ def reading(group: Group, spent: Path, reference: Path) -> None:
     table(group, titles, rows)
 
 
-def seconds(group: Group, spent: Path, program: Path, words: str) -> float:
-    """Processor seconds of a call whose output goes to /dev/null."""
-    spent_by = measure(spent, ["/bin/sh", "-c", 'exec "$@" >/dev/null', "sh", program, *words.split()], group.room)
+def buffering(group: Group, spent: Path) -> None:
+    """Prints the seconds of `run whole` with one write for each block and with a buffer, into a file and to /dev/null."""
+    compile_c(group, "buffer.c", "-fPIC", "-shared").rename(group.room / "buffer.so")
+    buffered = group.file("buffered", f'#!/bin/sh\nLD_PRELOAD=./buffer.so exec "{group.options.program.resolve()}" "$@"\n')
+    buffered.chmod(0o755)
+    outs = [call([program, *WHOLE.split()], cwd=group.room) for program in (group.options.program.resolve(), buffered)]
+    group.check(f"{WHOLE}: the same output with a buffer", outs[0] == outs[1], outs[1])
+    kinds = ("a file", group.room / "out"), ("`/dev/null`", "/dev/null")
+    turns = [{(kind, program): seconds(group, spent, program, WHOLE, out) for kind, out in kinds for program in (group.options.program, buffered)}
+             for _ in range(group.options.runs or 5)]
+    rows = [row(kind, "%.3f", *(min(turn[kind, program] for turn in turns) for program in (group.options.program, buffered))) for kind, _ in kinds]
+    table(group, ["Output of `run whole`", "One write for each block", "With a buffer of 64 KiB", "Factor"], rows)
+
+
+def seconds(group: Group, spent: Path, program: Path, words: str, out: Union[Path, str] = "/dev/null") -> float:
+    """Processor seconds of a call with this output."""
+    spent_by = measure(spent, ["/bin/sh", "-c", f'exec "$@" >"{out}"', "sh", program, *words.split()], group.room)
     group.check(f"{words}: ends with 0 as it is timed", spent_by.ended.status == 0, spent_by.ended)
     return spent_by.seconds
 
