@@ -1,7 +1,7 @@
 mod FirstStages
 mod Firsts
 mod Growing
-mod Widths
+pub mod Widths
 pub mod Places
 mod FitsKeep
 mod FitsAccepted

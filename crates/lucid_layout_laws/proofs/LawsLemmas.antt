@@ -84,7 +84,7 @@ first P Q decide (suc n) = of (first P Q decide n) (decide n)
 
 -- ---- the place of one node
 
-behind_decided : (n : Work) (k : ℕ) (seats : List Seat) → Decided (Behind seats n k)
+pub behind_decided : (n : Work) (k : ℕ) (seats : List Seat) → Decided (Behind seats n k)
 behind_decided n k [] = inl tt
 behind_decided n k (s ∷ seats) = both_decided (asked_decided (feeds s.node n) (less_decided s.at.stage k)) (behind_decided n k seats)
 

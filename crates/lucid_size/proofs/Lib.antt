@@ -13,7 +13,7 @@ mod Turns
 mod Bytes
 pub mod Unique
 mod Lengths
-mod Exists
+pub mod Exists
 mod Repeats
 mod Rows
 mod InText

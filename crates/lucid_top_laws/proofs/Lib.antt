@@ -1,3 +1,4 @@
+mod AnswersThereLemmas
 mod Declares
 mod Empty
 mod Entering
@@ -7,5 +8,10 @@ pub mod Packets
 mod Programs
 pub mod Rooms
 mod Settings
+mod ThereCyclesLemmas
+mod ThereFitLemmas
+mod ThereLemmas
+mod ThereOrderLemmas
+mod ThereTextsLemmas
 mod WorkedExamples
 mod WorkedLemmas

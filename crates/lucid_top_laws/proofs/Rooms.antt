@@ -4,7 +4,6 @@ use Rattle.std.specs.Prelude.{IsTrue}
 use Rattle.std.specs.List.{AllByRecursion}
 use Rattle.lucid_code.proofs.Following.{nodes_follow}
 use Rattle.lucid_code.specs.Nodes.{nodes_follow_writes}
-use Rattle.lucid_code.specs.Parts.{CodeParts}
 use Rattle.lucid_code.specs.Valid.{IsValid}
 use Rattle.lucid_conf.specs.declared.limits.Limits.{Limits}
 use Rattle.lucid_core.specs.Parts.{CoreParts}
@@ -23,7 +22,6 @@ use Rattle.lucid_pass_spec.specs.Dead.{alive}
 use Rattle.lucid_pass_spec.specs.Direct.{direct}
 use Rattle.lucid_pass_spec.specs.Laws.{KeepsNodes}
 use Rattle.lucid_pass_spec.specs.Looks.{copies, folded}
-use Rattle.lucid_pass_spec.specs.Replace.{Rewrite}
 use Rattle.lucid_tables.specs.Placed.{PlacedParts}
 use Rattle.lucid_top_fit.specs.Fit.{Composed, Fit, IsComposed, IsPlaced, composed, fit_of, normal_of}
 use Rattle.lucid_top_fit.specs.Passes.{KeepNodes, PassView}

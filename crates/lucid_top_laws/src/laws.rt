@@ -3,15 +3,18 @@ ghost use Rattle.std.specs.Prelude.{◌≡◌, ◌<◌, ◌^◌, All};
 ghost use Rattle.lucid_effects_spec.specs.Order.{IsAccepted};
 ghost use Rattle.lucid_normal_spec.specs.Stands.{StandsFor};
 ghost use Rattle.lucid_core.specs.Parts.{CoreParts};
-ghost use Rattle.lucid_top_laws.specs.Laws.{AnswersAreOne};
+ghost use Rattle.lucid_top_laws.specs.Laws.{AnswersAreOne, AnswersAreThere};
 ghost use Rattle.lucid_top_laws.specs.Moves.{MovesRunWhole};
 ghost use Rattle.lucid_top_laws.specs.Packet.{AuditsRunWhole, FitsRunWhole, RunsWhole};
 ghost use Rattle.lucid_top_laws.specs.Room.{OursKeepNodes, RefusedForRoom};
 
 use lucid_audit::audits_are_one;
 use lucid_core::{Core, HandlerDef};
+use lucid_effects_laws::bodies_are_decided;
+use lucid_effects_spec::paths_decide;
 use lucid_inline_spec::{flat_is_valid, keeps_order};
 use lucid_layout::{layouts_are_one, stuck_for_room};
+use lucid_layout_laws::layouts_are_there;
 use lucid_merge::{guards_contradict, products_act, products_name};
 use lucid_parse_spec::declarations_are_read_as_spelled;
 use lucid_pass::lists_keep_the_laws;
@@ -19,7 +22,7 @@ use lucid_pass_laws::code_stands;
 use lucid_pass_spec::passes_keep_nodes;
 use lucid_pipe::moves_are_passes;
 use lucid_tables::Placed;
-use lucid_types_laws::declarations_are_computed;
+use lucid_types_laws::{declarations_are_computed, programs_are_decided, typed_programs_are_valid};
 use lucid_types_spec::the_first_refusal_is_found;
 
 /// A law: if first fit places an accepted program after any passes, one packet through all stages leaves the cells and sends the outs of
@@ -90,6 +93,18 @@ pub fn answers_are_one()
     declarations_are_computed();
     layouts_are_one();
     audits_are_one();
+}
+
+/// A law: words, the contents of files and passes have an answer, if the contents are specified.
+pub fn answers_are_there()
+    ensures { AnswersAreThere }
+{
+    declarations_are_read_as_spelled();
+    programs_are_decided();
+    typed_programs_are_valid();
+    bodies_are_decided();
+    paths_decide();
+    layouts_are_there();
 }
 
 fn events_have_32_bits(handlers: &[HandlerDef])
