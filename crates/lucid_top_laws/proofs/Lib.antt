@@ -4,6 +4,7 @@ mod Empty
 mod Entering
 mod LawsLemmas
 pub mod Moving
+mod NodesRoomLemmas
 pub mod Packets
 mod Programs
 pub mod Rooms

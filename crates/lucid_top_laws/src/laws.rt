@@ -6,7 +6,7 @@ ghost use Rattle.lucid_core.specs.Parts.{CoreParts};
 ghost use Rattle.lucid_top_laws.specs.Laws.{AnswersAreOne, AnswersAreThere};
 ghost use Rattle.lucid_top_laws.specs.Moves.{MovesRunWhole};
 ghost use Rattle.lucid_top_laws.specs.Packet.{AuditsRunWhole, FitsRunWhole, RunsWhole};
-ghost use Rattle.lucid_top_laws.specs.Room.{OursKeepNodes, RefusedForRoom};
+ghost use Rattle.lucid_top_laws.specs.Room.{NodesLackRoom, OursKeepNodes, RefusedForRoom};
 
 use lucid_audit::audits_are_one;
 use lucid_core::{Core, HandlerDef};
@@ -66,6 +66,17 @@ pub fn refused_for_room(core: &Core)
     passes_keep_nodes();
     stuck_for_room();
     events_have_32_bits(core.handlers());
+}
+
+/// A law on the answers of commands: if the program is accepted and the passes keep each node after its reads, a node has no place only if
+/// a limit is exceeded.
+pub fn nodes_lack_room(core: &Core)
+    ensures { IsAccepted core.now → NodesLackRoom core.now }
+{
+    refused_for_room(core);
+    declarations_are_read_as_spelled();
+    the_first_refusal_is_found();
+    declarations_are_computed();
 }
 
 /// A law: the same holds for all placed code that represents a program, however it was placed.

@@ -9,7 +9,7 @@ mod worked;
 
 pub use laws::{
     answers_are_one, answers_are_there, audits_run_whole, fits_run_whole, moves_run_whole,
-    placements_run_whole, refused_for_room,
+    nodes_lack_room, placements_run_whole, refused_for_room,
 };
 pub use worked::{
     once_is_answered, pipelines_are_answered, placements_are_answered, run_whole_is_answered,
