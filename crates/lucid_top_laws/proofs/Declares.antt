@@ -45,10 +45,10 @@ abbrev semicolon : Kind
 semicolon = kind.Sign sign.Semicolon
 
 -- a token that is found at the front of a text stands there, and so does a blank
-token_stands : (len : ℕ) (kind : Kind) (rest : Bytes) → front_of rest ≡ token len kind → Stands (cut len (Some kind) rest) (drop len rest)
+pub token_stands : (len : ℕ) (kind : Kind) (rest : Bytes) → front_of rest ≡ token len kind → Stands (cut len (Some kind) rest) (drop len rest)
 token_stands len kind rest found = let begins = subst (IsFrontOf rest) found (front_of-is rest) in begins.stands
 
-gap_stands : (len : ℕ) (rest : Bytes) → front_of rest ≡ gap len → Stands (cut len None rest) (drop len rest)
+pub gap_stands : (len : ℕ) (rest : Bytes) → front_of rest ≡ gap len → Stands (cut len None rest) (drop len rest)
 gap_stands len rest found = let begins = subst (IsFrontOf rest) found (front_of-is rest) in begins.stands
 
 at_event : front_of (codes "event e();") ≡ token 5 word_event

@@ -23,7 +23,7 @@ zero : decimal 0 ≡ codes "0"
 unfolding digits
 zero = refl
 
-zero_is : number_of (codes "0") ≡ Some (unsigned 0)
+pub zero_is : number_of (codes "0") ≡ Some (unsigned 0)
 zero_is = ap number_of (sym zero) ∙ number_of-decimal 0 (omega arith)
 
 -- ---- the scenario, by its tokens and their tree

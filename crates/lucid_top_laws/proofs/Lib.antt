@@ -2,6 +2,8 @@ mod AnswersThereLemmas
 mod Declares
 mod Empty
 mod Entering
+mod FlightExamples
+mod HandlerExamples
 mod LawsLemmas
 pub mod Moving
 mod NodesRoomLemmas

@@ -7,13 +7,19 @@ use Rattle.lucid_top_words.specs.Words.{Bytes}
 abbrev pub once : Bytes → Bytes → Question
 once program name = record { words = codes "once" ∷ codes "p" ∷ name ∷ []; held = λ file. Some program; passes = [] }
 
--- `run whole p l t`: the program, the limits and the scenario
-abbrev pub run_whole : Bytes → Bytes → Bytes → Question
-run_whole program limits scenario = record {
-  words = codes "run" ∷ codes "whole" ∷ codes "p" ∷ codes "l" ∷ codes "t" ∷ [];
+-- `run MODE p l t`: the program, the limits and the scenario
+abbrev run : Bytes → Bytes → Bytes → Bytes → Question
+run mode program limits scenario = record {
+  words = codes "run" ∷ mode ∷ codes "p" ∷ codes "l" ∷ codes "t" ∷ [];
   held = λ file. Some (if bytes_eq file (codes "p") then program else if bytes_eq file (codes "l") then limits else scenario);
   passes = [];
 }
+
+abbrev pub run_whole : Bytes → Bytes → Bytes → Question
+run_whole = run (codes "whole")
+
+abbrev pub run_pipe : Bytes → Bytes → Bytes → Question
+run_pipe = run (codes "pipe")
 
 -- These words, over files in which `p` holds the program `event e();`, `l` the limits `{}`, `q` a placement of no node, and any other
 -- name a scenario with one event.

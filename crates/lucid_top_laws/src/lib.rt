@@ -13,5 +13,5 @@ pub use laws::{
 };
 pub use worked::{
     once_is_answered, pipelines_are_answered, placements_are_answered, run_whole_is_answered,
-    run_with_an_event_is_answered,
+    run_with_an_event_is_answered, two_packets_are_answered,
 };
