@@ -11,6 +11,7 @@ pub mod Packets
 mod Programs
 pub mod Rooms
 mod Settings
+mod TemplateExamples
 mod ThereCyclesLemmas
 mod ThereFitLemmas
 mod ThereLemmas

@@ -7,6 +7,10 @@ use Rattle.lucid_top_words.specs.Words.{Bytes}
 abbrev pub once : Bytes → Bytes → Question
 once program name = record { words = codes "once" ∷ codes "p" ∷ name ∷ []; held = λ file. Some program; passes = [] }
 
+-- `expand p`
+abbrev pub expand : Bytes → Question
+expand program = record { words = codes "expand" ∷ codes "p" ∷ []; held = λ file. Some program; passes = [] }
+
 -- `run MODE p l t`: the program, the limits and the scenario
 abbrev run : Bytes → Bytes → Bytes → Bytes → Question
 run mode program limits scenario = record {

@@ -12,6 +12,7 @@ pub use laws::{
     nodes_lack_room, placements_run_whole, refused_for_room,
 };
 pub use worked::{
-    once_is_answered, pipelines_are_answered, placements_are_answered, run_whole_is_answered,
-    run_with_an_event_is_answered, two_packets_are_answered,
+    a_template_is_expanded, limits_are_generated, once_is_answered, pipelines_are_answered,
+    placements_are_answered, run_whole_is_answered, run_with_an_event_is_answered,
+    two_packets_are_answered,
 };

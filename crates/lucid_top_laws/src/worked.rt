@@ -1,7 +1,7 @@
 // Calls that were worked by hand. Nothing runs.
 ghost use Rattle.std.specs.Prelude.{[], ◌∷◌, Ok, codes};
 ghost use Rattle.lucid_top.specs.Answer.{Answers};
-ghost use Rattle.lucid_top_laws.specs.Calls.{once, over_an_event, run_pipe, run_whole};
+ghost use Rattle.lucid_top_laws.specs.Calls.{expand, once, over_an_event, run_pipe, run_whole};
 
 use lucid_base::Span;
 use lucid_lex::{Kind, Sign, Token, Word};
@@ -204,3 +204,14 @@ pub fn two_packets_are_answered()
         &HANDLER_TOKENS,
     );
 }
+
+/// `expand` of a text with a template, which is used at width 8, is answered with the text of its instance.
+pub fn a_template_is_expanded()
+    ensures { Answers (expand (codes "fun <<w>> f(){}f<<8>>()")) (Ok (codes "fun  f_8(){}f_8()")) }
+{}
+
+/// `gen limits 1 1` is answered with the limits of a large target.
+pub fn limits_are_generated()
+    ensures { Answers (over_an_event (codes "gen" ∷ codes "limits" ∷ codes "1" ∷ codes "1" ∷ []))
+        (Ok (codes "{\"stages\":32,\"tables\":64,\"rows\":1024,\"bits\":65536}\n")) }
+{}
