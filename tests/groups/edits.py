@@ -1,7 +1,7 @@
 """The wrong bodies of crates/*/must-fail still apply: each `old:` text is in its file exactly once.
 
-Fails on a text whose place was renamed or moved, and on a README that names an edit which the gate does not try. Sees nothing of the
-proofs: `rt must-fail NAME` tries an edit.
+Fails on a text whose place was renamed or moved, on a README that names an edit which the gate does not try, and on a table of docs/PROVING.md
+that has other edits than the gate tries. Sees nothing of the proofs: `rt must-fail NAME` tries an edit.
 """
 from __future__ import annotations
 
@@ -32,11 +32,19 @@ def run(group: Group) -> None:
             group.check(f"{name}: `{old}` is in {file} once", text.count(old) == 1 and old != new, text.count(old))
     for path in sorted(TOP.glob("crates/*/README.md")):
         named_edits(group, path)
+    tried = sorted((path.parent.parent.name, words_of(path)) for path in TOP.glob("crates/*/must-fail/*.edit"))
+    listed = sorted(re.findall(r"^\| `(lucid_\w+)` \| ([^|]*) \|", (TOP / "docs/PROVING.md").read_text(), flags=re.M))
+    group.check("docs/PROVING.md lists the wrong bodies that the gate tries", listed == tried, sorted(set(listed) ^ set(tried)))
+
+
+def words_of(path: Path) -> str:
+    """The name of an edit as pages have it."""
+    return path.stem.replace("_", " ")
 
 
 def named_edits(group: Group, path: Path) -> None:
     """Each edit that a README names in brackets behind `the gate tries` is a file that the gate tries."""
-    edits = {edit.stem.replace("_", " ") for edit in path.parent.glob("must-fail/*.edit")}
+    edits = {words_of(edit) for edit in path.parent.glob("must-fail/*.edit")}
     for names in re.findall(r"gate tries \(([^)]*)\)", path.read_text()):
         for name in re.split("[;,] ", names):
             group.check(f"{path.relative_to(TOP)}: the gate tries `{name}`", name in edits, sorted(edits))
