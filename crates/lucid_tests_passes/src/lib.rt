@@ -1,4 +1,4 @@
-// Tests of the passes over operations by their public calls, on two programs worked by hand.
+// Tests of the passes over operations by their public calls, on code worked by hand.
 // Nothing depends on this crate.
 #![tactic(auto)]
 
@@ -6,5 +6,7 @@
 mod boxes;
 #[cfg(test)]
 mod operands;
+#[cfg(test)]
+mod rounds;
 #[cfg(test)]
 mod worked;
