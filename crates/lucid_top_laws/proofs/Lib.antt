@@ -10,6 +10,7 @@ mod NodesRoomLemmas
 pub mod Packets
 mod Programs
 pub mod Rooms
+mod SafeProgramsLemmas
 mod Settings
 mod TemplateExamples
 mod ThereCyclesLemmas

@@ -131,40 +131,40 @@ ran_well : (core : CoreParts) (i : ℕ) (event : Option Event) {A : Type 0} → 
 ran_well core i None same = absurd (cc)
 ran_well core i (Some event) same = absurd (cc)
 
-module _ (agree : (program : List ℕ) → Agree (IsProgram program)) (core : CoreParts) (for_room : RefusedForRoom core) where
-  pub nodes_lack_room : NodesLackRoom core
-  nodes_lack_room command.Check g keep is i =
-      then_text core for_room g.passes keep i (text 0 g) (text 1 g) (agree (text 0 g)) is (IsProgram (text 0 g)) counts_line
-      (by_program core for_room g.passes keep i (text 0 g) (text 1 g) (agree (text 0 g)) is)
-  nodes_lack_room (command.Once arguments) g keep is i =
+module _ (agree : (program : List ℕ) → Agree (IsProgram program)) (for_room : (program : List ℕ) (core : CoreParts) → IsProgram program (Ok core) → RefusedForRoom core) where
+  pub nodes_lack_room : NodesLackRoom
+  nodes_lack_room command.Check g keep core is i =
+      then_text core (for_room (text 0 g) core is) g.passes keep i (text 0 g) (text 1 g) (agree (text 0 g)) is (IsProgram (text 0 g)) counts_line
+      (by_program core (for_room (text 0 g) core is) g.passes keep i (text 0 g) (text 1 g) (agree (text 0 g)) is)
+  nodes_lack_room (command.Once arguments) g keep core is i =
       refused_by (IsProgram (text 0 g)) (λ c p. p ≡ ran c (event_of c (word_at g.words 2) arguments)) (no_place i)
-      (by_program core for_room g.passes keep i (text 0 g) (text 1 g) (agree (text 0 g)) is)
+      (by_program core (for_room (text 0 g) core is) g.passes keep i (text 0 g) (text 1 g) (agree (text 0 g)) is)
       (λ c known after. ran_well c i (event_of c (word_at g.words 2) arguments) after)
-  nodes_lack_room command.Expand g keep is i = refused_by (AreTokens (text 0 g)) (IsExpanded (text 0 g)) (no_place i) (λ fails. absurd fails) (λ ts known fails. absurd fails)
-  nodes_lack_room command.Layout g keep is i =
-      then_text core for_room g.passes keep i (text 0 g) (text 1 g) (agree (text 0 g)) is (IsPiped (text 0 g) (text 1 g) g.passes)
-      (λ p. fit_text (map PassView.name g.passes) p.fitted) (by_pipes core for_room g.passes keep i (text 0 g) (text 1 g) (agree (text 0 g)) is)
-  nodes_lack_room command.RunWhole g keep is i =
-      refused_by (IsTarget (text 0 g) (text 1 g)) (RunsUnder (text 2 g)) (no_place i) (by_target core for_room g.passes keep i (text 0 g) (text 1 g) (agree (text 0 g)) is)
+  nodes_lack_room command.Expand g keep core is i = refused_by (AreTokens (text 0 g)) (IsExpanded (text 0 g)) (no_place i) (λ fails. absurd fails) (λ ts known fails. absurd fails)
+  nodes_lack_room command.Layout g keep core is i =
+      then_text core (for_room (text 0 g) core is) g.passes keep i (text 0 g) (text 1 g) (agree (text 0 g)) is (IsPiped (text 0 g) (text 1 g) g.passes)
+      (λ p. fit_text (map PassView.name g.passes) p.fitted) (by_pipes core (for_room (text 0 g) core is) g.passes keep i (text 0 g) (text 1 g) (agree (text 0 g)) is)
+  nodes_lack_room command.RunWhole g keep core is i =
+      refused_by (IsTarget (text 0 g) (text 1 g)) (RunsUnder (text 2 g)) (no_place i) (by_target core (for_room (text 0 g) core is) g.passes keep i (text 0 g) (text 1 g) (agree (text 0 g)) is)
       (λ under has. refused_by (IsScenario under.core (text 2 g)) (λ scene p. p ≡ Ok (log (whole under.core scene under.limits))) (no_place i) (λ fails. absurd fails)
       (λ scene known after. not_ok (log (whole under.core scene under.limits)) (no_place i) after))
-  nodes_lack_room command.RunPipe g keep is i =
-      then_text core for_room g.passes keep i (text 0 g) (text 1 g) (agree (text 0 g)) is (IsReady (text 0 g) (text 1 g) (text 2 g) g.passes) (λ r. log (network_of r))
-      (by_ready core for_room g.passes keep i (text 0 g) (text 1 g) (agree (text 0 g)) is (text 2 g))
-  nodes_lack_room command.RunPlaced g keep is i =
-      then_text core for_room g.passes keep i (text 0 g) (text 1 g) (agree (text 0 g)) is (IsReadyPlaced (text 0 g) (text 1 g) (text 2 g) (text 3 g) g.passes)
-      (λ r. log (network_of r)) (by_ready_placed core for_room g.passes keep i (text 0 g) (text 1 g) (agree (text 0 g)) is (text 2 g) (text 3 g))
-  nodes_lack_room command.Drive g keep is i =
-      then_text core for_room g.passes keep i (text 0 g) (text 1 g) (agree (text 0 g)) is (IsReady (text 0 g) (text 1 g) (text 2 g) g.passes) (λ r. drive_log (driven r))
-      (by_ready core for_room g.passes keep i (text 0 g) (text 1 g) (agree (text 0 g)) is (text 2 g))
-  nodes_lack_room command.Audit g keep is i =
-      then_text core for_room g.passes keep i (text 0 g) (text 1 g) (agree (text 0 g)) is (IsAudit (text 0 g) (text 1 g) (text 2 g) g.passes)
-      (λ p. fit_text (map PassView.name g.passes) p.fitted) (by_audit core for_room g.passes keep i (text 0 g) (text 1 g) (agree (text 0 g)) is (text 2 g))
-  nodes_lack_room (command.Snap after) g keep is i =
-      then_text core for_room g.passes keep i (text 0 g) (text 1 g) (agree (text 0 g)) is (IsReady (text 0 g) (text 1 g) (text 2 g) g.passes)
-      (λ r. snap_log (driven r) after) (by_ready core for_room g.passes keep i (text 0 g) (text 1 g) (agree (text 0 g)) is (text 2 g))
-  nodes_lack_room (command.Gen kind seed n) g keep is i = not_ok (gen_text kind seed n) (no_place i)
-  nodes_lack_room (command.Bench seed n) g keep is i =
-      then_text core for_room g.passes keep i (program_text seed) limits_text (agree (program_text seed)) is
+  nodes_lack_room command.RunPipe g keep core is i =
+      then_text core (for_room (text 0 g) core is) g.passes keep i (text 0 g) (text 1 g) (agree (text 0 g)) is (IsReady (text 0 g) (text 1 g) (text 2 g) g.passes) (λ r. log (network_of r))
+      (by_ready core (for_room (text 0 g) core is) g.passes keep i (text 0 g) (text 1 g) (agree (text 0 g)) is (text 2 g))
+  nodes_lack_room command.RunPlaced g keep core is i =
+      then_text core (for_room (text 0 g) core is) g.passes keep i (text 0 g) (text 1 g) (agree (text 0 g)) is (IsReadyPlaced (text 0 g) (text 1 g) (text 2 g) (text 3 g) g.passes)
+      (λ r. log (network_of r)) (by_ready_placed core (for_room (text 0 g) core is) g.passes keep i (text 0 g) (text 1 g) (agree (text 0 g)) is (text 2 g) (text 3 g))
+  nodes_lack_room command.Drive g keep core is i =
+      then_text core (for_room (text 0 g) core is) g.passes keep i (text 0 g) (text 1 g) (agree (text 0 g)) is (IsReady (text 0 g) (text 1 g) (text 2 g) g.passes) (λ r. drive_log (driven r))
+      (by_ready core (for_room (text 0 g) core is) g.passes keep i (text 0 g) (text 1 g) (agree (text 0 g)) is (text 2 g))
+  nodes_lack_room command.Audit g keep core is i =
+      then_text core (for_room (text 0 g) core is) g.passes keep i (text 0 g) (text 1 g) (agree (text 0 g)) is (IsAudit (text 0 g) (text 1 g) (text 2 g) g.passes)
+      (λ p. fit_text (map PassView.name g.passes) p.fitted) (by_audit core (for_room (text 0 g) core is) g.passes keep i (text 0 g) (text 1 g) (agree (text 0 g)) is (text 2 g))
+  nodes_lack_room (command.Snap after) g keep core is i =
+      then_text core (for_room (text 0 g) core is) g.passes keep i (text 0 g) (text 1 g) (agree (text 0 g)) is (IsReady (text 0 g) (text 1 g) (text 2 g) g.passes)
+      (λ r. snap_log (driven r) after) (by_ready core (for_room (text 0 g) core is) g.passes keep i (text 0 g) (text 1 g) (agree (text 0 g)) is (text 2 g))
+  nodes_lack_room (command.Gen kind seed n) g keep core is i = not_ok (gen_text kind seed n) (no_place i)
+  nodes_lack_room (command.Bench seed n) g keep core is i =
+      then_text core (for_room (program_text seed) core is) g.passes keep i (program_text seed) limits_text (agree (program_text seed)) is
       (IsReady (program_text seed) limits_text (scene_text seed n) g.passes) (λ r. bench_line seed n (log (network_of r)))
-      (by_ready core for_room g.passes keep i (program_text seed) limits_text (agree (program_text seed)) is (scene_text seed n))
+      (by_ready core (for_room (program_text seed) core is) g.passes keep i (program_text seed) limits_text (agree (program_text seed)) is (scene_text seed n))

@@ -7,6 +7,6 @@ use Rattle.lucid_top_words.specs.Outcome.{Alike, Outcome}
 abbrev pub AnswersAreOne : Type 0
 AnswersAreOne = (q : Question) (o p : Outcome) → Answers q o → Answers q p → Alike o p
 
--- Every question has an answer whose files have specified contents.
+-- Every question whose files have specified contents has an answer.
 abbrev pub AnswersAreThere : Type 0
 AnswersAreThere = (q : Question) → IsTold q → (o : Outcome) × Answers q o

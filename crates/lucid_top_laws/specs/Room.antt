@@ -47,7 +47,7 @@ abbrev pub LacksRoom : CoreParts → List PassView → ℕ → Bytes → Type 0
 LacksRoom core passes i text = (limits : Limits) × IsLimits text (Ok limits) × (let code = (composed core passes).code in NoRoom code.ops limits [] (works code.ops) i)
 
 -- If the passes keep each node after its reads, a command answers that a node has no place only because no place has room for it.
-abbrev pub NodesLackRoom : CoreParts → Type 0
-NodesLackRoom core =
-    (c : Command) (g : Given) → KeepNodes (map PassView.gives g.passes) → IsProgram (program_in c g) (Ok core) → (i : ℕ) →
+abbrev pub NodesLackRoom : Type 0
+NodesLackRoom =
+    (c : Command) (g : Given) → KeepNodes (map PassView.gives g.passes) → (core : CoreParts) → IsProgram (program_in c g) (Ok core) → (i : ℕ) →
     CommandAnswers c g (Err (refusal.NoFit (fit.Node i))) → LacksRoom core g.passes i (limits_in c g)

@@ -70,13 +70,15 @@ pub fn refused_for_room(core: &Core)
 
 /// A law on the answers of commands: if the program is accepted and the passes keep each node after its reads, a node has no place only if
 /// a limit is exceeded.
-pub fn nodes_lack_room(core: &Core)
-    ensures { IsAccepted core.now → NodesLackRoom core.now }
+pub fn nodes_lack_room()
+    ensures { NodesLackRoom }
 {
-    refused_for_room(core);
     declarations_are_read_as_spelled();
     the_first_refusal_is_found();
     declarations_are_computed();
+    typed_programs_are_valid();
+    lists_keep_the_laws();
+    stuck_for_room();
 }
 
 /// A law: the same holds for all placed code that represents a program, however it was placed.
