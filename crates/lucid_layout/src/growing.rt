@@ -108,7 +108,7 @@ fn no_refusals(alloc: Global, table: &[Row], rows: usize) -> Result<Refusals, Me
     })
 }
 
-/// The known refusals if they are of this table and are fewer than 16, and otherwise none yet.
+/// The known refusals if they are of this table and are fewer than 64, and otherwise none yet.
 fn refusals_of(
     alloc: Global,
     known: Option<Refusals>,
@@ -121,7 +121,7 @@ fn refusals_of(
     let Some(known) = known else {
         return no_refusals(alloc, table, rows);
     };
-    if known.shapes.len() < 16 && are_of(&known, table, rows) {
+    if known.shapes.len() < 64 && are_of(&known, table, rows) {
         return Ok(known);
     }
     no_refusals(alloc, table, rows)
