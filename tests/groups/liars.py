@@ -1,16 +1,16 @@
 """Wrappers of the built program with one lie each, and for each lie the checks that must fail on it.
 
 Fails on a check that passes under its liar, and on a check that fails under a wrapper without a lie. So a check that was weakened until it
-sees nothing is seen itself. Sees only the lies below.
+sees nothing is seen itself. Fails also where the table of tests/README.md has other lies or checks. Sees only the lies below.
 """
 from __future__ import annotations
 
 from dataclasses import dataclass
 from pathlib import Path
-from typing import Callable, Dict, List
+from typing import Callable, Dict, List, Tuple
 
 from drawn.cases import draw_case
-from harness import Group, Stopped
+from harness import TESTS, Group, Stopped, compile_c
 from model import deeply
 
 from . import drawn, generated, refused, rows, streams, words
@@ -30,6 +30,17 @@ exit $code
 """
 # The program takes the place of this wrapper's shell, so its requests for memory and its writes are counted, and not those of the shell.
 REPLACED = "#!/bin/sh\nprogram='{program}'\n{before}\nexec \"$program\" \"$@\"\n"
+# The same in C, for requests that are refused: this wrapper makes none, so the first one is the program's.
+COMPILED = """#include <signal.h>
+#include <stdlib.h>
+#include <unistd.h>
+
+int main(int count, char **words)
+{{
+    {before}
+    return count ? execv("{program}", words) : 99;
+}}
+"""
 
 
 @dataclass(frozen=True)
@@ -64,7 +75,7 @@ LIES: Dict[str, Lie] = {
     "accepts no program": Lie(["rows checks", "generated", "drawn"], behind=of("check*", refusal(5, "types: declaration 1 line 1"))),
     "ignores windows of links": Lie(["rows networks"], before=of("run*", NO_WINDOWS)),
     "runs `run pipe` by running handlers whole": Lie(["refused pipes"], before=of("run?pipe*", WHOLE), wrapper=REPLACED),
-    "runs `run placed` whatever the placement": Lie(["rows placements"], behind=of("audit*", '[ $code != 12 ] || { code=0; : >"$t/err"; }')),
+    "accepts every placement": Lie(["rows placements"], behind=of("audit*", '[ $code != 12 ] || { code=0; : >"$t/err"; }')),
     "has no `bench`": Lie(["rows generated", "generated"], before=of("bench*", "echo usage >&2; exit 1")),
     "reports `memory` always": Lie(["rows checks", "drawn", "generated"], before="echo memory >&2; exit 11"),
     "ends by a signal": Lie(["drawn", "rows checks"], before="kill -SEGV $$"),
@@ -75,8 +86,11 @@ LIES: Dict[str, Lie] = {
     "writes one byte more than it should": Lie(["rows accepted"], behind='[ $code != 0 ] || echo >>"$t/out"'),
     "holds a log until its end": Lie(["streams blocks"], before=BUFFERED, wrapper=REPLACED),
     "writes a block line by line": Lie(["streams blocks"], before=BY_LINES, wrapper=REPLACED),
+    "ends by a signal where memory is refused": Lie(["refused requests"], 'if (getenv("REFUSE_MEMORY")) raise(SIGSEGV);', wrapper=COMPILED),
+    "goes on after a refused write": Lie(["refused requests"], 'unsetenv("REFUSE_WRITE");', wrapper=COMPILED),
     "is content with a full device": Lie(["streams"], behind='cat "$t/out" 2>/dev/null || exit $code; : >"$t/out"'),
 }
+OF_SCRIPT = "is a script `lucid` that ends with 70"
 SCRIPT_70 = "#!/bin/sh\nexit 70\n"
 
 
@@ -100,6 +114,11 @@ def pipes(group: Group) -> None:
     refused.pipes_take_memory(group)
 
 
+def requests(group: Group) -> None:
+    refused.prepare(group)
+    refused.each_request(group, "once first.luc pkt 5".split(), refused.STEP)
+
+
 CHECKS: Dict[str, Callable[[Group], None]] = {
     **{f"rows {name}": of_rows(name) for name in "checks layouts pipelines networks placements generated refusals".split()},
     "rows accepted": of_rows("limits"),
@@ -107,17 +126,26 @@ CHECKS: Dict[str, Callable[[Group], None]] = {
     "streams": streams.faults_of_a_stream,
     "streams blocks": streams.one_write_a_block,
     "refused pipes": pipes,
+    "refused requests": requests,
     "drawn": drawn_calls,
 }
 TRUTH = "tells the truth"
 # Checks that count what the program asks of the machine.
 DIRECT = ["refused pipes", "streams blocks"]
-TRUTHS = [Lie([name for name in CHECKS if name not in DIRECT]), Lie(DIRECT, wrapper=REPLACED)]
+TRUTHS = [
+    Lie([name for name in CHECKS if name not in [*DIRECT, "refused requests"]]),
+    Lie(DIRECT, wrapper=REPLACED),
+    Lie(["refused requests"], wrapper=COMPILED),
+]
 
 
 def wrapper(group: Group, name: str, lie: Lie) -> Path:
     """Writes the wrapper of a lie."""
-    path = group.file(name.replace(" ", "-").replace("`", ""), lie.wrapper.format(program=group.options.program, before=lie.before, behind=lie.behind))
+    text = lie.wrapper.format(program=group.options.program, before=lie.before, behind=lie.behind)
+    name = name.replace(" ", "-").replace("`", "")
+    if lie.wrapper == COMPILED:
+        return compile_c(group, str(group.file(f"{name}.c", text)))
+    path = group.file(name, text)
     path.chmod(0o755)
     return path
 
@@ -133,10 +161,21 @@ def run(group: Group) -> None:
             group.check(f"`{name}` passes under a wrapper without a lie", not failed, failed)
         elif group.check(f"`{name}` fails on a program that {title}", bool(failed)):
             group.note(f"liars: {title}: {name}: {failed[:100]}")
+    listed = table_of_lies()
+    tried = [(title, name) for title, lie in LIES.items() for name in lie.checks] + [(OF_SCRIPT, "words")]
+    group.check("tests/README.md has these lies and checks", listed == tried, sorted(set(listed) ^ set(tried)) or "in another order")
     script = group.file("lucid", SCRIPT_70)
     script.chmod(0o755)
     failed = failure(group, lambda below: words.words_of_the_script(below, script))
-    group.check("`words` fails on a script that ends with 70", bool(failed))
+    if group.check("`words` fails on a script that ends with 70", bool(failed)):
+        group.note(f"liars: {OF_SCRIPT}: words: {failed[:100]}")
+
+
+def table_of_lies() -> List[Tuple[str, str]]:
+    """The lies and the checks of the table in tests/README.md."""
+    part = (TESTS / "README.md").read_text().partition("\n## Liars\n")[2].partition("\n## ")[0]
+    rows = [line.strip("| ").split(" | ") for line in part.splitlines() if line.startswith("| ")]
+    return [(cells[0], cells[1].replace("`", "")) for cells in rows[1:]]
 
 
 def failure(group: Group, check: Callable[[Group], None], **options: Path) -> str:
