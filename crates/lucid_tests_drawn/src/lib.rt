@@ -1,5 +1,6 @@
 // Tests of passes and of the pipe on drawn code, from fixed seeds.
-// Each pass's result is compared with its input, and packets that move in any order with packets that traverse the stages alone.
+// Each pass's result is compared with its input, packets that move in any order with packets that traverse the stages alone, and these
+// with an interpreter that runs the operations in order.
 // Nothing depends on this crate.
 #![tactic(auto)]
 
@@ -13,3 +14,5 @@ mod drawn_pipes;
 mod drawn_whole;
 #[cfg(test)]
 mod draws;
+#[cfg(test)]
+mod interpreted;

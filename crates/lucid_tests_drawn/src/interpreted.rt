@@ -1,0 +1,207 @@
+// Drawn code beside an interpreter, which runs the operations in the order of the list, each on the fields that the ones before it wrote.
+// It has no table, stage or register. A stage that matches, computes or stores wrongly fails here, also where it does so for all packets.
+ghost use Rattle.std.specs.Prelude.{◌≡◌};
+
+use crate::codes::code;
+use crate::drawn_whole::{Input, drawn_input, pass, placed, same_rows};
+use crate::draws::Draws;
+use lucid_base::{Args, Bits, Cells, Event, Memory, Out, Outs, Target};
+use lucid_code::{Act, Code, Literal, Operand};
+use lucid_pipe::{Passed, Pipe};
+use lucid_tables::Placed;
+use std::alloc::Global;
+use std::test::Fail;
+
+fn value(fields: &[u64], operand: Operand) -> u64 {
+    match operand {
+        Operand::Fixed(v) => v,
+        Operand::Field(k) => match fields.get(k as usize) {
+            None => 0,
+            Some(v) => *v,
+        },
+    }
+}
+
+fn all_hold(fields: &[u64], guard: &[Literal]) -> bool {
+    for literal in guard {
+        let is_equal = value(fields, Operand::Field(literal.field)) == literal.value;
+        if is_equal != literal.equal {
+            return false;
+        }
+    }
+    true
+}
+
+fn arguments(fields: &[u64], operands: &[Operand]) -> Args {
+    let mut args = Args::new();
+    for operand in operands {
+        if args.as_slice().len() < 8 {
+            args.push(value(fields, *operand));
+        }
+    }
+    args
+}
+
+/// Stores the low bits of a value in a field.
+fn store(code: &Code, fields: &mut Vec<u64>, k: u32, value: u64) {
+    let at = k as usize;
+    if at < fields.len() && at < code.fields().len() {
+        fields[at] = Bits::low(code.fields()[at], value).value;
+    }
+}
+
+/// Does what an act does. `sent` has each out behind its slot.
+fn act(
+    code: &Code,
+    act: &Act,
+    fields: &mut Vec<u64>,
+    cells: &mut Cells,
+    sent: &mut Vec<(u32, Out)>,
+) -> Result<(), Memory> {
+    match act {
+        Act::Gen {
+            slot,
+            event,
+            args,
+            delay,
+            to,
+        } => {
+            let event = Event {
+                id: *event,
+                args: arguments(fields.as_slice(), args.as_slice()),
+            };
+            let delay = value(fields.as_slice(), *delay);
+            let to = match to {
+                None => Target::Here,
+                Some(switch) => Target::At(value(fields.as_slice(), *switch)),
+            };
+            sent.push((*slot, Out::Gen { event, delay, to }))?;
+        }
+        Act::Say { slot, form, args } => {
+            let args = arguments(fields.as_slice(), args.as_slice());
+            sent.push((*slot, Out::Say { form: *form, args }))?;
+        }
+        Act::Touch {
+            array,
+            index,
+            get,
+            get_arg,
+            set,
+            set_arg,
+            to,
+        } => {
+            let cell = value(fields.as_slice(), *index);
+            let get_arg = value(fields.as_slice(), *get_arg);
+            let set_arg = value(fields.as_slice(), *set_arg);
+            let touched = cells.touch(*array, cell, get, get_arg, set, set_arg);
+            if let Some(k) = to {
+                store(code, fields, *k, touched.answer.value);
+            }
+        }
+        _ => {
+            if let Some(k) = act.written() {
+                let made = act.result(fields.as_slice(), cells);
+                store(code, fields, k, made);
+            }
+        }
+    }
+    Ok(())
+}
+
+/// The fields of a packet before its first operation.
+fn loaded(alloc: Global, code: &Code, input: &Input) -> Result<Vec<u64>, Memory> {
+    let mut fields = vec![in alloc; 0u64; code.fields().len()]?;
+    store(code, &mut fields, 0, u64::from(input.event.id));
+    store(code, &mut fields, 1, input.now);
+    store(code, &mut fields, 2, u64::from(input.me));
+    let mut field = 3u32;
+    for arg in input.event.args.as_slice() {
+        store(code, &mut fields, field, *arg);
+        field = field.saturating_add(1);
+    }
+    Ok(fields)
+}
+
+/// The outs in the order of their slots.
+fn outs_of(sent: &[(u32, Out)]) -> Outs {
+    let mut outs = Outs::new();
+    for slot in 0..8u32 {
+        for (at, out) in sent {
+            if *at == slot && outs.as_slice().len() < 8 {
+                outs.push(*out);
+            }
+        }
+    }
+    outs
+}
+
+/// Runs the operations on an input, one after another.
+fn interpret(
+    alloc: Global,
+    code: &Code,
+    input: &Input,
+    cells: &mut Cells,
+) -> Result<Passed, Memory> {
+    let mut fields = loaded(alloc, code, input)?;
+    let mut sent = Vec::new(alloc);
+    for op in code.ops() {
+        if all_hold(fields.as_slice(), op.guard.as_slice()) {
+            act(code, &op.act, &mut fields, cells, &mut sent)?;
+        }
+    }
+    Ok(Passed {
+        event: input.event,
+        now: input.now,
+        me: input.me,
+        outs: outs_of(sent.as_slice()),
+    })
+}
+
+/// Whether a drawn event leaves the pipe with the outs that the interpreter gives. Adds their number to `sent`.
+fn agrees(
+    alloc: Global,
+    draws: &mut Draws,
+    code: &Code,
+    pipe: &mut Pipe,
+    cells: &mut Cells,
+    sent: &mut usize,
+) -> Result<bool, Memory>
+    requires { pipe.old.placed.code ≡ code.now }
+    ensures { pipe.new.placed ≡ pipe.old.placed }
+{
+    let Some(input) = drawn_input(draws, code) else {
+        return Ok(false);
+    };
+    let passed = pass(pipe, &input);
+    let wanted = interpret(alloc, code, &input, cells)?;
+    *sent = sent.saturating_add(wanted.outs.as_slice().len());
+    Ok(passed == Some(wanted))
+}
+
+/// Whether twenty drawn events in a row agree, and then all cells.
+fn run(alloc: Global, draws: &mut Draws, code: &Placed, sent: &mut usize) -> Result<bool, Memory> {
+    let mut pipe = Pipe::new(alloc, code)?;
+    let mut cells = Cells::zeros(alloc, code.code().arrays())?;
+    let mut same = true;
+    for _turn in 0..20 {
+        let agreed = agrees(alloc, draws, code.code(), &mut pipe, &mut cells, sent)?;
+        same = same && agreed;
+    }
+    let rows = pipe.rows(alloc)?;
+    let held = cells.rows(alloc)?;
+    Ok(same && same_rows(rows.as_slice(), held.as_slice()))
+}
+
+#[test]
+fn stages_do_what_the_operations_do_in_order(rt: HostRuntime) -> Result<(), Fail> {
+    let alloc = rt.alloc();
+    let mut draws = Draws { state: 41 };
+    let mut sent = 0;
+    for _turn in 0..200 {
+        let code = code(alloc, &mut draws)?.expect(&rt, "valid code");
+        let placed = placed(alloc, &code)?.expect(&rt, "room for the code");
+        assert!(rt; run(alloc, &mut draws, &placed, &mut sent)?);
+    }
+    assert!(rt; 1_000 <= sent, "{sent}");
+    Ok(())
+}
