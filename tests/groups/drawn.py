@@ -26,24 +26,25 @@ from model import agrees, deeply
 from lucid_model import Answer
 from lucid_model.code import Literal
 
-RUNS, STEP, SHOWN, MOST_TRIES = 3000, 50, 5, 600
-LEAST = {"accepted": 250, "placed": 120, "never acts": 20, "lost": 20, "windows": 2, "waiting": 40, "changed": 100, "changed and accepted": 10}
+RUNS, STEP, SHOWN, MOST_TRIES = 3000, 50, 3, 1500
+# What is left out of a file that is made smaller: lines, brackets with what is before and within them, statements, and tokens.
+PIECES = (rb"[^\n]*\n?", rb"(?s)[^\[\]{};]*[\[{][^\[\]{}]*[\]}][,;]?\s*|[^\[\]{};]*;\s*|.", rb"\w+|\s+|[^\w\s]")
+LEAST = {"accepted": 250, "placed": 120, "never acts": 20, "lost": 20, "windows": 2, "waiting": 40}
+LEAST.update({"changed": 100, "changed and accepted": 10})
 
 
 @dataclass
 class Tally:
-    """What came of calls: how many failed, how they are counted, and the texts of failures."""
+    """What came of calls: the numbers of those that failed, and how they are counted."""
 
-    failed: int = 0
+    failed: List[int] = field(default_factory=list)
     counts: Counter = field(default_factory=Counter)
     seen: Counter = field(default_factory=Counter)
-    texts: List[str] = field(default_factory=list)
 
     def add(self, other: "Tally") -> None:
         self.failed += other.failed
         self.counts += other.counts
         self.seen += other.seen
-        self.texts += other.texts
 
 
 def contradicts(guard: Tuple[Literal, ...]) -> bool:
@@ -83,23 +84,22 @@ def differs(case: Case, program: str, folder: str) -> bool:
 
 
 def shrink(case: Case, program: str, folder: str) -> Case:
-    """Leaves out lines and then tokens of the files as long as the answers differ."""
+    """Leaves out pieces of the files, larger ones first, as long as the answers differ."""
     tries = MOST_TRIES
-    for name in case.files:
-        for pattern in (rb"[^\n]*\n?", rb"\w+|\s+|[^\w\s]"):
-            pieces = [piece for piece in re.findall(pattern, case.files[name]) if piece]
-            size = len(pieces) // 2
-            while size >= 1 and tries > 0:
-                at = 0
-                while at < len(pieces) and tries > 0:
-                    tries -= 1
-                    fewer = pieces[:at] + pieces[at + size :]
-                    smaller = Case(case.words, {**case.files, name: b"".join(fewer)})
-                    if differs(smaller, program, folder):
-                        case, pieces = smaller, fewer
-                    else:
-                        at += size
-                size //= 2
+    for pattern, name in [(pattern, name) for _ in range(2) for pattern in PIECES for name in case.files]:
+        pieces = [piece for piece in re.findall(pattern, case.files[name]) if piece]
+        size = len(pieces) // 2
+        while size >= 1 and tries > 0:
+            at = 0
+            while at < len(pieces) and tries > 0:
+                tries -= 1
+                fewer = pieces[:at] + pieces[at + size :]
+                smaller = Case(case.words, {**case.files, name: b"".join(fewer)})
+                if differs(smaller, program, folder):
+                    case, pieces = smaller, fewer
+                else:
+                    at += size
+            size //= 2
     return case
 
 
@@ -125,44 +125,43 @@ def run_numbers(program: str, seed: int, numbers: range) -> Tally:
                 tally.counts[case.command, ended.status] += 1
                 look(case, answer, tally.seen)
                 if not agrees(answer, ended.status, ended.out, ended.err):
-                    tally.failed += 1
-                    small = shrink(case, program, folder) if tally.failed <= SHOWN else case
-                    tally.texts.append(f"--seed {seed} --only {number}\n" + shown(small, program, folder))
+                    tally.failed.append(number)
         return tally
 
     return deeply(work)
 
 
 def report(group: Group, total: Tally, runs: int) -> None:
-    """Prints the failed calls and the counts, and checks that enough of each kind were drawn."""
-    for text in total.texts[:SHOWN]:
-        group.note(f"drawn: failed: {text}")
+    """Prints the first failed calls and the counts, and checks that enough of each kind were drawn."""
+    program, seed, room = str(group.options.program), group.options.seed, str(group.room)
+    for number in total.failed[:SHOWN]:
+        small = deeply(lambda: shown(shrink(draw_case(seed, number), program, room), program, room))
+        group.note(f"drawn: --seed {seed} --only {number}\n{small}")
     statuses = sorted({status for _, status in total.counts})
     group.note("drawn: command      " + "".join(f"{status:>7}" for status in statuses))
     for command in COMMANDS:
         group.note(f"drawn: {command:<13}" + "".join(f"{total.counts[command, status]:>7}" for status in statuses))
     group.note("drawn: " + ", ".join(f"{name} {count}" for name, count in sorted(total.seen.items())))
-    group.passed += runs - total.failed
-    group.failed += total.failed
+    group.passed += runs - len(total.failed)
+    for number in total.failed:
+        group.check(f"--seed {seed} --only {number}", False)
     for name, least in LEAST.items():
         if runs >= 1000:
             group.check(f"{name}: {least} of 1,000", total.seen[name] * 1000 >= least * runs, total.seen[name])
 
 
-def run(group: Group, runs: int = RUNS) -> None:
-    program, seed = str(group.options.program), group.options.seed
+def run(group: Group) -> None:
+    program, seed, room = str(group.options.program), group.options.seed, str(group.room)
     if group.options.only:
-        with tempfile.TemporaryDirectory(prefix="drawn") as folder:
-            for number in group.options.only:
-                case = draw_case(seed, int(number))
-                group.note(deeply(lambda: shown(case, program, folder)))
-                group.check(number, not deeply(lambda: differs(case, program, folder)))
+        for number in group.options.only:
+            case = deeply(lambda: draw_case(seed, int(number)))
+            group.note(deeply(lambda: shown(case, program, room)))
+            group.check(number, not deeply(lambda: differs(case, program, room)))
         return
-    runs = group.options.runs or runs
+    runs = group.options.runs or RUNS
     pieces = [range(at, min(at + STEP, runs)) for at in range(0, runs, STEP)]
     total = Tally()
     with ProcessPoolExecutor(group.options.jobs or os.cpu_count()) as pool:
         for tally in pool.map(run_numbers, [program] * len(pieces), [seed] * len(pieces), pieces):
             total.add(tally)
     report(group, total, runs)
-    group.check("drawn calls", total.failed == 0, total.failed)
