@@ -60,7 +60,7 @@ FAULTS = [
     Fault('an index beyond the array is its last cell', 'interpret.py', 'i = parts[0] % len(cells)',
           'i = min(parts[0], len(cells) - 1)'),
     Fault('a group of which one member gets the event', 'interpret.py', 's.members or [to]', '(s.members or [to])[:1]'),
-    Fault('no moves before the events of a group', 'normal.py', '[self.move(p, s.at) for p in parts]', 'parts'),
+    Fault('no moves before the events of a group', 'normal.py', 'if is_group else', 'if False else'),
     Fault('outs behind an if in the slots of its branches', 'normal.py', 'max(end[2] for end in ends)', 'slot'),
     Fault('calls behind an if before those in its branches', 'normal.py', 'max(end[1] for end in ends)', 'place'),
     Fault('no join of an answer that both branches hold by the same', 'normal.py', 'if yes == no and not always:', 'if yes == no:'),

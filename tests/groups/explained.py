@@ -65,7 +65,7 @@ def same_place(report: Report, row: Row) -> bool:
     declaration = re.match(r"(types|order): declaration \d+ line (\d+)", line)
     if declaration and row.status == 5:
         begin = fault.notes[-1][0]
-        return text.count("\n", 0, begin) + 1 == int(declaration.group(2)) and begin <= fault.at
+        return text.count("\n", 0, begin) + 1 == int(declaration.group(2)) and fault.at is not None and begin <= fault.at
     if declaration:
         return all(text.count("\n", 0, at) + 1 >= int(declaration.group(2)) for at, _ in report.explanation.words.notes)
     return True

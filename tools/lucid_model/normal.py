@@ -106,7 +106,8 @@ class Translation:
             if isinstance(s, core.If):
                 self.choice(s, f)
                 continue
-            parts = [self.value(x, f) for x in core.children(s)]
+            is_group = isinstance(s, core.Gen) and s.members is not None  # each argument, and the delay, is moved before the next
+            parts = [self.move(self.value(x, f), s.at) if is_group else self.value(x, f) for x in core.children(s)]
             if isinstance(s, core.Assign):
                 f.held[s.local] = self.move(parts[0], s.at)
             elif isinstance(s, core.Gen):
@@ -117,9 +118,7 @@ class Translation:
                 f.held, f.answer = None, parts[0] if parts else None
 
     def send(self, s: core.Gen, parts: List[Held]) -> None:
-        """One operation; for a group moves of the arguments and of the delay, and then one for each member."""
-        if s.members is not None:
-            parts = [self.move(p, s.at) for p in parts]
+        """One operation; for a group one for each member."""
         args, delay, to = core.sent_parts(s, parts)
         for target in [to] if s.members is None else [number(m, 32) for m in s.members]:
             targets = [] if target is None else [target]
