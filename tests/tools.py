@@ -852,6 +852,14 @@ def current(t: Tests, top: str, lucid: Callable[..., "subprocess.CompletedProces
     os.chmod(f"{out}/lucid_main", 0o755)
     is_built = lambda: lucid("check", "p").stdout == b"built\n"  # noqa: E731
     t.check("a program that rt built runs", is_built() and os.path.exists(f"{out}/looked"))
+    here = lambda: subprocess.run(["./lucid", "check", "p"], capture_output=True, cwd=top, env={**os.environ, "PATH": f"{top}/bin:{os.environ['PATH']}"})  # noqa: E731
+    os.remove(f"{out}/made_of")
+    os.utime(f"{out}/lucid_main", ns=(0, 0))
+    ran = here()
+    t.check("a program that is older than a source, called in its folder", ran.stdout != b"built\n" and ran.returncode == 70, ran)
+    os.utime(f"{out}/lucid_main")
+    ran = here()
+    t.check("a program that rt built runs in its folder", (ran.stdout, ran.stderr) == (b"built\n", b""), ran)
     stamp = os.stat(f"{out}/looked").st_mtime_ns
     t.check("a second call takes no sums", is_built() and os.stat(f"{out}/looked").st_mtime_ns == stamp)
     source = f"{top}/crates/lucid_lex/src/lib.rt"
