@@ -643,6 +643,9 @@ def schemas(t: Tests) -> None:
         ({**good, "events": [{"at": 0, "switch": 0, "name": "hit", "args": [-1]}]}, False), ({**good, "events": [{"at": 0, "switch": 0, "name": "hit", "args": [1], "x": 1}]}, False),
         ({**good, "events": [{"at": 2**64, "switch": 0, "name": "hit", "args": [1]}]}, False), ({**good, "steps": [["go", 32]]}, False), ({**good, "steps": [["enter", 1]]}, False), ({**good, "steps": [["look", "x"]]}, False),
         ({**good, "steps": ["enter"]}, False), ({**good, "events": None}, False), ({**good, "switches": True}, False),
+        ({**good, "links": [[0, 1, 5, 1]]}, False), ({**good, "version": 2, "down": [[0, 1, 2, 3, 4]]}, False), ({**good, "steps": [["go", 1, 2]]}, False), ({**good, "steps": [["go"]]}, False),
+        ({**good, "steps": [["look", "x", 1, 2]]}, False), ({**good, "steps": [[]]}, False), ({**good, "steps": [["stop"]]}, False), ({**good, "links": [[0, 64, 5]]}, False),
+        ({**good, "events": [{"at": 0, "switch": 0, "name": "hit", "args": [0] * 9}]}, False), ({**good, "events": [{"at": 0, "switch": 0, "name": 1, "args": [0]}]}, False),
     ]
     for scene, holds in scenes:
         code = t.run(t.program, "run", "whole", program, limits, t.file("t.json", json.dumps(scene))).returncode
