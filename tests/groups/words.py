@@ -11,9 +11,9 @@ from typing import Dict, List
 
 from harness import FIRST, PROGRAM, TOP, Group, Word, call
 
-# Calls that are measured, and the seconds of a processor that the script may add to one. The quickest calls count, since a busy machine
-# makes calls slower. The sums of all sources take 0.1 s.
-CALLS, MOST = 100, 0.01
+# Calls that are measured, and the milliseconds of a processor that the script may add to one. The quickest calls count, since a busy
+# machine makes calls slower. The sums of all sources take 0.1 s.
+CALLS, MOST = 100, 10
 EIGHT = "event wide(int a, int b, int c, int d, int e, int f, int g, int h);"
 
 
@@ -61,6 +61,6 @@ def cost_of_the_script(group: Group, lucid: Word) -> None:
             before = spent()
             call([program, "check", FIRST])
             its.append(spent() - before)
-    cost = min(took[lucid]) - min(took[PROGRAM])
-    group.note(f"words: the script `lucid` adds {1000 * cost:.1f} ms of a processor to a call, in the middle {1000 * (median(took[lucid]) - median(took[PROGRAM])):.1f} ms")
-    group.check(f"the script adds at most {1000 * MOST:.0f} ms", cost <= MOST, f"{1000 * cost:.1f} ms")
+    quickest, middle = (1000 * (of(took[lucid]) - of(took[PROGRAM])) for of in (min, median))
+    group.note(f"words: the script `lucid` adds {quickest:.1f} ms of a processor to a call, in the middle {middle:.1f} ms")
+    group.check(f"the script adds at most {MOST} ms", quickest <= MOST, f"{quickest:.1f} ms")
