@@ -14,7 +14,8 @@ use Rattle.lucid_pipe.specs.Pipe.{PipeParts, empty_pipe}
 use Rattle.lucid_pipe.specs.declared.sight.Sight.{Sight}
 use Rattle.lucid_drive.specs.Changes.{Changes, Moved}
 use Rattle.lucid_drive.specs.Drive.{Drive, after_steps, begun, drive_log, end_text, entries, flight_text, last_text, text_from}
-use Rattle.lucid_drive.specs.Sights.{ShowsAll, ShowsSome, sights, sights_from, sights_to}
+use Rattle.lucid_drive.specs.Sights.{ShowsSome, sights, sights_from, sights_to}
+use Rattle.lucid_pipe.specs.Sights.{ShowsAll}
 use Rattle.lucid_drive.specs.Standing.{drive_of}
 use Rattle.lucid_drive.specs.State.{IsEmpty, StandsAfter, flush_at, moves_after, progress_at, text_to}
 use Rattle.lucid_drive.specs.declared.state.DriveState.{DriveState}

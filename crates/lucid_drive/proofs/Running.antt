@@ -12,7 +12,8 @@ use Rattle.lucid_pipe.specs.declared.sight.Sight.{Sight}
 use Rattle.lucid_tables.specs.Placed.{PlacedParts}
 use Rattle.lucid_drive.specs.Drive.{Done, Drive, Progress, after_steps, begun, does, flight_text, left, moved, progress_from, text_from}
 use Rattle.lucid_drive.specs.Flush.{flushes_at, oldest}
-use Rattle.lucid_drive.specs.Sights.{ShowsAll, sight_at, sights_from, sights_to}
+use Rattle.lucid_drive.specs.Sights.{sight_at, sights_from, sights_to}
+use Rattle.lucid_pipe.specs.Sights.{ShowsAll}
 use Rattle.lucid_drive.specs.Standing.{IsAt, drive_of}
 use Rattle.lucid_drive.specs.State.{IsEmpty, StandsAfter, flush_at, progress_at, step_at, text_to}
 use Rattle.lucid_drive.specs.declared.state.DriveState.{DriveState}

@@ -11,12 +11,12 @@ use Rattle.lucid_core.specs.Step as core
 use Rattle.lucid_pipe.specs.Packets.{Packet}
 use Rattle.lucid_pipe.specs.Pipe.{PipeParts}
 use Rattle.lucid_pipe.specs.Sights as seen
-use Rattle.lucid_pipe.specs.Sights.{Shows, sight_of}
+use Rattle.lucid_pipe.specs.Sights.{Shows, ShowsAll, sight_of}
 use Rattle.lucid_pipe.specs.declared.sight.Sight.{Sight}
 use Rattle.lucid_pipe.proofs.Moves.{many_arrays}
 use Rattle.lucid_tables.specs.Placed.{stage_of}
 use Rattle.lucid_drive.specs.Drive.{Drive, Progress, entries, is_taken}
-use Rattle.lucid_drive.specs.Sights.{ShowsAll, ShowsSome, places_from, row_at, rows_from, sight_at}
+use Rattle.lucid_drive.specs.Sights.{ShowsSome, places_from, row_at, rows_from, sight_at}
 use Rattle.lucid_drive.specs.Standing.{IsAt, drive_of}
 use Rattle.lucid_drive.proofs.Standing.{Laws, passed_many, stands_in, taken}
 

@@ -5,6 +5,7 @@ use Rattle.lucid_base.specs.Cells.{row_of}
 use Rattle.lucid_base.specs.declared.array.ArrayDef.{ArrayDef}
 use Rattle.lucid_conf.specs.declared.scene.Step.{Step}
 use Rattle.lucid_core.specs.Step.{after}
+use Rattle.lucid_pipe.specs.Sights.{ShowsAll}
 use Rattle.lucid_pipe.specs.declared.sight.Sight.{Sight}
 use Rattle.lucid_tables.specs.Placed.{stage_of}
 use Rattle.lucid_drive.specs.Drive.{Drive, Progress, begun, does, entries, is_taken}
@@ -39,12 +40,6 @@ sights_to d count = sights_from d (begun d) (take count d.scene.steps)
 abbrev pub sights : Drive → List Sight
 sights d = sights_from d (begun d) d.scene.steps
 
--- If the sights are specified after, they were before, and these were appended.
-abbrev pub ShowsAll : Option (List Sight) → Option (List Sight) → List Sight → Type 0
-ShowsAll old None sights = Unit {0}
-ShowsAll None (Some now) sights = ⊥
-ShowsAll (Some was) (Some now) sights = now ≡ was ++ sights
-
--- The first of these were.
+-- The first of these sights were shown.
 abbrev pub ShowsSome : Option (List Sight) → Option (List Sight) → List Sight → Type 0
 ShowsSome old new sights = (n : ℕ) × ShowsAll old new (take n sights)

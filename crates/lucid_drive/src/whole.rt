@@ -6,7 +6,8 @@ ghost use Rattle.lucid_io.specs.Puts.{PutsAll, PutsPart};
 ghost use Rattle.lucid_normal_spec.specs.Stands.{StandsFor};
 ghost use Rattle.lucid_pipe.specs.Pipe.{empty_pipe};
 ghost use Rattle.lucid_drive.specs.Drive.{Progress, after_steps, drive_log, entries, flight_text};
-ghost use Rattle.lucid_drive.specs.Sights.{ShowsAll, ShowsSome, sight_at, sights, sights_to};
+ghost use Rattle.lucid_drive.specs.Sights.{ShowsSome, sight_at, sights, sights_to};
+ghost use Rattle.lucid_pipe.specs.Sights.{ShowsAll};
 ghost use Rattle.lucid_drive.specs.Standing.{IsAt, drive_of};
 ghost use Rattle.lucid_drive.specs.State.{IsEmpty, StandsAfter, StandsAt, progress_at, text_to};
 

@@ -16,7 +16,8 @@ use Rattle.lucid_net_spec.specs.Ways.{Network}
 use Rattle.lucid_pipe.specs.declared.sight.Sight.{Sight}
 use Rattle.lucid_tables.specs.Placed.{PlacedParts}
 use Rattle.lucid_net.specs.Seen.{AreSame, Seen, lag, lag_by, last_text, network}
-use Rattle.lucid_net.specs.Sights.{ShowsAll, sights, sights_to}
+use Rattle.lucid_net.specs.Sights.{sights, sights_to}
+use Rattle.lucid_pipe.specs.Sights.{ShowsAll}
 use Rattle.lucid_net.specs.Wanting.{SomeMade}
 
 pub same_network : (old new : Seen) → AreSame old new → network new ≡ network old

@@ -11,7 +11,7 @@ use Rattle.lucid_net_spec.specs.Ways.{Network, Run}
 use Rattle.lucid_net_laws.specs.Rows.{first_cells, rows_in, step_of}
 use Rattle.lucid_net_laws.specs.PipeStages.{stages_of}
 use Rattle.lucid_pipe.specs.Pipe.{PipeParts, empty_pipe, in_flight}
-use Rattle.lucid_pipe.specs.Sights.{Shows, sight_of}
+use Rattle.lucid_pipe.specs.Sights.{Shows, ShowsAll, sight_of}
 use Rattle.lucid_pipe.specs.declared.sight.Sight.{Sight}
 use Rattle.lucid_pipe_laws.specs.Moves.{through}
 use Rattle.lucid_pipe_laws.specs.Rows.{Row, Steps, after_first}
@@ -21,7 +21,7 @@ use Rattle.lucid_net.specs.Numbered.{FewPipes, Packets, WithinPipes}
 use Rattle.lucid_net.specs.Pipes.{piped_of}
 use Rattle.lucid_net.specs.Seen.{lag_by}
 use Rattle.lucid_net.specs.Sent.{net_of}
-use Rattle.lucid_net.specs.Sights.{ShowsAll, in_last, shown, shown_from, sight_at, sights, sights_from}
+use Rattle.lucid_net.specs.Sights.{in_last, shown, shown_from, sight_at, sights, sights_from}
 use Rattle.lucid_net.specs.Stands.{IsAt, placed_of}
 use Rattle.lucid_net.specs.declared.machines.Machines.TheVariants as machines
 use Rattle.lucid_net.specs.declared.machines.Machines.{Machines}

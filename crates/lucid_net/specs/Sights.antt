@@ -8,19 +8,13 @@ use Rattle.lucid_net_laws.specs.Runs.{entering}
 use Rattle.lucid_net_spec.specs.Log.{ticks}
 use Rattle.lucid_net_spec.specs.Ways.{Network, Run}
 use Rattle.lucid_pipe.specs.Pipe.{PipeParts}
-use Rattle.lucid_pipe.specs.Sights.{sight_of}
+use Rattle.lucid_pipe.specs.Sights.{ShowsAll, sight_of}
 use Rattle.lucid_pipe.specs.declared.sight.Sight.{Sight}
 use Rattle.lucid_tables.specs.Placed.{PlacedParts, stage_of}
 use Rattle.lucid_tables.specs.declared.stage.StageCode.{StageCode}
 use Rattle.lucid_net.specs.declared.error.NetError.{NetError}
 use Rattle.lucid_net.specs.declared.machines.Machines.TheVariants as machines
 use Rattle.lucid_net.specs.declared.machines.Machines.{Machines}
-
--- If the sights are specified after, they were before, and these were appended.
-abbrev pub ShowsAll : Option (List Sight) → Option (List Sight) → List Sight → Type 0
-ShowsAll old None sights = Unit {0}
-ShowsAll None (Some now) sights = ⊥
-ShowsAll (Some was) (Some now) sights = now ≡ was ++ sights
 
 -- Place k is taken after `at` ticks exactly if an event entered the switch k + 1 ticks before.
 abbrev pub is_taken : Network → ℕ → ℕ → ℕ → Bool

@@ -15,16 +15,16 @@ use Rattle.lucid_top_words.specs.declared.status.Status.{Status}
 use Rattle.lucid_top_words.specs.declared.status.Status.TheVariants as status
 use Rattle.lucid_top.specs.Answer.{Question, given, Answers, AnswersTo, CanStop, CommandShows, IsTold, MayStop, OverTexts, StopsAfter, StopsOf, StopsOver, command_files, told_texts}
 use Rattle.lucid_top.specs.Call.{Call, Ended, EndSaid, PerformsOver, RunsOver, ShowsOver, files_named, question}
-use Rattle.lucid_net.specs.Sights.{ShowsAll}
+use Rattle.lucid_pipe.specs.Sights.{ShowsAll}
 use Rattle.lucid_net.specs.Wanting.{StopsAt}
 use Rattle.lucid_code.specs.Parts as code
 use Rattle.lucid_pipe.specs.declared.sight.Sight.{Sight}
-use Rattle.lucid_top.specs.Headline.{Accepted, AuditAccepts, FirstFitPlaces, Hold, Holds, Three, audited_of, bench_texts, drive, network_log, ready_of, run_pipe, run_placed, run_whole, snap, snapshot_log, steps_log, steps_sights, whole_network}
+use Rattle.lucid_top.specs.Headline.{Accepted, AuditAccepts, FirstFitPlaces, Hold, Holds, NoneFailed, Three, bench_texts, drive, network_log, network_sights, placed_by, run_pipe, run_placed, run_whole, snap, snapshot_log, steps_log, steps_sights, whole_network}
 use Rattle.lucid_top.specs.Passes.{SamePasses}
-use Rattle.lucid_top.specs.Pipes.{Ready, network_of, sights_of}
+use Rattle.lucid_top.specs.Pipes.{Ready, network_of}
 use Rattle.lucid_top.specs.Watching.{Seen, Shown, ToldBefore}
 use Rattle.lucid_top_fit.specs.Passes.{PassView, PassesRun}
-use Rattle.lucid_top.proofs.Headlines.{asks-drive, asks-pipe, asks-placed, asks-snap, asks-whole, is-placed, is-ready, shows-drive, shows-pipe, shows-placed, texts-drive, texts-pipe, texts-placed}
+use Rattle.lucid_top.proofs.Headlines.{MakeSame, Makes, Quiet, asks-drive, asks-pipe, asks-placed, asks-snap, asks-whole, audited_of, is-placed, is-ready, quiet-drive, quiet-pipe, quiet-placed, quiet-snap, quiet-whole, ready_of, shows-drive, shows-pipe, shows-placed, texts-drive, texts-pipe, texts-placed}
 use Rattle.lucid_top_words.specs.Command.{command_of}
 use Rattle.lucid_top_words.specs.Files.{FilesRead, IsOneOf, Texts, contents, of_take}
 use Rattle.lucid_top_words.specs.Outcome.{Alike, End, IsTheAnswer, Outcome, SameRefusal, end_status, outcome_status}
@@ -439,36 +439,40 @@ module _ {c : Call} {err err' : SinkView} {result : Status} (e : Ended c err err
   -- ---- the headline
 
   -- a text that is asked for was written, where nothing failed
-  wrote : {w : List (List ℕ)} (text : List ℕ) → c.words ≡ w → Answers (record { words = w; held = c.files.held; passes = c.passes }) (Ok text) → Unmet c → ¬ Rose c.out.faults c.out'.faults →
+  wrote : {w : List (List ℕ)} (text : List ℕ) → c.words ≡ w → Answers (record { words = w; held = c.files.held; passes = c.passes }) (Ok text) → Quiet c.files.faults c.files'.faults w → ¬ Rose c.out.faults c.out'.faults →
       ((result ≡ status.Ok) × All c.out c.out' text) ⊎ ((result ≡ status.Memory) × Prefix c.out c.out' text)
   wrote {w} text is asked quiet unmet =
       let asks : Answers (question c) (Ok text) = subst (λ (ws : List (List ℕ)). Answers (record { words = ws; held = c.files.held; passes = c.passes }) (Ok text)) (sym is) asked in
-      elim (complete-clause text asks quiet unmet) [
+      elim (complete-clause text asks (subst (Quiet c.files.faults c.files'.faults) (sym is) quiet) unmet) [
         | inl ok ↦ inl (ok, out-clause ok text asks)
         | inr out ↦ inr (out, memory-clause out text asks)
       ]
 
-  pub whole-clause : (names texts : Three) → Hold c.files.held names texts → (a : Accepted texts) → Unmet c → ¬ Rose c.out.faults c.out'.faults → c.words ≡ run_whole names →
+  pub whole-clause : (names texts : Three) → Hold c.files.held names texts → (a : Accepted texts) → NoneFailed c.files.faults c.files'.faults names → ¬ Rose c.out.faults c.out'.faults → c.words ≡ run_whole names →
       ((result ≡ status.Ok) × All c.out c.out' (network_log a)) ⊎ ((result ≡ status.Memory) × Prefix c.out c.out' (network_log a))
-  whole-clause names texts hold a quiet unmet is = wrote (network_log a) is (asks-whole hold a c.passes) quiet unmet
+  whole-clause names texts hold a quiet unmet is = wrote (network_log a) is (asks-whole hold a c.passes) (quiet-whole quiet) unmet
 
-  pub pipe-clause : (names texts : Three) → Hold c.files.held names texts → (a : Accepted texts) → FirstFitPlaces c.passes a → Unmet c → ¬ Rose c.out.faults c.out'.faults → c.words ≡ run_pipe names →
+  pub pipe-clause : {makes : Makes} → MakeSame makes c.passes → (names texts : Three) → Hold c.files.held names texts → (a : Accepted texts) → FirstFitPlaces makes a →
+      NoneFailed c.files.faults c.files'.faults names → ¬ Rose c.out.faults c.out'.faults → c.words ≡ run_pipe names →
       ((result ≡ status.Ok) × All c.out c.out' (network_log a)) ⊎ ((result ≡ status.Memory) × Prefix c.out c.out' (network_log a))
-  pipe-clause names texts hold a f quiet unmet is = wrote (network_log a) is (asks-pipe hold a f) quiet unmet
+  pipe-clause same names texts hold a f quiet unmet is = wrote (network_log a) is (asks-pipe hold a c.passes same f) (quiet-pipe quiet) unmet
 
-  pub drive-clause : (names texts : Three) → Hold c.files.held names texts → (a : Accepted texts) → (f : FirstFitPlaces c.passes a) → Unmet c → ¬ Rose c.out.faults c.out'.faults → c.words ≡ drive names →
+  pub drive-clause : {makes : Makes} → MakeSame makes c.passes → (names texts : Three) → Hold c.files.held names texts → (a : Accepted texts) → (f : FirstFitPlaces makes a) →
+      NoneFailed c.files.faults c.files'.faults names → ¬ Rose c.out.faults c.out'.faults → c.words ≡ drive names →
       ((result ≡ status.Ok) × All c.out c.out' (steps_log f)) ⊎ ((result ≡ status.Memory) × Prefix c.out c.out' (steps_log f))
-  drive-clause names texts hold a f quiet unmet is = wrote (steps_log f) is (asks-drive hold a f) quiet unmet
+  drive-clause same names texts hold a f quiet unmet is = wrote (steps_log f) is (asks-drive hold a c.passes same f) (quiet-drive quiet) unmet
 
-  pub placed-clause : (names texts : Three) → Hold c.files.held names texts → (placement text : List ℕ) → Holds c.files.held placement text 8388608 → (a : Accepted texts) → AuditAccepts c.passes a text →
-      Unmet c → ¬ Rose c.out.faults c.out'.faults → c.words ≡ run_placed names placement →
+  pub placed-clause : {makes : Makes} → MakeSame makes c.passes → (names texts : Three) → Hold c.files.held names texts → (placement text : List ℕ) → Holds c.files.held placement text 8388608 → (a : Accepted texts) →
+      AuditAccepts makes a text → NoneFailed c.files.faults c.files'.faults names → ¬ Rose (c.files.faults placement) (c.files'.faults placement) → ¬ Rose c.out.faults c.out'.faults → c.words ≡ run_placed names placement →
       ((result ≡ status.Ok) × All c.out c.out' (network_log a)) ⊎ ((result ≡ status.Memory) × Prefix c.out c.out' (network_log a))
-  placed-clause names texts hold placement text holds a audit quiet unmet is = wrote (network_log a) is (asks-placed hold a holds audit) quiet unmet
+  placed-clause same names texts hold placement text holds a audit quiet last unmet is =
+      wrote (network_log a) is (asks-placed hold a c.passes same holds audit) (quiet-placed quiet last) unmet
 
-  pub snapped-clause : (names texts : Three) → Hold c.files.held names texts → (a : Accepted texts) → (f : FirstFitPlaces c.passes a) → (word : List ℕ) (steps : ℕ) → number_of word ≡ Some steps →
-      Unmet c → ¬ Rose c.out.faults c.out'.faults → c.words ≡ snap names word →
+  pub snapped-clause : {makes : Makes} → MakeSame makes c.passes → (names texts : Three) → Hold c.files.held names texts → (a : Accepted texts) → (f : FirstFitPlaces makes a) → (word : List ℕ) (steps : ℕ) → number_of word ≡ Some steps →
+      NoneFailed c.files.faults c.files'.faults names → ¬ Rose c.out.faults c.out'.faults → c.words ≡ snap names word →
       ((result ≡ status.Ok) × All c.out c.out' (snapshot_log f steps)) ⊎ ((result ≡ status.Memory) × Prefix c.out c.out' (snapshot_log f steps))
-  snapped-clause names texts hold a f word steps number quiet unmet is = wrote (snapshot_log f steps) is (asks-snap hold a f word steps number) quiet unmet
+  snapped-clause same names texts hold a f word steps number quiet unmet is =
+      wrote (snapshot_log f steps) is (asks-snap hold a c.passes same f word steps number) (quiet-snap word steps number quiet) unmet
 
   -- ---- want of memory
 
@@ -487,22 +491,22 @@ module _ {c : Call} {err err' : SinkView} {result : Status} (e : Ended c err err
         )
       ]
 
-  pub memory_pipe-clause : (names texts : Three) → Hold c.files.held names texts → (a : Accepted texts) → FirstFitPlaces c.passes a → c.words ≡ run_pipe names → result ≡ status.Memory →
+  pub memory_pipe-clause : {makes : Makes} → MakeSame makes c.passes → (names texts : Three) → Hold c.files.held names texts → (a : Accepted texts) → FirstFitPlaces makes a → c.words ≡ run_pipe names → result ≡ status.Memory →
       Keeps c.out.written c.out'.written ⊎ ((begun : List ℕ) × StopsAt (whole_network a) begun × All c.out c.out' begun)
-  memory_pipe-clause names texts hold a f is memory =
+  memory_pipe-clause same names texts hold a f is memory =
       elim (stops-command command.RunPipe (texts.program ∷ texts.limits ∷ texts.scenario ∷ []) (ap command_of is)
       (subst (λ (w : List (List ℕ)). contents c.files.held w (command_files (Some command.RunPipe)) ≡ Some (Ok (texts.program ∷ texts.limits ∷ texts.scenario ∷ []))) (sym is) (texts-pipe hold a)) memory) [
         | inl keeps ↦ inl keeps
-        | inr some ↦ inr (some.0, subst (λ (r : Ready). StopsAt (network_of r) some.0) (sym (some.1.is.only (Ok (ready_of f)) (is-ready a f))) some.1.stops, some.2)
+        | inr some ↦ inr (some.0, subst (λ (r : Ready). StopsAt (network_of r) some.0) (sym (some.1.is.only (Ok (ready_of c.passes f)) (is-ready a c.passes same f))) some.1.stops, some.2)
       ]
 
-  pub memory_placed-clause : (names texts : Three) → Hold c.files.held names texts → (placement text : List ℕ) → Holds c.files.held placement text 8388608 → (a : Accepted texts) → AuditAccepts c.passes a text →
+  pub memory_placed-clause : {makes : Makes} → MakeSame makes c.passes → (names texts : Three) → Hold c.files.held names texts → (placement text : List ℕ) → Holds c.files.held placement text 8388608 → (a : Accepted texts) → AuditAccepts makes a text →
       c.words ≡ run_placed names placement → result ≡ status.Memory → Keeps c.out.written c.out'.written ⊎ ((begun : List ℕ) × StopsAt (whole_network a) begun × All c.out c.out' begun)
-  memory_placed-clause names texts hold placement text holds a audit is memory =
+  memory_placed-clause same names texts hold placement text holds a audit is memory =
       elim (stops-command command.RunPlaced (texts.program ∷ texts.limits ∷ texts.scenario ∷ text ∷ []) (ap command_of is)
       (subst (λ (w : List (List ℕ)). contents c.files.held w (command_files (Some command.RunPlaced)) ≡ Some (Ok (texts.program ∷ texts.limits ∷ texts.scenario ∷ text ∷ []))) (sym is) (texts-placed hold a holds)) memory) [
         | inl keeps ↦ inl keeps
-        | inr some ↦ inr (some.0, subst (λ (r : Ready). StopsAt (network_of r) some.0) (sym (some.1.is.only (Ok (audited_of audit)) (is-placed a audit))) some.1.stops, some.2)
+        | inr some ↦ inr (some.0, subst (λ (r : Ready). StopsAt (network_of r) some.0) (sym (some.1.is.only (Ok (audited_of c.passes audit)) (is-placed a c.passes same audit))) some.1.stops, some.2)
       ]
 
   -- the sights that are the answer of the command were shown
@@ -519,30 +523,30 @@ module _ {c : Call} {err err' : SinkView} {result : Status} (e : Ended c err err
       subst (λ (co : Option Command). Shown (ShowsOver co (question c) (Ok ts)) c.seen c.seen' e.end) is shown in
       shown-all (CommandShows cmd (given (question c) ts)) c.seen c.seen' e.end sights over ends shows
 
-  pub shown-clause : (names texts : Three) → Hold c.files.held names texts → (a : Accepted texts) → (f : FirstFitPlaces c.passes a) → c.words ≡ run_pipe names → result ≡ status.Ok →
-      ShowsAll c.seen c.seen' (sights_of (ready_of f))
-  shown-clause names texts hold a f is ok =
-      shows-answer command.RunPipe (texts.program ∷ texts.limits ∷ texts.scenario ∷ []) (sights_of (ready_of f)) (ap command_of is)
+  pub shown-clause : {makes : Makes} → MakeSame makes c.passes → (names texts : Three) → Hold c.files.held names texts → (a : Accepted texts) → (f : FirstFitPlaces makes a) → c.words ≡ run_pipe names → result ≡ status.Ok →
+      ShowsAll c.seen c.seen' (network_sights a (placed_by f))
+  shown-clause same names texts hold a f is ok =
+      shows-answer command.RunPipe (texts.program ∷ texts.limits ∷ texts.scenario ∷ []) (network_sights a (placed_by f)) (ap command_of is)
       (subst (λ (w : List (List ℕ)). contents c.files.held w (command_files (Some command.RunPipe)) ≡ Some (Ok (texts.program ∷ texts.limits ∷ texts.scenario ∷ []))) (sym is) (texts-pipe hold a))
-      (shows-pipe hold a f) ok
+      (shows-pipe hold a c.passes same f) ok
 
-  pub shown_drive-clause : (names texts : Three) → Hold c.files.held names texts → (a : Accepted texts) → (f : FirstFitPlaces c.passes a) → c.words ≡ drive names → result ≡ status.Ok →
+  pub shown_drive-clause : {makes : Makes} → MakeSame makes c.passes → (names texts : Three) → Hold c.files.held names texts → (a : Accepted texts) → (f : FirstFitPlaces makes a) → c.words ≡ drive names → result ≡ status.Ok →
       ShowsAll c.seen c.seen' (steps_sights f)
-  shown_drive-clause names texts hold a f is ok =
+  shown_drive-clause same names texts hold a f is ok =
       shows-answer command.Drive (texts.program ∷ texts.limits ∷ texts.scenario ∷ []) (steps_sights f) (ap command_of is)
       (subst (λ (w : List (List ℕ)). contents c.files.held w (command_files (Some command.Drive)) ≡ Some (Ok (texts.program ∷ texts.limits ∷ texts.scenario ∷ []))) (sym is) (texts-drive hold a))
-      (shows-drive hold a f) ok
+      (shows-drive hold a c.passes same f) ok
 
-  pub shown_placed-clause : (names texts : Three) → Hold c.files.held names texts → (placement text : List ℕ) → Holds c.files.held placement text 8388608 → (a : Accepted texts) → (audit : AuditAccepts c.passes a text) →
-      c.words ≡ run_placed names placement → result ≡ status.Ok → ShowsAll c.seen c.seen' (sights_of (audited_of audit))
-  shown_placed-clause names texts hold placement text holds a audit is ok =
-      shows-answer command.RunPlaced (texts.program ∷ texts.limits ∷ texts.scenario ∷ text ∷ []) (sights_of (audited_of audit)) (ap command_of is)
+  pub shown_placed-clause : {makes : Makes} → MakeSame makes c.passes → (names texts : Three) → Hold c.files.held names texts → (placement text : List ℕ) → Holds c.files.held placement text 8388608 → (a : Accepted texts) → (audit : AuditAccepts makes a text) →
+      c.words ≡ run_placed names placement → result ≡ status.Ok → ShowsAll c.seen c.seen' (network_sights a audit.placed)
+  shown_placed-clause same names texts hold placement text holds a audit is ok =
+      shows-answer command.RunPlaced (texts.program ∷ texts.limits ∷ texts.scenario ∷ text ∷ []) (network_sights a audit.placed) (ap command_of is)
       (subst (λ (w : List (List ℕ)). contents c.files.held w (command_files (Some command.RunPlaced)) ≡ Some (Ok (texts.program ∷ texts.limits ∷ texts.scenario ∷ text ∷ []))) (sym is) (texts-placed hold a holds))
-      (shows-placed hold a audit) ok
+      (shows-placed hold a c.passes same audit) ok
 
-  pub shown_bench-clause : (seed n : ℕ) → command_of c.words ≡ Some (command.Bench seed n) → (a : Accepted (bench_texts seed n)) → (f : FirstFitPlaces c.passes a) → result ≡ status.Ok →
-      ShowsAll c.seen c.seen' (sights_of (ready_of f))
-  shown_bench-clause seed n is a f ok = shows-answer (command.Bench seed n) [] (sights_of (ready_of f)) is refl (Ok (ready_of f), is-ready a f, refl) ok
+  pub shown_bench-clause : {makes : Makes} → MakeSame makes c.passes → (seed n : ℕ) → command_of c.words ≡ Some (command.Bench seed n) → (a : Accepted (bench_texts seed n)) → (f : FirstFitPlaces makes a) → result ≡ status.Ok →
+      ShowsAll c.seen c.seen' (network_sights a (placed_by f))
+  shown_bench-clause same seed n is a f ok = shows-answer (command.Bench seed n) [] (network_sights a (placed_by f)) is refl (Ok (ready_of c.passes f), is-ready a c.passes same f, refl) ok
 
   pub passes-clause : SamePasses c.passes c.passes'
   passes-clause = ran-same (RunsOver (command_of c.words) (question c) e.done.texts) c.passes c.passes' e.end e.done.ran

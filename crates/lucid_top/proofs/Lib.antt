@@ -3,6 +3,7 @@ pub mod Headlines
 pub mod Laws
 pub mod Names
 pub mod Networks
+pub mod PremisesLemmas
 pub mod Runs
 pub mod Stopping
 pub mod Tallying

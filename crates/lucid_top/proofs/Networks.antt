@@ -6,7 +6,8 @@ use Rattle.lucid_conf.specs.declared.scene.Scene.{Scene}
 use Rattle.lucid_core.specs.Parts.{CoreParts}
 use Rattle.lucid_net.specs.Seen.{IsStart, network}
 use Rattle.lucid_net.specs.Seen as net
-use Rattle.lucid_net.specs.Sights.{ShowsAll, ShowsRun, sights, sights_to}
+use Rattle.lucid_net.specs.Sights.{ShowsRun, sights, sights_to}
+use Rattle.lucid_pipe.specs.Sights.{ShowsAll}
 use Rattle.lucid_net.specs.declared.error.NetError.{NetError}
 use Rattle.lucid_net.specs.Wanting.{Stopped}
 use Rattle.lucid_net_spec.specs.Log.{whole}

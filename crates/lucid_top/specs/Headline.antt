@@ -1,33 +1,38 @@
 -- The text of a run on pipelines is that of handlers that run whole, one event after another, in the order in which the events entered.
-use Rattle.std.specs.Prelude.{◌≡◌, ℕ, ◌≤◌, ◌⊎◌, List, [], ◌∷◌, Option, Some, Ok, codes, length}
+use Rattle.std.specs.Prelude.{◌≡◌, ℕ, ◌≤◌, ◌⊎◌, List, [], ◌∷◌, Option, Some, Ok, codes, fold, length}
 use Rattle.std.specs.Io.KnownBytes.{Keeps}
 use Rattle.lucid_audit.specs.declared.plan.Plan.{Plan}
 use Rattle.lucid_code.specs.Nodes.{nodes}
+use Rattle.lucid_code.specs.Parts.{CodeParts}
 use Rattle.lucid_conf.specs.declared.limits.Limits.{Limits}
 use Rattle.lucid_conf.specs.declared.scene.Scene.{Scene}
+use Rattle.lucid_conf.specs.Tables.{limits_read, scene_read}
 use Rattle.lucid_core.specs.Parts.{CoreParts}
-use Rattle.lucid_drive.specs.Drive.{drive_log}
+use Rattle.lucid_drive.specs.Drive.{Drive, drive_log}
 use Rattle.lucid_drive.specs.Sights.{sights}
 use Rattle.lucid_gen.specs.Limits.{limits_text}
 use Rattle.lucid_gen.specs.Program.{program_text}
 use Rattle.lucid_gen.specs.Scene.{scene_text}
+use Rattle.lucid_io.specs.Counts.{Rose}
 use Rattle.lucid_io.specs.Puts.{PutsAll}
+use Rattle.lucid_layout.specs.declared.stage.Pair.{Pair}
+use Rattle.lucid_layout.specs.Counts.{CountsFit}
+use Rattle.lucid_layout.specs.Fit.{IsFirstFit}
+use Rattle.lucid_layout.specs.Layout.{stages_of}
+use Rattle.lucid_layout.specs.Nodes.{works}
+use Rattle.lucid_net.specs.Sights.{sights_to}
 use Rattle.lucid_net.specs.Wanting.{StopsAt}
 use Rattle.lucid_net_spec.specs.Log.{log, whole}
 use Rattle.lucid_net_spec.specs.Ways.{Network}
 use Rattle.lucid_pipe.specs.declared.sight.Sight.{Sight}
 use Rattle.lucid_snap.specs.Log.{snap_log}
-use Rattle.lucid_tables.specs.Placed.{PlacedParts}
-use Rattle.lucid_top.specs.Drive.{driven}
-use Rattle.lucid_top.specs.Pipes.{Ready, piped, ready, target}
-use Rattle.lucid_top_fit.specs.Fit.{Fit, IsComposed, IsFitted, Composed, fit_of}
-use Rattle.lucid_top_fit.specs.Passes.{PassView}
-use Rattle.lucid_top_fit.specs.Placing.{IsAudited, IsCounted, IsPlan}
-use Rattle.lucid_top_program.specs.Program.{IsProgram}
-use Rattle.lucid_top_program.specs.Settings.{IsLimits, IsScenario}
+use Rattle.lucid_tables.specs.Placed.{PlacedParts, placed_of}
+use Rattle.lucid_top.specs.Accepted.{HasCore, HasValue}
+use Rattle.lucid_top_fit.specs.Fit.{HasNormal, normal_of}
+use Rattle.lucid_top_fit.specs.Placing.{IsAudited, IsPlan}
 use Rattle.lucid_top_words.specs.declared.status.Status.{Status}
 use Rattle.lucid_top_words.specs.declared.status.Status.TheVariants as status
-use Rattle.lucid_top_words.specs.Views.{Held}
+use Rattle.lucid_top_words.specs.Views.{Faults, Held}
 use Rattle.lucid_top_words.specs.Words.{Bytes}
 use Rattle.lucid_top_words.specs.Writing.{PutsSome}
 
@@ -69,62 +74,77 @@ pub record Hold (held : Held) (names texts : Three) : Type 0 where
   pub limits : Holds held names.limits texts.limits 1048576
   pub scenario : Holds held names.scenario texts.scenario 8388608
 
+-- no read of the three files failed: none of their counts of faults rose
+pub record NoneFailed (faults faults' : Faults) (names : Three) : Type 0 where
+  pub program : ¬ Rose (faults names.program) (faults' names.program)
+  pub limits : ¬ Rose (faults names.limits) (faults' names.limits)
+  pub scenario : ¬ Rose (faults names.scenario) (faults' names.scenario)
+
 -- the rules accept the three texts: they are a program, limits, and a scenario for this program
 pub record Accepted (texts : Three) : Type 0 where
   pub core : CoreParts
-  pub program_is : IsProgram texts.program (Ok core)
+  pub program_is : HasCore texts.program core
   pub limits : Limits
-  pub limits_are : IsLimits texts.limits (Ok limits)
+  pub limits_are : HasValue limits_read texts.limits limits
   pub scene : Scene
-  pub scenario_is : IsScenario core texts.scenario (Ok scene)
+  pub scenario_is : HasValue (scene_read core) texts.scenario scene
 
--- first fit places the code that the passes make of the program
-pub record FirstFitPlaces (passes : List PassView) {texts : Three} (a : Accepted texts) : Type 0 where
-  pub fitted : Fit
-  pub places : IsFitted a.core a.limits passes (Ok fitted)
+-- what passes with these functions make of the normal form of a program, one after another
+abbrev pub made : List (CodeParts → CodeParts) → CoreParts → CodeParts
+made makes core = fold (λ now (make : CodeParts → CodeParts). make now) (normal_of core) makes
 
--- the audit accepts the places that a file assigns to the code that the passes make of the program
-pub record AuditAccepts (passes : List PassView) {texts : Three} (a : Accepted texts) (placement : Bytes) : Type 0 where
-  pub made : Composed
-  pub made_is : IsComposed a.core passes (Ok made)
-  pub counts : IsCounted a.core a.limits made.code (Ok made.code)
+-- first fit places this code: its counts keep their limits, and each of its nodes in turn has the least place that it may have
+pub record FirstFitPlaces (makes : List (CodeParts → CodeParts)) {texts : Three} (a : Accepted texts) : Type 0 where
+  pub normal : HasNormal a.core
+  pub counts : CountsFit (made makes a.core) a.limits
+  pub places : List Pair
+  pub least : IsFirstFit (made makes a.core).ops a.limits [] (works (made makes a.core).ops) places
+
+-- the audit accepts the places that a file assigns to the nodes of this code
+pub record AuditAccepts (makes : List (CodeParts → CodeParts)) {texts : Three} (a : Accepted texts) (placement : Bytes) : Type 0 where
+  pub normal : HasNormal a.core
+  pub counts : CountsFit (made makes a.core) a.limits
   pub plan : Plan
-  pub plan_is : IsPlan placement (length (nodes made.code.ops)) (Ok plan)
+  pub plan_is : IsPlan placement (length (nodes (made makes a.core).ops)) (Ok plan)
   pub placed : PlacedParts
-  pub accepts : IsAudited a.limits made.code plan (Ok placed)
+  pub accepts : IsAudited a.limits (made makes a.core) plan (Ok placed)
 
--- the pipelines that are ready to run then
-abbrev pub ready_of : {passes : List PassView} {texts : Three} {a : Accepted texts} → FirstFitPlaces passes a → Ready
-ready_of {passes} {texts} {a} f = ready (piped (target a.core a.limits) f.fitted) a.scene
+-- the placed code that first fit makes
+abbrev pub placed_by : {makes : List (CodeParts → CodeParts)} {texts : Three} {a : Accepted texts} → FirstFitPlaces makes a → PlacedParts
+placed_by {makes} {texts} {a} f = placed_of (made makes a.core) (stages_of (made makes a.core) a.limits f.places)
 
--- the pipelines with the places of a file
-abbrev pub audited_of : {passes : List PassView} {texts : Three} {a : Accepted texts} {placement : Bytes} → AuditAccepts passes a placement → Ready
-audited_of {passes} {texts} {a} {placement} p = ready (piped (target a.core a.limits) (fit_of p.made.gone p.placed)) a.scene
+-- the network whose handlers run whole
+abbrev pub whole_network : {texts : Three} → Accepted texts → Network
+whole_network a = whole a.core a.scene a.limits
 
 -- the log of the network whose handlers run whole, one event after another, in the order in which the events enter
 abbrev pub network_log : {texts : Three} → Accepted texts → Bytes
-network_log a = log (whole a.core a.scene a.limits)
+network_log a = log (whole_network a)
 
--- the log of the steps on one pipeline, by handlers that run whole
-abbrev pub steps_log : {passes : List PassView} {texts : Three} {a : Accepted texts} → FirstFitPlaces passes a → Bytes
-steps_log f = drive_log (driven (ready_of f))
+-- the sights of pipes with this placed code, by handlers that run whole: after each tick the pipe of each switch
+abbrev pub network_sights : {texts : Three} → Accepted texts → PlacedParts → List Sight
+network_sights a placed = sights_to (whole_network a) (Some placed) a.scene.stop
+
+-- the steps on one pipeline
+abbrev pub driven_by : {makes : List (CodeParts → CodeParts)} {texts : Three} {a : Accepted texts} → FirstFitPlaces makes a → Drive
+driven_by {makes} {texts} {a} f = record { parts = a.core; stages = (placed_by f).stages; scene = a.scene }
+
+-- their log, by handlers that run whole
+abbrev pub steps_log : {makes : List (CodeParts → CodeParts)} {texts : Three} {a : Accepted texts} → FirstFitPlaces makes a → Bytes
+steps_log f = drive_log (driven_by f)
 
 -- the pipe after each step, by handlers that run whole
-abbrev pub steps_sights : {passes : List PassView} {texts : Three} {a : Accepted texts} → FirstFitPlaces passes a → List Sight
-steps_sights f = sights (driven (ready_of f))
+abbrev pub steps_sights : {makes : List (CodeParts → CodeParts)} {texts : Three} {a : Accepted texts} → FirstFitPlaces makes a → List Sight
+steps_sights f = sights (driven_by f)
 
 -- the log of the steps, and then the cells of the handlers of all events that had entered by the first steps
-abbrev pub snapshot_log : {passes : List PassView} {texts : Three} {a : Accepted texts} → FirstFitPlaces passes a → ℕ → Bytes
-snapshot_log f steps = snap_log (driven (ready_of f)) steps
+abbrev pub snapshot_log : {makes : List (CodeParts → CodeParts)} {texts : Three} {a : Accepted texts} → FirstFitPlaces makes a → ℕ → Bytes
+snapshot_log f steps = snap_log (driven_by f) steps
 
 -- the call wrote the text and ended with 0; or memory ran out, and then a prefix was written
 abbrev pub Wrote : {T : Type 0} → (T → Option Bytes) → (T → ℕ) → T → T → Status → Bytes → Type 0
 Wrote written faults old new result text =
     ((result ≡ status.Ok) × PutsAll written faults old new text) ⊎ ((result ≡ status.Memory) × PutsSome written faults old new text)
-
--- the network itself
-abbrev pub whole_network : {texts : Three} → Accepted texts → Network
-whole_network a = whole a.core a.scene a.limits
 
 -- memory ran out: nothing was written, or at a tick an event had to wait, and the log of all ticks before it was written, and a part of its own
 abbrev pub OutOfMemory : {T : Type 0} → (T → Option Bytes) → (T → ℕ) → T → T → Network → Type 0

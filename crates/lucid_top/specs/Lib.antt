@@ -1,3 +1,4 @@
+pub mod Accepted
 pub mod Answer
 pub mod Call
 pub mod Causes
@@ -12,6 +13,7 @@ pub mod Once
 pub mod Passes
 pub mod Pipes
 pub mod Placed
+pub mod Premises
 pub mod RunPipe
 pub mod RunWhole
 pub mod Snap

@@ -1,9 +1,9 @@
 -- `once P NAME ARG..`: one event, run whole from cells that are all 0, at tick 0 on switch 0.
-use Rattle.std.specs.Prelude.{◌≡◌, ℕ, ◌+◌, ◌^◌, List, [], ◌∷◌, ◌++◌, Option, None, Some, Ok, Err, if◌then◌else◌, bytes_eq, nat_lt}
+use Rattle.std.specs.Prelude.{◌≡◌, ℕ, ◌^◌, List, ◌++◌, Option, None, Some, Ok, Err, if◌then◌else◌, nat_lt}
 use Rattle.lucid_base.specs.declared.event.Event.{Event}
 use Rattle.lucid_base.specs.declared.event.Out.{Out}
 use Rattle.lucid_base.specs.Cells.{zero_cells}
-use Rattle.lucid_core.specs.declared.defs.EventDef.{EventDef}
+use Rattle.lucid_conf.specs.Named.{event_names, last_named}
 use Rattle.lucid_core.specs.Fits.{event_fits}
 use Rattle.lucid_core.specs.Parts.{CoreParts}
 use Rattle.lucid_core.specs.Step.{step}
@@ -13,11 +13,6 @@ use Rattle.lucid_top_words.specs.declared.refusal.Refusal.TheVariants as refusal
 use Rattle.lucid_top_words.specs.Outcome.{Outcome, FollowedBy}
 use Rattle.lucid_top_program.specs.Program.{IsProgram}
 use Rattle.lucid_top_words.specs.Words.{Bytes}
-
--- the last of these events with this name, the first of which has this number, or otherwise the earlier one
-abbrev pub last_of : Bytes → ℕ → Option ℕ → List EventDef → Option ℕ
-last_of name id found [] = found
-last_of name id found (e ∷ rest) = last_of name (id + 1) (if bytes_eq e.name name then Some id else found) rest
 
 -- the event, where it fits the program
 abbrev pub fitting : CoreParts → Event → Option Event
@@ -31,7 +26,7 @@ event_at core (Some args) (Some id) = if nat_lt id (2 ^ 32) then fitting core (r
 
 -- the last declared event of this name with these arguments
 abbrev pub event_of : CoreParts → Bytes → Option (List ℕ) → Option Event
-event_of core name arguments = event_at core arguments (last_of name 0 None core.events)
+event_of core name arguments = event_at core arguments (last_named name (event_names core.events))
 
 -- the block of the event, and the cells after it
 abbrev pub shown : CoreParts → Event → List Out → List (List ℕ) → Bytes

@@ -1,6 +1,6 @@
 -- The sights of a watch.
 use Rattle.std.specs.Prelude.{◌≡◌, ◌⊎◌, List, [], ◌++◌, Option, Result, Ok, Err, IsSome}
-use Rattle.lucid_net.specs.Sights.{ShowsAll}
+use Rattle.lucid_pipe.specs.Sights.{ShowsAll}
 use Rattle.lucid_pipe.specs.declared.sight.Sight.{Sight}
 use Rattle.lucid_top_words.specs.declared.refusal.Refusal.{Refusal}
 use Rattle.lucid_top_words.specs.Outcome.{IsTheAnswer}

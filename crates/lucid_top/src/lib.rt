@@ -10,8 +10,10 @@
 mod causes;
 mod commands;
 mod example;
+mod premises;
 mod top;
 
 pub use example::answers_are_there;
 pub use lucid_top_words::{Status, faults_alone_are_free};
+pub use premises::premises_are_exact;
 pub use top::lucid;

@@ -1,15 +1,14 @@
 // The top call: all that the program does, over words, files, two sinks, passes and a watch.
-ghost use Rattle.std.specs.Prelude.{◌≡◌, ◌≢◌, ◌⊎◌, ◌+◌, ℕ, List, [], ◌∷◌, None, Some, Ok, Err};
+ghost use Rattle.std.specs.Prelude.{◌≡◌, ◌≢◌, ◌⊎◌, ◌+◌, ℕ, List, [], ◌∷◌, None, Some, Ok, Err, map};
 ghost use Rattle.std.specs.Io.KnownBytes.{Appends, Keeps};
 ghost use Rattle.lucid_io.specs.Contents.{SameHeld};
 ghost use Rattle.lucid_io.specs.Counts.{Rose, SameCounts, OthersKept};
 ghost use Rattle.lucid_io.specs.Puts.{PutsAll, PutsPart};
 ghost use Rattle.lucid_top.specs.Answer.{Answers, CanStop, IsTold};
 ghost use Rattle.lucid_top.specs.Call.{Done, Ended, IsNamed, Names, Unfailed, asked, bytes_of, name_of, named_files};
-ghost use Rattle.lucid_net.specs.Sights.{ShowsAll};
-ghost use Rattle.lucid_top.specs.Headline.{Accepted, AuditAccepts, FirstFitPlaces, Hold, Holds, OutOfMemory, Three, Wrote, drive, network_log};
-ghost use Rattle.lucid_top.specs.Headline.{audited_of, bench_texts, ready_of, run_pipe, run_placed, run_whole, snap, snapshot_log, steps_log, steps_sights, whole_network};
-ghost use Rattle.lucid_top.specs.Pipes.{sights_of};
+ghost use Rattle.lucid_pipe.specs.Sights.{ShowsAll};
+ghost use Rattle.lucid_top.specs.Headline.{Accepted, AuditAccepts, FirstFitPlaces, Hold, Holds, NoneFailed, OutOfMemory, Three, Wrote, drive, network_log};
+ghost use Rattle.lucid_top.specs.Headline.{bench_texts, network_sights, placed_by, run_pipe, run_placed, run_whole, snap, snapshot_log, steps_log, steps_sights, whole_network};
 ghost use Rattle.lucid_top.specs.Watching.{ToldBefore};
 ghost use Rattle.lucid_top.specs.Passes.{SamePasses};
 ghost use Rattle.lucid_top_fit.specs.Passes.{passes_view};
@@ -56,41 +55,41 @@ pub fn lucid<F: Files, W: Sink, E: Sink, V: Watch>(
     // The headline: an accepted program that first fit places runs on pipelines with the log of handlers that run whole, one event after
     // another.
     ensures whole { (names texts : Three) → Hold (F.held files.old) names texts → (a : Accepted texts) →
-        Unfailed F.faults files.old files.new words.now → ¬ Rose (W.faults out.old) (W.faults out.new) →
+        NoneFailed (F.faults files.old) (F.faults files.new) names → ¬ Rose (W.faults out.old) (W.faults out.new) →
         bytes_of words.now ≡ run_whole names → Wrote W.written W.faults out.old out.new result (network_log a) }
     ensures pipe { (names texts : Three) → Hold (F.held files.old) names texts → (a : Accepted texts) →
-        FirstFitPlaces (passes_view called gives count passes.old.items) a →
-        Unfailed F.faults files.old files.new words.now → ¬ Rose (W.faults out.old) (W.faults out.new) →
+        FirstFitPlaces (map (λ p. (gives p).makes) passes.old.items) a →
+        NoneFailed (F.faults files.old) (F.faults files.new) names → ¬ Rose (W.faults out.old) (W.faults out.new) →
         bytes_of words.now ≡ run_pipe names → Wrote W.written W.faults out.old out.new result (network_log a) }
     // the same for any places that a file gives and the audit accepts; and the steps of a scenario on one pipeline
     ensures placed { (names texts : Three) → Hold (F.held files.old) names texts →
         (placement text : List ℕ) → Holds (F.held files.old) placement text 8388608 → (a : Accepted texts) →
-        AuditAccepts (passes_view called gives count passes.old.items) a text →
-        Unfailed F.faults files.old files.new words.now → ¬ Rose (W.faults out.old) (W.faults out.new) →
+        AuditAccepts (map (λ p. (gives p).makes) passes.old.items) a text →
+        NoneFailed (F.faults files.old) (F.faults files.new) names → ¬ Rose (F.faults files.old placement) (F.faults files.new placement) → ¬ Rose (W.faults out.old) (W.faults out.new) →
         bytes_of words.now ≡ run_placed names placement → Wrote W.written W.faults out.old out.new result (network_log a) }
     ensures drive { (names texts : Three) → Hold (F.held files.old) names texts → (a : Accepted texts) →
-        (f : FirstFitPlaces (passes_view called gives count passes.old.items) a) →
-        Unfailed F.faults files.old files.new words.now → ¬ Rose (W.faults out.old) (W.faults out.new) →
+        (f : FirstFitPlaces (map (λ p. (gives p).makes) passes.old.items) a) →
+        NoneFailed (F.faults files.old) (F.faults files.new) names → ¬ Rose (W.faults out.old) (W.faults out.new) →
         bytes_of words.now ≡ drive names → Wrote W.written W.faults out.old out.new result (steps_log f) }
     // and a snapshot that is taken stage by stage after some steps has the cells of the handlers of all events that had entered
     ensures snapped { (names texts : Three) → Hold (F.held files.old) names texts → (a : Accepted texts) →
-        (f : FirstFitPlaces (passes_view called gives count passes.old.items) a) → (word : List ℕ) (steps : ℕ) → number_of word ≡ Some steps →
-        Unfailed F.faults files.old files.new words.now → ¬ Rose (W.faults out.old) (W.faults out.new) →
+        (f : FirstFitPlaces (map (λ p. (gives p).makes) passes.old.items) a) → (word : List ℕ) (steps : ℕ) → number_of word ≡ Some steps →
+        NoneFailed (F.faults files.old) (F.faults files.new) names → ¬ Rose (W.faults out.old) (W.faults out.new) →
         bytes_of words.now ≡ snap names word → Wrote W.written W.faults out.old out.new result (snapshot_log f steps) }
     // and a watch is shown the pipes: after each tick the pipe of each switch
     ensures shown { (names texts : Three) → Hold (F.held files.old) names texts → (a : Accepted texts) →
-        (f : FirstFitPlaces (passes_view called gives count passes.old.items) a) → bytes_of words.now ≡ run_pipe names →
-        result ≡ Status.Ok → ShowsAll (V.seen watch.old) (V.seen watch.new) (sights_of (ready_of f)) }
+        (f : FirstFitPlaces (map (λ p. (gives p).makes) passes.old.items) a) → bytes_of words.now ≡ run_pipe names →
+        result ≡ Status.Ok → ShowsAll (V.seen watch.old) (V.seen watch.new) (network_sights a (placed_by f)) }
     ensures shown_placed { (names texts : Three) → Hold (F.held files.old) names texts →
         (placement text : List ℕ) → Holds (F.held files.old) placement text 8388608 → (a : Accepted texts) →
-        (p : AuditAccepts (passes_view called gives count passes.old.items) a text) → bytes_of words.now ≡ run_placed names placement →
-        result ≡ Status.Ok → ShowsAll (V.seen watch.old) (V.seen watch.new) (sights_of (audited_of p)) }
+        (audit : AuditAccepts (map (λ p. (gives p).makes) passes.old.items) a text) → bytes_of words.now ≡ run_placed names placement →
+        result ≡ Status.Ok → ShowsAll (V.seen watch.old) (V.seen watch.new) (network_sights a audit.placed) }
     ensures shown_bench { (seed n : ℕ) → command_of (bytes_of words.now) ≡ Some (Command.Bench seed n) → (a : Accepted (bench_texts seed n)) →
-        (f : FirstFitPlaces (passes_view called gives count passes.old.items) a) →
-        result ≡ Status.Ok → ShowsAll (V.seen watch.old) (V.seen watch.new) (sights_of (ready_of f)) }
+        (f : FirstFitPlaces (map (λ p. (gives p).makes) passes.old.items) a) →
+        result ≡ Status.Ok → ShowsAll (V.seen watch.old) (V.seen watch.new) (network_sights a (placed_by f)) }
     // after each step of a drive, its pipe
     ensures shown_drive { (names texts : Three) → Hold (F.held files.old) names texts → (a : Accepted texts) →
-        (f : FirstFitPlaces (passes_view called gives count passes.old.items) a) → bytes_of words.now ≡ drive names →
+        (f : FirstFitPlaces (map (λ p. (gives p).makes) passes.old.items) a) → bytes_of words.now ≡ drive names →
         result ≡ Status.Ok → ShowsAll (V.seen watch.old) (V.seen watch.new) (steps_sights f) }
 
     // Words, files and passes determine the answer: the status, the bytes of `out`, the line of `err`.
@@ -126,11 +125,11 @@ pub fn lucid<F: Files, W: Sink, E: Sink, V: Watch>(
         result ≡ Status.Memory → (text : List ℕ) → Answers q (Ok text) → PutsSome W.written W.faults out.old out.new text }
     // if memory ran out in a run on pipelines: nothing, or the whole log of the ticks before the one at which an event had to wait
     ensures memory_pipe { (names texts : Three) → Hold (F.held files.old) names texts → (a : Accepted texts) →
-        FirstFitPlaces (passes_view called gives count passes.old.items) a → bytes_of words.now ≡ run_pipe names →
+        FirstFitPlaces (map (λ p. (gives p).makes) passes.old.items) a → bytes_of words.now ≡ run_pipe names →
         result ≡ Status.Memory → OutOfMemory W.written W.faults out.old out.new (whole_network a) }
     ensures memory_placed { (names texts : Three) → Hold (F.held files.old) names texts →
         (placement text : List ℕ) → Holds (F.held files.old) placement text 8388608 → (a : Accepted texts) →
-        AuditAccepts (passes_view called gives count passes.old.items) a text → bytes_of words.now ≡ run_placed names placement →
+        AuditAccepts (map (λ p. (gives p).makes) passes.old.items) a text → bytes_of words.now ≡ run_placed names placement →
         result ≡ Status.Memory → OutOfMemory W.written W.faults out.old out.new (whole_network a) }
     ensures silent { let q = asked words.now (F.held files.old) (passes_view called gives count passes.old.items) in
         result ≢ Status.Ok → result ≢ Status.WriteFault → (result ≡ Status.Memory → ¬ CanStop q) →

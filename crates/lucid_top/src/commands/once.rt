@@ -1,15 +1,17 @@
 // `once P NAME ARG..`: one event, run whole from cells that are all 0, at tick 0 on switch 0.
-ghost use Rattle.std.specs.Prelude.{◌≡◌, All, IfSome, IsTrue, OnOk, OnErr, length, map, string_bytes};
+ghost use Rattle.std.specs.Prelude.{◌≡◌, All, IfSome, IsTrue, OnOk, OnErr, Some, if◌then◌else◌, length, map, string_bytes};
+ghost use Rattle.std.specs.Str.{bytes_eq};
 ghost use Rattle.lucid_core.specs.Fits.{event_fits, out_fits};
 ghost use Rattle.lucid_io.specs.Puts.{PutsAll, PutsPart};
 ghost use Rattle.lucid_top_words.specs.Files.{texts_in};
-ghost use Rattle.lucid_top.specs.Once.{OnceAnswers, last_of, event_at as event_in, event_of, shown, ran};
+ghost use Rattle.lucid_conf.specs.Named.{event_names, last_named};
+ghost use Rattle.lucid_top.specs.Once.{OnceAnswers, event_at as event_in, event_of, shown, ran};
 ghost use Rattle.lucid_top_words.specs.Outcome.{Prepares};
 ghost use Rattle.lucid_top_words.specs.Words.{word_at};
 ghost use Rattle.lucid_top_words.specs.Writing.{Performs, nowhere};
 
 use crate::commands::text_at;
-use lucid_base::{Args, Event, Outs};
+use lucid_base::{Args, Event, Id, Outs};
 use lucid_core::{Cells, Core, EventDef};
 use lucid_core_run::run_whole;
 use lucid_io::{Sink, WriteFault};
@@ -97,15 +99,20 @@ fn event_at(core: &Core, id: usize, args: Args) -> Option<Event>
 
 // The number of the last event of this name.
 fn last_event(events: &[EventDef], name: &[u8]) -> Option<usize>
-    ensures { result ≡ last_of name.now 0 None events.now }
+    ensures { result ≡ last_named name.now (event_names events.now) }
 {
     let mut last = None;
-    for (id, event) in events.iter().enumerate() {
-        if event.name.bytes() == name {
-            last = Some(id);
-        }
+    for id in 0..events.len() {
+        last = later(name, &events[id].name, id, last);
     }
     last
+}
+
+// The number of the event declared with this name if it is the one that is asked for, and otherwise the earlier result.
+fn later(name: &[u8], declared: &Id, id: usize, last: Option<usize>) -> Option<usize>
+    ensures { result ≡ (if bytes_eq name.now declared.now then Some id else last) }
+{
+    if name == declared.bytes() { Some(id) } else { last }
 }
 
 // Writes the block of the event, and the cells after it. Takes no memory.

@@ -1,7 +1,6 @@
 use Rattle.std.proofs.Common.{◌∷◌, [], subst}
-use Rattle.lucid_pipe.specs.Sights.{sight_of}
+use Rattle.lucid_pipe.specs.Sights.{ShowsAll, sight_of}
 use Rattle.lucid_pipe.specs.declared.sight.Sight.{Sight}
-use Rattle.lucid_drive.specs.Sights.{ShowsAll}
 use Rattle.lucid_drive.proofs.Seeing.{shows_one, sight_is}
 use Rattle.lucid_drive.proofs.whole.show.Goals as goal
 

@@ -1,3 +1,4 @@
+use Rattle.lucid_top.proofs.Headlines.{make-same}
 use Rattle.lucid_top.proofs.Laws as laws
 use Rattle.lucid_top.proofs.Runs.{ran-short, wrote-of}
 use Rattle.lucid_top_words.proofs.Seen as seen
@@ -9,31 +10,31 @@ returns-clause-whole g c = λ names texts hold a quiet unmet is.
 
 pub returns-clause-pipe : goal.returns-clause-pipe
 returns-clause-pipe g c = λ names texts hold a f quiet unmet is.
-    wrote-of g.W.Sink.written g.W.Sink.faults c.args.out.now c.call.new.out c.call.result _ (laws.pipe-clause c.call.ensures.ended names texts hold a f quiet unmet is)
+    wrote-of g.W.Sink.written g.W.Sink.faults c.args.out.now c.call.new.out c.call.result _ (laws.pipe-clause c.call.ensures.ended (make-same (λ b. (goal.Pass-dyn g (b.vtable, b.value)).called b.value) (λ b. (goal.Pass-dyn g (b.vtable, b.value)).gives b.value) (λ b. (goal.Pass-dyn g (b.vtable, b.value)).count b.value) c.args.passes.now.items) names texts hold a f quiet unmet is)
 
 pub returns-clause-drive : goal.returns-clause-drive
 returns-clause-drive g c = λ names texts hold a f quiet unmet is.
-    wrote-of g.W.Sink.written g.W.Sink.faults c.args.out.now c.call.new.out c.call.result _ (laws.drive-clause c.call.ensures.ended names texts hold a f quiet unmet is)
+    wrote-of g.W.Sink.written g.W.Sink.faults c.args.out.now c.call.new.out c.call.result _ (laws.drive-clause c.call.ensures.ended (make-same (λ b. (goal.Pass-dyn g (b.vtable, b.value)).called b.value) (λ b. (goal.Pass-dyn g (b.vtable, b.value)).gives b.value) (λ b. (goal.Pass-dyn g (b.vtable, b.value)).count b.value) c.args.passes.now.items) names texts hold a f quiet unmet is)
 
 pub returns-clause-placed : goal.returns-clause-placed
-returns-clause-placed g c = λ names texts hold placement text holds a audit quiet unmet is.
-    wrote-of g.W.Sink.written g.W.Sink.faults c.args.out.now c.call.new.out c.call.result _ (laws.placed-clause c.call.ensures.ended names texts hold placement text holds a audit quiet unmet is)
+returns-clause-placed g c = λ names texts hold placement text holds a audit quiet last unmet is.
+    wrote-of g.W.Sink.written g.W.Sink.faults c.args.out.now c.call.new.out c.call.result _ (laws.placed-clause c.call.ensures.ended (make-same (λ b. (goal.Pass-dyn g (b.vtable, b.value)).called b.value) (λ b. (goal.Pass-dyn g (b.vtable, b.value)).gives b.value) (λ b. (goal.Pass-dyn g (b.vtable, b.value)).count b.value) c.args.passes.now.items) names texts hold placement text holds a audit quiet last unmet is)
 
 pub returns-clause-snapped : goal.returns-clause-snapped
 returns-clause-snapped g c = λ names texts hold a f word steps number quiet unmet is.
-    wrote-of g.W.Sink.written g.W.Sink.faults c.args.out.now c.call.new.out c.call.result _ (laws.snapped-clause c.call.ensures.ended names texts hold a f word steps number quiet unmet is)
+    wrote-of g.W.Sink.written g.W.Sink.faults c.args.out.now c.call.new.out c.call.result _ (laws.snapped-clause c.call.ensures.ended (make-same (λ b. (goal.Pass-dyn g (b.vtable, b.value)).called b.value) (λ b. (goal.Pass-dyn g (b.vtable, b.value)).gives b.value) (λ b. (goal.Pass-dyn g (b.vtable, b.value)).count b.value) c.args.passes.now.items) names texts hold a f word steps number quiet unmet is)
 
 pub returns-clause-shown_drive : goal.returns-clause-shown_drive
-returns-clause-shown_drive g c = laws.shown_drive-clause c.call.ensures.ended
+returns-clause-shown_drive g c = laws.shown_drive-clause c.call.ensures.ended (make-same (λ b. (goal.Pass-dyn g (b.vtable, b.value)).called b.value) (λ b. (goal.Pass-dyn g (b.vtable, b.value)).gives b.value) (λ b. (goal.Pass-dyn g (b.vtable, b.value)).count b.value) c.args.passes.now.items)
 
 pub returns-clause-shown_placed : goal.returns-clause-shown_placed
-returns-clause-shown_placed g c = laws.shown_placed-clause c.call.ensures.ended
+returns-clause-shown_placed g c = laws.shown_placed-clause c.call.ensures.ended (make-same (λ b. (goal.Pass-dyn g (b.vtable, b.value)).called b.value) (λ b. (goal.Pass-dyn g (b.vtable, b.value)).gives b.value) (λ b. (goal.Pass-dyn g (b.vtable, b.value)).count b.value) c.args.passes.now.items)
 
 pub returns-clause-shown_bench : goal.returns-clause-shown_bench
-returns-clause-shown_bench g c = laws.shown_bench-clause c.call.ensures.ended
+returns-clause-shown_bench g c = laws.shown_bench-clause c.call.ensures.ended (make-same (λ b. (goal.Pass-dyn g (b.vtable, b.value)).called b.value) (λ b. (goal.Pass-dyn g (b.vtable, b.value)).gives b.value) (λ b. (goal.Pass-dyn g (b.vtable, b.value)).count b.value) c.args.passes.now.items)
 
 pub returns-clause-shown : goal.returns-clause-shown
-returns-clause-shown g c = laws.shown-clause c.call.ensures.ended
+returns-clause-shown g c = laws.shown-clause c.call.ensures.ended (make-same (λ b. (goal.Pass-dyn g (b.vtable, b.value)).called b.value) (λ b. (goal.Pass-dyn g (b.vtable, b.value)).gives b.value) (λ b. (goal.Pass-dyn g (b.vtable, b.value)).count b.value) c.args.passes.now.items)
 
 pub returns-clause-status : goal.returns-clause-status
 returns-clause-status g c = laws.status-clause c.call.ensures.ended
@@ -76,11 +77,11 @@ returns-clause-memory g c = λ is text asked. seen.some-of g.W.Sink.written g.W.
 
 pub returns-clause-memory_pipe : goal.returns-clause-memory_pipe
 returns-clause-memory_pipe g c = λ names texts hold a f is memory.
-    ran-short g.W.Sink.written g.W.Sink.faults c.args.out.now c.call.new.out _ (laws.memory_pipe-clause c.call.ensures.ended names texts hold a f is memory)
+    ran-short g.W.Sink.written g.W.Sink.faults c.args.out.now c.call.new.out _ (laws.memory_pipe-clause c.call.ensures.ended (make-same (λ b. (goal.Pass-dyn g (b.vtable, b.value)).called b.value) (λ b. (goal.Pass-dyn g (b.vtable, b.value)).gives b.value) (λ b. (goal.Pass-dyn g (b.vtable, b.value)).count b.value) c.args.passes.now.items) names texts hold a f is memory)
 
 pub returns-clause-memory_placed : goal.returns-clause-memory_placed
 returns-clause-memory_placed g c = λ names texts hold placement text holds a audit is memory.
-    ran-short g.W.Sink.written g.W.Sink.faults c.args.out.now c.call.new.out _ (laws.memory_placed-clause c.call.ensures.ended names texts hold placement text holds a audit is memory)
+    ran-short g.W.Sink.written g.W.Sink.faults c.args.out.now c.call.new.out _ (laws.memory_placed-clause c.call.ensures.ended (make-same (λ b. (goal.Pass-dyn g (b.vtable, b.value)).called b.value) (λ b. (goal.Pass-dyn g (b.vtable, b.value)).gives b.value) (λ b. (goal.Pass-dyn g (b.vtable, b.value)).count b.value) c.args.passes.now.items) names texts hold placement text holds a audit is memory)
 
 pub returns-clause-silent : goal.returns-clause-silent
 returns-clause-silent g c = laws.silent-clause c.call.ensures.ended

@@ -1,6 +1,7 @@
 use Rattle.std.proofs.Common.{◌≡◌, ◌∙◌, ap, subst}
 use Rattle.lucid_net.specs.Seen.{Seen, network, seen}
-use Rattle.lucid_net.specs.Sights.{ShowsAll, sights}
+use Rattle.lucid_net.specs.Sights.{sights}
+use Rattle.lucid_pipe.specs.Sights.{ShowsAll}
 use Rattle.lucid_net.proofs.Showing.{shown_is}
 use Rattle.lucid_net.proofs.net.Net.show.Goals as goal
 

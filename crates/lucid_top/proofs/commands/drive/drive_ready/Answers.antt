@@ -2,6 +2,7 @@ use Rattle.std.proofs.Common.{◌≡◌, List, inr, Ok, Result, subst, rules}
 use Rattle.lucid_drive.specs.Drive.{Drive, drive_log}
 use Rattle.lucid_drive.specs.Sights as drive
 use Rattle.lucid_io.specs.Puts.{PutsAll, PutsPart}
+use Rattle.lucid_pipe.specs.Sights.{ShowsAll}
 use Rattle.lucid_pipe.specs.declared.sight.Sight.{Sight}
 use Rattle.lucid_top_words.specs.declared.refusal.Refusal.{Refusal}
 use Rattle.lucid_top_words.specs.declared.refusal.Refusal.TheVariants as refusal
@@ -9,7 +10,7 @@ use Rattle.lucid_top_words.specs.Writing.{nowhere}
 use Rattle.lucid_top_words.proofs.Parts.{one-text}
 use Rattle.lucid_top.specs.Drive.{driven}
 use Rattle.lucid_top.specs.Held.{ready_view}
-use Rattle.lucid_top.proofs.Drives.{all-shown, drive-is, some-shown}
+use Rattle.lucid_top.proofs.Drives.{drive-is, some-shown}
 use Rattle.lucid_top.proofs.Runs.{shown-stopped}
 use Rattle.lucid_top.proofs.Stopping.{cut}
 use Rattle.lucid_top.proofs.commands.drive.drive_ready.Goals as goal
@@ -42,6 +43,5 @@ returns-clause-shown g c =
     inr (
       drive.sights (driven r),
       one-text (drive.sights (driven r)),
-      all-shown (g.V.Watch.seen c.args.watch.now) (g.V.Watch.seen c.drive.new.watch) (drive.sights (driven r))
-          (subst (λ (d : Drive). drive.ShowsAll (g.V.Watch.seen c.args.watch.now) (g.V.Watch.seen c.drive.new.watch) (drive.sights d)) is c.in_ok-drive.ensures.sights),
+      subst (λ (d : Drive). ShowsAll (g.V.Watch.seen c.args.watch.now) (g.V.Watch.seen c.drive.new.watch) (drive.sights d)) is c.in_ok-drive.ensures.sights,
     )

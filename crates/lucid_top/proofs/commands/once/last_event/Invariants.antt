@@ -1,7 +1,7 @@
-use Rattle.std.proofs.Common.{◌≡◌, None, drop}
-use Rattle.lucid_top.specs.Once.{last_of}
+use Rattle.std.proofs.Common.{◌≡◌, drop}
+use Rattle.lucid_conf.specs.Named.{event_names, last_from, last_named}
 use Rattle.lucid_top.proofs.commands.once.last_event.Given as goal
 
 -- what is left decides
 abbrev pub invariant-loop-id : goal.invariant-loop-id
-invariant-loop-id l = last_of l.name l.id l.last (drop l.id l.events) ≡ last_of l.name 0 None l.events
+invariant-loop-id l = last_from l.name l.id l.last (drop l.id (event_names l.events)) ≡ last_named l.name (event_names l.events)
