@@ -50,12 +50,20 @@ def flat_matches(cases: int) -> Files:
     return {"p": f"event out(int n);{HANDLE}{matches(cases)}}}", "l": BIG}
 
 
-def arrays(count: int) -> Files:
-    """Arrays, each called in the 32 arms of a match."""
+def event_matches(events: int) -> Files:
+    """Events, each with eight matches of 16 arms."""
+    handlers = "".join(f"event g{k}({PARAMS});handle g{k}({PARAMS}){{{matches(16)}}}" for k in range(events))
+    return {"p": f"event out(int n);{handlers}", "l": BIG}
+
+
+def arrays(count: int, tests: int = 0) -> Files:
+    """Arrays, each called in the 32 arms of a match, behind this many comparisons with ==."""
     globals_ = "".join(f"global Array.t<<32>> x{k}=Array.create(4);" for k in range(count))
     hashes = "".join(f"int h{k}=hash<<32>>({k},a);" for k in range(count))
     calls = "".join(f"match h{k} with {arms(32, f'Array.set(x{k},#,a);')}" for k in range(count))
-    return {"p": f"{globals_}event g(int a);handle g(int a){{{hashes}{calls}}}", "l": BIG}
+    asked = "".join(f"int<<8>> t{k}=hash<<8>>({k},a);" for k in range(tests))
+    ifs = "".join(f"if(t{k}==0){{" for k in range(tests))
+    return {"p": f"{globals_}event g(int a);handle g(int a){{{asked}{hashes}{ifs}{calls}{'}' * tests}}}", "l": BIG}
 
 
 ARRAYS = ",".join(f"Array<<8>> {letter}" for letter in "abcdefgh")
@@ -150,7 +158,8 @@ CHECK = ["check", "p"]
 
 @dataclass(frozen=True)
 class Shape:
-    """An input: how it is made, its full size, the bounds on seconds and MB at that size, and whether the gate tries it."""
+    """An input: how it is made, its full size, the bounds on seconds and MB at that size, whether the gate tries it, how its call ends,
+    and how much its time grows at most if the size doubles."""
 
     make: Callable[[int], Files]
     words: List[str]
@@ -159,25 +168,29 @@ class Shape:
     megabytes: int
     gate: bool = False
     status: int = 0
+    growth: float = 5.0
 
 
 # The bounds on a processor, about twice the seconds and the memory that were measured. Lower them as the program gets quicker.
 SHAPES: Dict[str, Shape] = {
-    "8 matches of 4 behind 20 tests": Shape(lambda n: guarded(n, 4), LAYOUT, 20, 4, 60, True),
-    "8 matches of 2 behind 60 tests": Shape(lambda n: guarded(n, 2), LAYOUT, 60, 9, 60),
-    "8 matches of 2 behind 240 tests": Shape(lambda n: guarded(n, 2), LAYOUT, 240, 90, 100),
-    "8 matches of 2 behind 480 tests": Shape(lambda n: guarded(n, 2), LAYOUT, 480, 310, 200),
-    "8 matches of 16": Shape(flat_matches, LAYOUT, 16, 3, 60, True),
-    "8 matches of 32": Shape(flat_matches, LAYOUT, 32, 11, 60),
-    "15 arrays in 32 arms each": Shape(arrays, LAYOUT, 15, 3, 60, True),
-    "60 arrays in 32 arms each": Shape(arrays, LAYOUT, 60, 6, 100),
+    "8 matches of 4 behind 20 tests": Shape(lambda n: guarded(n, 4), LAYOUT, 20, 0.5, 20, True, growth=2.3),
+    "8 matches of 2 behind 60 tests": Shape(lambda n: guarded(n, 2), LAYOUT, 60, 0.5, 20, True, growth=2.3),
+    "8 matches of 2 behind 240 tests": Shape(lambda n: guarded(n, 2), LAYOUT, 240, 1, 40, growth=2.3),
+    "8 matches of 2 behind 480 tests": Shape(lambda n: guarded(n, 2), LAYOUT, 480, 1, 60, growth=2.3),
+    "8 matches of 16": Shape(flat_matches, LAYOUT, 16, 1, 20, True),
+    "8 matches of 32": Shape(flat_matches, LAYOUT, 32, 1, 20),
+    "4 events of 8 matches of 16": Shape(event_matches, LAYOUT, 4, 3, 20),
+    "15 arrays in 32 arms each": Shape(arrays, LAYOUT, 15, 0.5, 20, True),
+    "15 arrays in 32 arms each behind 40 tests": Shape(lambda n: arrays(n, 40), LAYOUT, 15, 1, 20, True),
+    "60 arrays in 32 arms each": Shape(arrays, LAYOUT, 60, 1, 40),
     "64 instances of 5,000 calls": Shape(wide_calls, CHECK, 64, 130, 300, status=6),
     "64 instances of 1,700 calls in order": Shape(ordered_calls, CHECK, 64, 20, 300),
     "4 instances of 1,700 calls in order": Shape(ordered_calls, CHECK, 4, 3, 100, True),
-    "8 matches of 16 behind 60 tests": Shape(lambda n: guarded(60, n), LAYOUT, 16, 140, 100),
-    "128 sends behind an else": Shape(sends, LAYOUT, 128, 5, 100),
-    "512 sends behind an else": Shape(sends, LAYOUT, 512, 20, 200),
-    "512 sends behind tests of 8 parameters": Shape(tested_sends, LAYOUT, 512, 10, 200),
+    "8 matches of 16 behind 60 tests": Shape(lambda n: guarded(60, n), LAYOUT, 16, 2, 20),
+    "128 sends behind an else": Shape(sends, LAYOUT, 128, 0.5, 20, True),
+    "512 sends behind an else": Shape(sends, LAYOUT, 512, 1, 40),
+    "512 sends behind tests of 8 parameters": Shape(tested_sends, LAYOUT, 512, 1, 20, growth=3.0),
+    "2,048 sends behind tests of 8 parameters": Shape(tested_sends, LAYOUT, 2048, 5, 60),
     "10,000 early returns": Shape(early_returns, CHECK, 10000, 1, 100, True),
     "a chain of 1,000 functions": Shape(chain, LAYOUT, 1000, 1, 60, True),
     "4,900 names with one beginning": Shape(names, CHECK, 4900, 2, 100, True),
@@ -187,7 +200,6 @@ SHAPES: Dict[str, Shape] = {
     "8 MiB of deep lists": Shape(lists, ["run", "whole", "p", "l", "s"], 8388544, 3.5, 700, True, 9),
     "8 MiB of keys": Shape(keys, ["run", "whole", "p", "l", "s"], 8388544, 2, 300, True, 9),
 }
-GROWTH = 5.0
 
 
 def run(group: Group) -> None:
@@ -222,7 +234,7 @@ def line_of(group: Group, spent: Path, name: str, shape: Shape) -> List[object]:
     group.check(f"{name}: at most {shape.megabytes} MB", whole.megabytes <= shape.megabytes, whole.megabytes)
     if half and half.seconds >= 0.05 and shape.make is not tower:
         growth = whole.seconds / half.seconds
-        group.check(f"{name}: grows at most by {GROWTH} if it doubles", growth <= GROWTH, growth)
+        group.check(f"{name}: grows at most by {shape.growth} if it doubles", growth <= shape.growth, growth)
     took = f"{half.seconds:.2f}" if half else ""
     shown = f"{growth:.1f}" if growth else ""
     call = f"`{shape.words[0]}{' ' + shape.words[1] if shape.words[0] == 'run' else ''}`"
