@@ -4,7 +4,8 @@
 // Read specs/Packets and Pipe (a pipe, and how a packet enters and moves) and Settled (the pipe once all packets in flight have departed).
 // Moves has lists of moves, Sights the slots and the watch, Laws the laws for callers, and Rows a pipe as rows of lucid_pipe_laws.
 // The layout of packets in memory is internal: specs/Blocks, Slots, Outs, Views and InPlace, and all of proofs/.
-// Used by many crates. Bodies and proofs may change; a public clause may only get stronger.
+// Used by many crates. Promises of the program rest on its definitions (docs/TRUSTED.md). Bodies and proofs may change; a public clause
+// may only get stronger.
 #![tactic(auto)]
 
 mod act;

@@ -19,8 +19,8 @@ use Rattle.lucid_top_words.specs.Words.{number_of, word_at}
 use Rattle.lucid_top_words.proofs.Readings.{short}
 use Rattle.lucid_top.specs.Call.{files_named}
 use Rattle.lucid_top.specs.Answer.{Answers, AnswersTo, CommandAnswers, OverTexts, Question, command_files, given}
-use Rattle.lucid_top.specs.Accepted.{HasCore, HasValue}
-use Rattle.lucid_top.specs.Headline.{Accepted, AuditAccepts, FirstFitPlaces, Hold, Holds, NoneFailed, Three, drive, made, network_log, network_sights, placed_by, run_pipe, run_placed, run_whole, snap, snapshot_log, steps_log, steps_sights}
+use Rattle.lucid_top.specs.Premises.{HasCore, HasValue}
+use Rattle.lucid_top.specs.Headline.{Accepted, AuditAccepts, FirstFitPlaces, Hold, Holds, NoneFailed, Three, drive, code_by, network_log, network_sights, placed_by, run_pipe, run_placed, run_whole, snap, snapshot_log, steps_log, steps_sights}
 use Rattle.lucid_top.specs.Drive.{DriveAnswers, DriveShows}
 use Rattle.lucid_top.specs.Pipes.{IsReady, Ready, piped, ready, target}
 use Rattle.lucid_top.specs.Placed.{IsAuditedIn, IsMeasured, IsReadyPlaced, RunPlacedAnswers, RunPlacedShows, measured}
@@ -113,7 +113,7 @@ Makes = List (CodeParts → CodeParts)
 
 -- these functions make what these passes make
 abbrev pub MakeSame : Makes → List PassView → Type 0
-MakeSame makes passes = (core : CoreParts) → made makes core ≡ (composed core passes).code
+MakeSame makes passes = (core : CoreParts) → code_by makes core ≡ (composed core passes).code
 
 pub same-through : {B : Type 0} (view : B → PassView) (passes : List B) (code : CodeParts) →
     fold (λ now (make : CodeParts → CodeParts). make now) code (map (λ p. (view p).gives.makes) passes) ≡ through (map PassView.gives (map view passes)) code

@@ -7,9 +7,9 @@ use Rattle.lucid_effects_spec.specs.Order as order
 use Rattle.lucid_layout.specs.Counts.{CountsFit}
 use Rattle.lucid_layout.specs.Layout.{IsLayout}
 use Rattle.lucid_pass.specs.Through.{through}
-use Rattle.lucid_top.specs.Accepted.{HasCore}
-use Rattle.lucid_top.specs.Headline.{Accepted, AuditAccepts, FirstFitPlaces, Three, made, placed_by}
-use Rattle.lucid_top.specs.Premises.{IsAccepted}
+use Rattle.lucid_top.specs.Premises.{HasCore}
+use Rattle.lucid_top.specs.Headline.{Accepted, AuditAccepts, FirstFitPlaces, Three, code_by, placed_by}
+use Rattle.lucid_top.specs.PremisesLaws.{IsAccepted}
 use Rattle.lucid_top_fit.specs.Fit.{Composed, Fit, IsComposed, IsFitted, IsPlaced, composed, fit_of, normal_of}
 use Rattle.lucid_top_fit.specs.Passes.{PassView}
 use Rattle.lucid_top_fit.specs.Placing.{IsAudited, IsCounted, IsPlan}
@@ -64,8 +64,8 @@ module _ (passes : List PassView) {texts : Three} (a : Accepted texts) where
   places-of fit is =
       let c = first-of (IsComposed a.core passes) (λ m. FollowedBy (IsPlaced a.core a.limits m.code) (λ placed p. p ≡ Ok (fit_of m.gone placed))) fit is in
       let p = first-of (IsPlaced a.core a.limits c.0.code) (λ placed p. p ≡ Ok (fit_of c.0.gone placed)) fit c.2 in
-      let same : c.0.code ≡ made (map (λ p. p.gives.makes) passes) a.core = ap (λ (m : Composed). m.code) c.1.1 ∙ sym (views-same passes a.core) in
-      let layout : IsLayout (made (map (λ p. p.gives.makes) passes) a.core) a.limits p.0 = subst (λ (code : CodeParts). IsLayout code a.limits p.0) same p.1 in
+      let same : c.0.code ≡ code_by (map (λ p. p.gives.makes) passes) a.core = ap (λ (m : Composed). m.code) c.1.1 ∙ sym (views-same passes a.core) in
+      let layout : IsLayout (code_by (map (λ p. p.gives.makes) passes) a.core) a.limits p.0 = subst (λ (code : CodeParts). IsLayout code a.limits p.0) same p.1 in
       record { normal = c.1.0; counts = layout.counts; places = layout.fit.0; least = layout.fit.1 }
 
   pub fits : FirstFitPlaces (map (λ p. p.gives.makes) passes) a ↔ ((fit : Fit) × IsFitted a.core a.limits passes (Ok fit))
@@ -86,7 +86,7 @@ module _ (passes : List PassView) {texts : Three} (a : Accepted texts) where
 
   audit-of : (placement : List ℕ) → IsAccepted a.core a.limits passes placement → AuditAccepts (map (λ p. p.gives.makes) passes) a placement
   audit-of placement i =
-      let same : i.made.code ≡ made (map (λ p. p.gives.makes) passes) a.core = ap (λ (m : Composed). m.code) i.composed.1 ∙ sym (views-same passes a.core) in
+      let same : i.made.code ≡ code_by (map (λ p. p.gives.makes) passes) a.core = ap (λ (m : Composed). m.code) i.composed.1 ∙ sym (views-same passes a.core) in
       record {
         normal = i.composed.0;
         counts = subst (λ (code : CodeParts). CountsFit code a.limits) same i.counted.0;

@@ -27,7 +27,7 @@ use Rattle.lucid_net_spec.specs.Ways.{Network}
 use Rattle.lucid_pipe.specs.declared.sight.Sight.{Sight}
 use Rattle.lucid_snap.specs.Log.{snap_log}
 use Rattle.lucid_tables.specs.Placed.{PlacedParts, placed_of}
-use Rattle.lucid_top.specs.Accepted.{HasCore, HasValue}
+use Rattle.lucid_top.specs.Premises.{HasCore, HasValue}
 use Rattle.lucid_top_fit.specs.Fit.{HasNormal, normal_of}
 use Rattle.lucid_top_fit.specs.Placing.{IsAudited, IsPlan}
 use Rattle.lucid_top_words.specs.declared.status.Status.{Status}
@@ -90,28 +90,28 @@ pub record Accepted (texts : Three) : Type 0 where
   pub scenario_is : HasValue (scene_read core) texts.scenario scene
 
 -- what passes with these functions make of the normal form of a program, one after another
-abbrev pub made : List (CodeParts → CodeParts) → CoreParts → CodeParts
-made makes core = fold (λ now (make : CodeParts → CodeParts). make now) (normal_of core) makes
+abbrev pub code_by : List (CodeParts → CodeParts) → CoreParts → CodeParts
+code_by makes core = fold (λ now (make : CodeParts → CodeParts). make now) (normal_of core) makes
 
 -- first fit places this code: its counts keep their limits, and each of its nodes in turn has the least place that it may have
 pub record FirstFitPlaces (makes : List (CodeParts → CodeParts)) {texts : Three} (a : Accepted texts) : Type 0 where
   pub normal : HasNormal a.core
-  pub counts : CountsFit (made makes a.core) a.limits
+  pub counts : CountsFit (code_by makes a.core) a.limits
   pub places : List Pair
-  pub least : IsFirstFit (made makes a.core).ops a.limits [] (works (made makes a.core).ops) places
+  pub least : IsFirstFit (code_by makes a.core).ops a.limits [] (works (code_by makes a.core).ops) places
 
 -- the audit accepts the places that a file assigns to the nodes of this code
 pub record AuditAccepts (makes : List (CodeParts → CodeParts)) {texts : Three} (a : Accepted texts) (placement : Bytes) : Type 0 where
   pub normal : HasNormal a.core
-  pub counts : CountsFit (made makes a.core) a.limits
+  pub counts : CountsFit (code_by makes a.core) a.limits
   pub plan : Plan
-  pub plan_is : IsPlan placement (length (nodes (made makes a.core).ops)) (Ok plan)
+  pub plan_is : IsPlan placement (length (nodes (code_by makes a.core).ops)) (Ok plan)
   pub placed : PlacedParts
-  pub accepts : IsAudited a.limits (made makes a.core) plan (Ok placed)
+  pub accepts : IsAudited a.limits (code_by makes a.core) plan (Ok placed)
 
 -- the placed code that first fit makes
 abbrev pub placed_by : {makes : List (CodeParts → CodeParts)} {texts : Three} {a : Accepted texts} → FirstFitPlaces makes a → PlacedParts
-placed_by {makes} {texts} {a} f = placed_of (made makes a.core) (stages_of (made makes a.core) a.limits f.places)
+placed_by {makes} {texts} {a} f = placed_of (code_by makes a.core) (stages_of (code_by makes a.core) a.limits f.places)
 
 -- the network whose handlers run whole
 abbrev pub whole_network : {texts : Three} → Accepted texts → Network

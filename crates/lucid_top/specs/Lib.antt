@@ -1,4 +1,3 @@
-pub mod Accepted
 pub mod Answer
 pub mod Call
 pub mod Causes
@@ -14,6 +13,7 @@ pub mod Passes
 pub mod Pipes
 pub mod Placed
 pub mod Premises
+pub mod PremisesLaws
 pub mod RunPipe
 pub mod RunWhole
 pub mod Snap

@@ -1,43 +1,35 @@
--- The premises of the headline are what the commands accept: each is the definition that the commands use, at a result that is no refusal.
-use Rattle.std.specs.Prelude.{◌≡◌, ◌↔◌, ℕ, List, Ok, length, map}
-use Rattle.lucid_audit.specs.declared.plan.Plan.{Plan}
-use Rattle.lucid_code.specs.Nodes.{nodes}
-use Rattle.lucid_conf.specs.declared.limits.Limits.{Limits}
-use Rattle.lucid_conf.specs.declared.scene.Scene.{Scene}
-use Rattle.lucid_conf.specs.Tables.{limits_read, scene_read}
+-- The texts that the rules accept. No refusal is on this page: specs/Program.antt and specs/Settings.antt of lucid_top_program have them.
+use Rattle.std.specs.Prelude.{◌≡◌, ◌≤◌, List, None, Ok, length}
+use Rattle.serde_json.specs.Data.{Data}
+use Rattle.lucid_conf.specs.Answers.{Reads as Spells}
+use Rattle.lucid_conf.specs.Reading.{Reading}
 use Rattle.lucid_core.specs.Parts.{CoreParts}
-use Rattle.lucid_tables.specs.Placed.{PlacedParts}
-use Rattle.lucid_top.specs.Accepted.{HasCore, HasValue}
-use Rattle.lucid_top.specs.Headline.{Accepted, AuditAccepts, FirstFitPlaces, Three}
-use Rattle.lucid_top_fit.specs.Fit.{Composed, Fit, IsComposed, IsFitted}
-use Rattle.lucid_top_fit.specs.Passes.{PassView}
-use Rattle.lucid_top_fit.specs.Placing.{IsAudited, IsCounted, IsPlan}
-use Rattle.lucid_top_program.specs.Program.{IsProgram}
-use Rattle.lucid_top_program.specs.Settings.{IsLimits, IsScenario}
+use Rattle.lucid_effects_spec.specs.Order.{IsAccepted}
+use Rattle.lucid_lex.specs.declared.token.Token.{Token}
+use Rattle.lucid_lex.specs.Reading.{Reads}
+use Rattle.lucid_parse.specs.Nesting.{too_deep}
+use Rattle.lucid_parse.specs.Program.{IsTreeOf, kinds_of}
+use Rattle.lucid_parse_tree.specs.declared.tree.Tree.{Tree}
+use Rattle.lucid_size.specs.Expansion.{ExpandsTo, most}
+use Rattle.lucid_types_spec.specs.Makes.{IsTyped}
 use Rattle.lucid_top_words.specs.Words.{Bytes}
 
-abbrev pub ProgramsAreExact : Type 0
-ProgramsAreExact = (text : Bytes) (core : CoreParts) → HasCore text core ↔ IsProgram text (Ok core)
+-- The text is a program with this core: it is expanded to a source, the tokens of the source spell a tree, the typing rules give the tree
+-- this core, and each of its functions and handlers calls arrays in order.
+pub record HasCore (text : Bytes) (core : CoreParts) : Type 0 where
+  pub written : List Token
+  pub reads : Reads text written
+  pub source : Bytes
+  pub expands : ExpandsTo text written source
+  pub fits : length source ≤ most
+  pub tokens : List Token
+  pub reads_source : Reads source tokens
+  pub nests : too_deep (kinds_of tokens) ≡ None
+  pub tree : Tree
+  pub spelled : IsTreeOf source tokens tree
+  pub typed : IsTyped tree core
+  pub ordered : IsAccepted core
 
-pub record SettingsAreExact : Type 0 where
-  pub limits : (text : Bytes) (limits : Limits) → HasValue limits_read text limits ↔ IsLimits text (Ok limits)
-  pub scenarios : (core : CoreParts) (text : Bytes) (scene : Scene) → HasValue (scene_read core) text scene ↔ IsScenario core text (Ok scene)
-
--- for any passes
-abbrev pub FitsAreExact : Type 0
-FitsAreExact = (passes : List PassView) (texts : Three) (a : Accepted texts) →
-    FirstFitPlaces (map (λ p. p.gives.makes) passes) a ↔ ((fit : Fit) × IsFitted a.core a.limits passes (Ok fit))
-
--- the code that the passes make, with counts within the limits, a placement file for its nodes, and places that the audit accepts
-pub record IsAccepted (core : CoreParts) (limits : Limits) (passes : List PassView) (placement : Bytes) : Type 0 where
-  pub made : Composed
-  pub composed : IsComposed core passes (Ok made)
-  pub counted : IsCounted core limits made.code (Ok made.code)
-  pub plan : Plan
-  pub planned : IsPlan placement (length (nodes made.code.ops)) (Ok plan)
-  pub placed : PlacedParts
-  pub audited : IsAudited limits made.code plan (Ok placed)
-
-abbrev pub AuditsAreExact : Type 0
-AuditsAreExact = (passes : List PassView) (texts : Three) (a : Accepted texts) (placement : Bytes) →
-    AuditAccepts (map (λ p. p.gives.makes) passes) a placement ↔ IsAccepted a.core a.limits passes placement
+-- the text is JSON, and its value reads so
+abbrev pub HasValue : {A : Type 0} → (Data → Reading A) → Bytes → A → Type 0
+HasValue reading text x = (d : Data) × Spells text d × (reading d ≡ Ok x)

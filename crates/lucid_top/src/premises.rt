@@ -1,5 +1,5 @@
 // The premises of the headline, beside what the commands accept. Nothing runs.
-ghost use Rattle.lucid_top.specs.Premises.{AuditsAreExact, FitsAreExact, ProgramsAreExact, SettingsAreExact};
+ghost use Rattle.lucid_top.specs.PremisesLaws.{AuditsAreExact, FitsAreExact, ProgramsAreExact, SettingsAreExact};
 
 /// A law: the premises of the headline say what the commands accept, no more and no less.
 pub fn premises_are_exact()

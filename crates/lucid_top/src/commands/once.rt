@@ -112,7 +112,11 @@ fn last_event(events: &[EventDef], name: &[u8]) -> Option<usize>
 fn later(name: &[u8], declared: &Id, id: usize, last: Option<usize>) -> Option<usize>
     ensures { result ≡ (if bytes_eq name.now declared.now then Some id else last) }
 {
-    if name == declared.bytes() { Some(id) } else { last }
+    if name == declared.bytes() {
+        Some(id)
+    } else {
+        last
+    }
 }
 
 // Writes the block of the event, and the cells after it. Takes no memory.
