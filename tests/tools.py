@@ -947,9 +947,11 @@ def project(t: Tests, name: str) -> str:
 
 
 def begin_build(top: str) -> "subprocess.Popen[bytes]":
-    """A build by four jobs, whose lanes are in a folder of the project."""
+    """A build by four jobs, whose lanes are in a folder of the project. It takes an interrupt also if the gate runs in the background."""
     env = {**os.environ, "PATH": f"{top}/bin:{os.environ['PATH']}", "TMPDIR": f"{top}/lanes"}
-    return subprocess.Popen([sys.executable, f"{top}/tools/prove", "4"], env=env, stdout=subprocess.PIPE, stderr=subprocess.PIPE, start_new_session=True)
+    words = [sys.executable, f"{top}/tools/prove", "4"]
+    heed = lambda: signal.signal(signal.SIGINT, signal.SIG_DFL)
+    return subprocess.Popen(words, env=env, stdout=subprocess.PIPE, stderr=subprocess.PIPE, start_new_session=True, preexec_fn=heed)
 
 
 def calls_of(top: str) -> List[str]:
