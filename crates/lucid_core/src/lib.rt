@@ -1,8 +1,9 @@
 // The elaborated program (a core), the rules that make one valid, and its meaning: the effect of an event whose handler runs whole.
 // Promises: every value of type `Core` or `Flat` is valid (specs/Valid.antt). The laws of laws.rt hold for all cells, ticks, switches and events.
-// The meaning is `step` of specs/Step.antt, over specs/Meaning.antt and specs/Computations.antt. The interpreter is the crate lucid_core_run.
-// Used by many crates. Promises of the program rest on its definitions (docs/TRUSTED.md). It changes only to correct a fault: README.md,
-// *Frozen*.
+// The meaning is the function `step` of specs/Step.antt. It is defined by specs/Meaning.antt (expressions and statements) and
+// specs/Computations.antt (their effects on the state). The interpreter is the crate lucid_core_run.
+// Used by many crates. Promises of the program rest on its definitions (docs/TRUSTED.md). It changes only to correct a fault: README.md
+// of this crate, *Frozen*.
 #![tactic(auto)]
 
 mod body;
