@@ -9,7 +9,7 @@ under the seed that the text really has. What breaks it (seen): a program that r
 one fixed seed was not tried. The group of the gate tries the names for the default hasher and those for the seed of another text; `--whole`
 and this script try all.
 
-Usage: tests/collisions.py PROGRAM"""
+Usage: tests/collisions.py PROGRAM, which prints a table"""
 import os
 import resource
 import subprocess
@@ -199,6 +199,14 @@ def collisions(program: str, room: str, whole: bool, check: Callable[[Row, List[
         check(row, row.fails(plain.whole))
 
 
+HEAD = ["| Names | Half, s | Whole, s | In the fullest group |", "|---|---|---|---|"]
+
+
+def cells_of(row: Row, why: List[str]) -> str:
+    """The line of a table for a row."""
+    return "| %s | %.3f | %.3f | %d%s |" % (row.what, row.half, row.whole, row.fullest, "".join(": " + w for w in why))
+
+
 def line_of(row: Row, why: List[str]) -> str:
     """The line that is printed of a row."""
     return "%-42s %.3f s, half of it %.3f s, %d in the fullest group%s" % (row.what, row.whole, row.half, row.fullest, "".join(": " + w for w in why))
@@ -219,9 +227,10 @@ def main() -> int:
         print(__doc__, file=sys.stderr)
         return 2
     faults: List[str] = []
+    print(*HEAD, sep="\n")
 
     def check(row: Row, why: List[str]) -> None:
-        print(line_of(row, why))
+        print(cells_of(row, why))
         faults.extend(why)
 
     with tempfile.TemporaryDirectory() as room:
