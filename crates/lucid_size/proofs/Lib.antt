@@ -1,5 +1,4 @@
 mod Expanded
-mod Indexed
 mod Seams
 mod Standing
 mod Gaps

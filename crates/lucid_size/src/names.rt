@@ -29,7 +29,7 @@ impl Model for Names {
 
     ghost Value = { List (List ℕ) };
 
-    ghost use Rattle.lucid_size.specs.Names.{IsIndexed};
+    ghost use Rattle.lucid_seed.specs.Seed.{IsIndexed};
 
     ghost view = { λ t. t.names.items };
 

@@ -24,7 +24,7 @@ impl Model for Texts {
 
     ghost Value = { List (List ℕ) };
 
-    ghost use Rattle.lucid_types_scope.specs.TextPlaces.{IsIndexed};
+    ghost use Rattle.lucid_seed.specs.Seed.{IsIndexed};
 
     ghost view = { λ t. t.texts.items };
 

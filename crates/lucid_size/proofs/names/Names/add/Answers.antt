@@ -1,7 +1,7 @@
 -- The map has the place of the new text.
 use Rattle.std.proofs.Common.{◌≡◌, ◌∙◌, List, ℕ, None, ap, bytes_eq, length, position, rules, subst, sym}
-use Rattle.lucid_size.specs.Names.{IsIndexed}
-use Rattle.lucid_size.proofs.Indexed.{indexed}
+use Rattle.lucid_seed.specs.Seed.{IsIndexed}
+use Rattle.lucid_seed.proofs.SeedLemmas.{indexed}
 use Rattle.lucid_size.proofs.names.Names.add.Goals as goal
 
 pub invariant_of-self-in-Ok : goal.invariant_of-self-in-Ok

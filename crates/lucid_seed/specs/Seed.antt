@@ -1,4 +1,4 @@
--- The texts of a program, and where each of them is.
+-- Tables of texts, whose hashers are seeded: the place of each text in a list.
 use Rattle.std.specs.Prelude.{◌≡◌, ℕ, List, bytes_eq, position}
 use Rattle.std.specs.HashMap.{HashMap, get}
 

@@ -6,7 +6,7 @@ use Rattle.std.proofs.lemmas.List.Folds.{position_or_len_push}
 use Rattle.std.proofs.lemmas.List.Sums.{prefix_len-le-length}
 use Rattle.std.proofs.lemmas.Slice.Eq.{bytes_eq-Decides}
 use Rattle.std.specs.HashMap.{HashMap, get}
-use Rattle.lucid_types_scope.specs.TextPlaces.{IsIndexed}
+use Rattle.lucid_seed.specs.Seed.{IsIndexed}
 
 module _ {X : Type 0} (p : X → Bool) (xs : List X) (y : X) where
   there : position p xs ≡ None → p y ≡ true → position p (xs ++ y ∷ []) ≡ Some (length xs)
