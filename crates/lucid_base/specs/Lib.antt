@@ -4,6 +4,7 @@ pub mod Bool
 pub mod Cells
 pub mod Hash
 pub mod Memop
+pub mod Numbers
 pub mod Ops
 pub mod Outs
 pub mod Saturating

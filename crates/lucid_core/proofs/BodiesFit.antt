@@ -11,7 +11,7 @@ use Rattle.lucid_core.specs.declared.body.Stmt.{Stmt}
 use Rattle.lucid_core.specs.declared.body.Touch.{Touch}
 use Rattle.lucid_core.specs.declared.body.Expr.TheOpen.{Expr-F, Stmt-F, Touch-F}
 use Rattle.lucid_core.specs.declared.body.Expr.TheViews.{roll-Expr, roll-Stmt, roll-Touch}
-use Rattle.lucid_core.specs.declared.body.Expr.TheFolds.{fold-roll-Expr, fold-roll-Stmt, fold-roll-Touch, ind-Expr, ind-Stmt}
+use Rattle.lucid_core.specs.declared.body.Expr.TheFolds.{fold-roll-Expr, fold-roll-Stmt, fold-roll-Touch}
 use Rattle.lucid_core.specs.declared.defs.FunDef.{FunDef}
 use Rattle.lucid_core.specs.declared.defs.HandlerDef.{HandlerDef}
 use Rattle.lucid_core.specs.Computations.{Computation, Effect, Frame, Fun, State, begun_with}
@@ -40,14 +40,10 @@ use Rattle.lucid_core.proofs.Funs.{funs_from}
 use Rattle.lucid_core.proofs.Pairwise.{Pairwise, one_more as both_more}
 use Rattle.lucid_core.proofs.Prints.{body_prints, prints_step, expr_prints, stmt_prints, touch_prints}
 use Rattle.lucid_core.proofs.SentCount.{handler_keeps}
-use Rattle.lucid_core.proofs.SentFit.{BodyFits, E, S, T, ExprFits, StmtFits, expr_tree, touch_tree, stmt_tree, stmts, block_fits, expr_level, touch_level, stmt_level}
+use Rattle.lucid_core.proofs.SentFit.{BodyFits, E, S, T, ExprFits, StmtFits, expr_tree, touch_tree, stmt_tree, block_fits, expr_level, touch_level, stmt_level}
 use Rattle.lucid_core.proofs.TypingRules.{body_rule}
 use Rattle.lucid_core.proofs.WidthLists.{passes_at, widths-begun, widths-taken}
-
--- Where four folds are opened at a node.
-opened : {A B C D : Type 0} (P : A → B → C → D → Type 0) {a x : A} {b y : B} {c z : C} {d w : D} → a ≡ x → b ≡ y → c ≡ z → d ≡ w → P x y z w → P a b c d
-opened P {a} {x} {b} {y} {c} {z} {d} {w} e f g h is =
-    subst (λ v. P v b c d) (sym e) (subst (λ v. P x v c d) (sym f) (subst (λ v. P x y v d) (sym g) (subst (λ v. P x y z v) (sym h) is)))
+use Rattle.lucid_core.proofs.Induction.{Cases, body_by, expr_by, opened4}
 
 module _ (asked : Asked) (core : CoreParts) (s : Scope) (p : Frame) (stands : Stands asked core s p) where
   abbrev ExprHolds : Expr → Type 0
@@ -60,7 +56,7 @@ module _ (asked : Asked) (core : CoreParts) (s : Scope) (p : Frame) (stands : St
   TouchHolds e = ExprFits asked core s p stands (touch_of e) (touch_answer e) (touch_prints e) (touch_returns e)
 
   of_expr : (y : Expr-F (E asked core s p stands) (S asked core s p stands) (T asked core s p stands)) → ExprHolds (roll-Expr (expr_tree asked core s p stands y))
-  of_expr y = let tree = expr_tree asked core s p stands y in opened (ExprFits asked core s p stands)
+  of_expr y = let tree = expr_tree asked core s p stands y in opened4 (ExprFits asked core s p stands)
       (fold-roll-Expr (Computation Bits) Effect (Computation Bits) m.expr_step m.stmt_step m.touch_step tree)
       (fold-roll-Expr (Typed Answer) (Typed (List Answer)) (Typed Answer) t.expr_step t.stmt_step t.touch_step tree)
       (fold-roll-Expr Printed Printed Printed x.expr_step prints_step x.touch_step tree)
@@ -68,7 +64,7 @@ module _ (asked : Asked) (core : CoreParts) (s : Scope) (p : Frame) (stands : St
       (expr_level asked core s p stands y)
 
   of_touch : (y : Touch-F (E asked core s p stands) (S asked core s p stands) (T asked core s p stands)) → TouchHolds (roll-Touch (touch_tree asked core s p stands y))
-  of_touch y = let tree = touch_tree asked core s p stands y in opened (ExprFits asked core s p stands)
+  of_touch y = let tree = touch_tree asked core s p stands y in opened4 (ExprFits asked core s p stands)
       (fold-roll-Touch (Computation Bits) Effect (Computation Bits) m.expr_step m.stmt_step m.touch_step tree)
       (fold-roll-Touch (Typed Answer) (Typed (List Answer)) (Typed Answer) t.expr_step t.stmt_step t.touch_step tree)
       (fold-roll-Touch Printed Printed Printed x.expr_step prints_step x.touch_step tree)
@@ -76,7 +72,7 @@ module _ (asked : Asked) (core : CoreParts) (s : Scope) (p : Frame) (stands : St
       (touch_level asked core s p stands y)
 
   of_stmt : (y : Stmt-F (E asked core s p stands) (S asked core s p stands) (T asked core s p stands)) → StmtHolds (roll-Stmt (stmt_tree asked core s p stands y))
-  of_stmt y = let tree = stmt_tree asked core s p stands y in opened (StmtFits asked core s p stands)
+  of_stmt y = let tree = stmt_tree asked core s p stands y in opened4 (StmtFits asked core s p stands)
       (fold-roll-Stmt (Computation Bits) Effect (Computation Bits) m.expr_step m.stmt_step m.touch_step tree)
       (fold-roll-Stmt (Typed Answer) (Typed (List Answer)) (Typed Answer) t.expr_step t.stmt_step t.touch_step tree)
       (fold-roll-Stmt Printed Printed Printed x.expr_step prints_step x.touch_step tree)
@@ -84,29 +80,14 @@ module _ (asked : Asked) (core : CoreParts) (s : Scope) (p : Frame) (stands : St
       (stmt_level asked core s p stands y)
 
   -- By induction on all three.
-  stmt_holds : (e : Stmt) → StmtHolds e
-  stmt_holds = ind-Stmt ExprHolds StmtHolds TouchHolds
-      (λ e y is. subst (λ z. ExprHolds (roll-Expr z)) is (of_expr y))
-      (λ e y is. subst (λ z. StmtHolds (roll-Stmt z)) is (of_stmt y))
-      (λ e y is. subst (λ z. TouchHolds (roll-Touch z)) is (of_touch y))
+  by_nodes : Cases ExprHolds StmtHolds TouchHolds
+  by_nodes = record { expr = of_expr; stmt = of_stmt; touch = of_touch }
 
   pub expr_holds : (e : Expr) → ExprHolds e
-  expr_holds = ind-Expr ExprHolds StmtHolds TouchHolds
-      (λ e y is. subst (λ z. ExprHolds (roll-Expr z)) is (of_expr y))
-      (λ e y is. subst (λ z. StmtHolds (roll-Stmt z)) is (of_stmt y))
-      (λ e y is. subst (λ z. TouchHolds (roll-Touch z)) is (of_touch y))
-
-  -- With their proofs.
-  proved : List Stmt → List (S asked core s p stands)
-  proved ss = map (λ e. (e, stmt_holds e)) ss
-
-  stmts-proved : (ss : List Stmt) → stmts asked core s p stands (proved ss) ≡ ss
-  unfolding proved
-  stmts-proved [] = refl
-  stmts-proved (e ∷ es) = ap (λ (q : List Stmt). e ∷ q) (stmts-proved es)
+  expr_holds = expr_by by_nodes
 
   body_fits : (ss : List Stmt) → BodyFits asked core s p stands ss
-  body_fits ss = subst (BodyFits asked core s p stands) (stmts-proved ss) (block_fits asked core s p stands (proved ss))
+  body_fits = body_by (BodyFits asked core s p stands) by_nodes (block_fits asked core s p stands)
 
 -- No event has more than 8 parameters.
 abbrev pub EventsAreSmall : CoreParts → Type 0

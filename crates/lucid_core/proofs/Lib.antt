@@ -7,6 +7,7 @@ pub mod Funs
 pub mod Grown
 pub mod Handled
 pub mod Handlers
+pub mod Induction
 pub mod MeaningLemmas
 pub mod Pairwise
 pub mod Prints

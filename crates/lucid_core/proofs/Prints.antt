@@ -1,5 +1,5 @@
 -- Prints that fill their texts and have few arguments: the rules on texts and on limits for prints, as one fold.
-use Rattle.std.proofs.Common.{◌≡◌, ℕ, List, [], ◌∷◌, ◌++◌, Bool, true, false, ◌&&◌, length, map, None, Some, suc, refl, ap, subst, sym, ◌∙◌, nat_eq, nat_le, slice_get}
+use Rattle.std.proofs.Common.{◌≡◌, ℕ, List, [], ◌∷◌, ◌++◌, Bool, true, false, ◌&&◌, length, map, None, Some, suc, refl, ap, subst, ◌∙◌, nat_eq, nat_le, slice_get}
 use Rattle.std.specs.List.{list_all}
 use Rattle.std.specs.Option.{option_map_or}
 use Rattle.std.proofs.lemmas.Bool.{and_from, and_parts}
@@ -9,13 +9,14 @@ use Rattle.lucid_core.specs.declared.body.Stmt.{Stmt}
 use Rattle.lucid_core.specs.declared.body.Touch.{Touch}
 use Rattle.lucid_core.specs.declared.body.Expr.TheOpen.{Expr-F, Stmt-F, Touch-F}
 use Rattle.lucid_core.specs.declared.body.Expr.TheViews.{roll-Expr, roll-Stmt, roll-Touch}
-use Rattle.lucid_core.specs.declared.body.Expr.TheFolds.{fold-Expr, fold-Stmt, fold-Touch, fold-roll-Expr, fold-roll-Stmt, fold-roll-Touch, ind-Stmt, map-Expr, map-Stmt, map-Touch}
+use Rattle.lucid_core.specs.declared.body.Expr.TheFolds.{fold-Expr, fold-Stmt, fold-Touch, fold-roll-Expr, fold-roll-Stmt, fold-roll-Touch, map-Expr, map-Stmt, map-Touch}
 use Rattle.lucid_core.specs.Children.{stmt_children}
 use Rattle.lucid_core.specs.Limits as l
 use Rattle.lucid_core.specs.Limits.{expr_limits, stmt_limits, touch_limits, body_keeps_limits}
 use Rattle.lucid_core.specs.Texts as x
 use Rattle.lucid_core.specs.Texts.{Printed, each_filled, holes_of, expr_texts, stmt_texts, touch_texts, body_fills_texts}
 use Rattle.lucid_core.proofs.Fine.{both_pass}
+use Rattle.lucid_core.proofs.Induction.{Cases, opened3, stmt_by}
 
 abbrev pub prints_step : Stmt-F Printed Printed Printed → Printed
 prints_step (Stmt-F.Say form xs) = λ forms. nat_le (length xs) 8 && option_map_or (λ text. nat_eq (length xs) (holes_of text)) (slice_get forms form) false && each_filled xs forms
@@ -29,10 +30,6 @@ stmt_prints = fold-Stmt Printed Printed Printed x.expr_step prints_step x.touch_
 
 abbrev pub touch_prints : Touch → Printed
 touch_prints = fold-Touch Printed Printed Printed x.expr_step prints_step x.touch_step
-
--- Where three folds are opened at a node.
-opened : {A B C : Type 0} (P : A → B → C → Type 0) {a x : A} {b y : B} {c z : C} → a ≡ x → b ≡ y → c ≡ z → P x y z → P a b c
-opened P {a} {x} {b} {y} {c} {z} e f g is = subst (λ v. P v b c) (sym e) (subst (λ v. P x v c) (sym f) (subst (λ v. P x y v) (sym g) is))
 
 -- As many of one as of another.
 same_count : {X A B : Type 0} (f : X → A) (g : X → B) (xs : List X) → length (map f xs) ≡ length (map g xs)
@@ -193,31 +190,31 @@ module _ (forms : List (List ℕ)) where
   TouchHolds e = Filled (touch_texts e) (touch_limits e) (touch_prints e)
 
   of_expr : (y : Expr-F E S T) → ExprHolds (roll-Expr (expr_tree y))
-  of_expr y = let tree = expr_tree y in opened Filled
+  of_expr y = let tree = expr_tree y in opened3 Filled
       (fold-roll-Expr Printed Printed Printed x.expr_step x.stmt_step x.touch_step tree)
       (fold-roll-Expr Bool Bool Bool l.expr_step l.stmt_step l.touch_step tree)
       (fold-roll-Expr Printed Printed Printed x.expr_step prints_step x.touch_step tree)
       (expr_level y)
 
   of_touch : (y : Touch-F E S T) → TouchHolds (roll-Touch (touch_tree y))
-  of_touch y = let tree = touch_tree y in opened Filled
+  of_touch y = let tree = touch_tree y in opened3 Filled
       (fold-roll-Touch Printed Printed Printed x.expr_step x.stmt_step x.touch_step tree)
       (fold-roll-Touch Bool Bool Bool l.expr_step l.stmt_step l.touch_step tree)
       (fold-roll-Touch Printed Printed Printed x.expr_step prints_step x.touch_step tree)
       (touch_level y)
 
   of_stmt : (y : Stmt-F E S T) → StmtHolds (roll-Stmt (stmt_tree y))
-  of_stmt y = let tree = stmt_tree y in opened Filled
+  of_stmt y = let tree = stmt_tree y in opened3 Filled
       (fold-roll-Stmt Printed Printed Printed x.expr_step x.stmt_step x.touch_step tree)
       (fold-roll-Stmt Bool Bool Bool l.expr_step l.stmt_step l.touch_step tree)
       (fold-roll-Stmt Printed Printed Printed x.expr_step prints_step x.touch_step tree)
       (stmt_level y)
 
+  by_nodes : Cases ExprHolds StmtHolds TouchHolds
+  by_nodes = record { expr = of_expr; stmt = of_stmt; touch = of_touch }
+
   stmt_filled : (e : Stmt) → StmtHolds e
-  stmt_filled = ind-Stmt ExprHolds StmtHolds TouchHolds
-      (λ e y is. subst (λ z. ExprHolds (roll-Expr z)) is (of_expr y))
-      (λ e y is. subst (λ z. StmtHolds (roll-Stmt z)) is (of_stmt y))
-      (λ e y is. subst (λ z. TouchHolds (roll-Touch z)) is (of_touch y))
+  stmt_filled = stmt_by by_nodes
 
   pub body_prints : (ss : List Stmt) → body_fills_texts ss forms ≡ true → body_keeps_limits ss ≡ true → filled (map stmt_prints ss) ≡ true
   body_prints [] texts limits = refl

@@ -9,13 +9,14 @@ use Rattle.lucid_core.specs.declared.body.Stmt.{Stmt}
 use Rattle.lucid_core.specs.declared.body.Touch.{Touch}
 use Rattle.lucid_core.specs.declared.body.Expr.TheOpen.{Stmt-F}
 use Rattle.lucid_core.specs.declared.body.Expr.TheViews.{roll-Stmt}
-use Rattle.lucid_core.specs.declared.body.Expr.TheFolds.{fold-roll-Stmt, ind-Stmt, map-Stmt}
+use Rattle.lucid_core.specs.declared.body.Expr.TheFolds.{fold-roll-Stmt, map-Stmt}
 use Rattle.lucid_core.specs.Returns as r
 use Rattle.lucid_core.specs.Returns.{Returns, block_returns, expr_returns, stmt_returns, touch_returns}
 use Rattle.lucid_core.specs.Scope.{Scope}
 use Rattle.lucid_core.specs.Typing as t
 use Rattle.lucid_core.specs.Typing.{Answer, Typed, all_typed, answer_of, returns_of, touch_answer, joined}
 use Rattle.lucid_core.proofs.TypingRules.{all_rule, assign_rule, drop_rule, if_rule, gen_rule, multi_rule, say_rule, return_rule}
+use Rattle.lucid_core.proofs.Induction.{Cases, body_by, opened2}
 
 -- If a return has a value, the rule for returns knows it; a block that always returns has a return.
 pub record Sees (rs : List Answer) (returns : Returns) : Type 0 where
@@ -122,24 +123,10 @@ module _ (s : Scope) where
   }
 
   of_stmt : (y : Stmt-F E S T) → StmtSees (returns_of (roll-Stmt (tree y))) (stmt_returns (roll-Stmt (tree y)))
-  of_stmt y =
-      subst (λ (v : Typed (List Answer)). StmtSees v (stmt_returns (roll-Stmt (tree y)))) (sym (fold-roll-Stmt (Typed Answer) (Typed (List Answer)) (Typed Answer) t.expr_step t.stmt_step t.touch_step (tree y)))
-      (subst (λ (v : Returns). StmtSees (t.stmt_step (map-Stmt Expr Stmt Touch (Typed Answer) (Typed (List Answer)) (Typed Answer) answer_of returns_of touch_answer (tree y))) v)
-      (sym (fold-roll-Stmt Returns Returns Returns r.expr_step r.stmt_step r.touch_step (tree y))) (level y))
+  of_stmt y = opened2 StmtSees (fold-roll-Stmt (Typed Answer) (Typed (List Answer)) (Typed Answer) t.expr_step t.stmt_step t.touch_step (tree y)) (fold-roll-Stmt Returns Returns Returns r.expr_step r.stmt_step r.touch_step (tree y)) (level y)
 
-  stmt_sees : (e : Stmt) → StmtSees (returns_of e) (stmt_returns e)
-  stmt_sees = ind-Stmt (λ e. Unit {0}) (λ e. StmtSees (returns_of e) (stmt_returns e)) (λ e. Unit {0})
-      (λ e y is. tt)
-      (λ e y is. subst (λ z. StmtSees (returns_of (roll-Stmt z)) (stmt_returns (roll-Stmt z))) is (of_stmt y))
-      (λ e y is. tt)
-
-  proved : List Stmt → List S
-  proved ss = map (λ e. (e, stmt_sees e)) ss
-
-  stmts-proved : (ss : List Stmt) → stmts (proved ss) ≡ ss
-  unfolding proved
-  stmts-proved [] = refl
-  stmts-proved (e ∷ es) = ap (λ (q : List Stmt). e ∷ q) (stmts-proved es)
+  by_nodes : Cases (λ e. Unit {0}) (λ e. StmtSees (returns_of e) (stmt_returns e)) (λ e. Unit {0})
+  by_nodes = record { expr = λ y. tt; stmt = of_stmt; touch = λ y. tt }
 
   pub block_sees : (ss : List Stmt) → Block ss
-  block_sees ss = subst Block (stmts-proved ss) (block_level (proved ss))
+  block_sees = body_by Block by_nodes block_level

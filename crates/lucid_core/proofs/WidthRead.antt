@@ -1,5 +1,5 @@
 -- The width that is read off an expression is the answer of the typing rules.
-use Rattle.std.proofs.Common.{◌≡◌, ℕ, List, [], ◌∷◌, ◌++◌, Option, None, Some, map, refl, sym, ap, subst, ◌∙◌, nat_eq}
+use Rattle.std.proofs.Common.{◌≡◌, ℕ, List, [], ◌∷◌, ◌++◌, Option, None, Some, map, refl, sym, ap, ◌∙◌, nat_eq}
 use Rattle.std.specs.List.{list_all}
 use Rattle.std.specs.Option.{option_and_then, option_eq, option_or}
 use Rattle.lucid_core.specs.declared.body.Expr.{Expr}
@@ -7,7 +7,7 @@ use Rattle.lucid_core.specs.declared.body.Stmt.{Stmt}
 use Rattle.lucid_core.specs.declared.body.Touch.{Touch}
 use Rattle.lucid_core.specs.declared.body.Expr.TheOpen.{Expr-F, Stmt-F, Touch-F}
 use Rattle.lucid_core.specs.declared.body.Expr.TheViews.{roll-Expr, roll-Stmt, roll-Touch}
-use Rattle.lucid_core.specs.declared.body.Expr.TheFolds.{fold-roll-Expr, fold-roll-Stmt, fold-roll-Touch, ind-Expr, map-Expr, map-Stmt, map-Touch}
+use Rattle.lucid_core.specs.declared.body.Expr.TheFolds.{fold-roll-Expr, fold-roll-Stmt, fold-roll-Touch, map-Expr, map-Stmt, map-Touch}
 use Rattle.lucid_core.specs.declared.defs.FunDef.{FunDef}
 use Rattle.lucid_core.specs.Scope.{Scope}
 use Rattle.lucid_core.specs.Typing as t
@@ -15,6 +15,7 @@ use Rattle.lucid_core.specs.Typing.{Answer, Typed, all_typed, answer_of, joined,
 use Rattle.lucid_core.specs.Width as w
 use Rattle.lucid_core.specs.Width.{Read, expr_width, first_of, first_return, touch_width}
 use Rattle.lucid_core.proofs.TypingRules.{all_rule, assign_rule, bin_rule, call_rule, cast_rule, cmp_rule, drop_rule, gen_rule, hash_rule, holds, if_rule, inlined_rule, local_rule, multi_rule, return_rule, say_rule, touch_rule, un_rule}
+use Rattle.lucid_core.proofs.Induction.{Cases, expr_by, opened2}
 
 -- The first of some returns.
 abbrev head : List Answer → Option Answer
@@ -29,10 +30,6 @@ head_append (x ∷ xs) ys = refl
 one_is_first : (rs : List Answer) (a : Answer) → one_answer rs ≡ Some a → option_and_then (λ answer. answer) (head rs) ≡ a
 one_is_first [] a h = cc
 one_is_first (r ∷ rs) a h = (holds (list_all (option_eq nat_eq r) rs) r a h).1
-
--- Where two folds are opened at a node.
-opened : {A B : Type 0} (P : A → B → Type 0) {a x : A} {b y : B} → a ≡ x → b ≡ y → P x y → P a b
-opened P {a} {x} {b} {y} e f is = subst (λ v. P v b) (sym e) (subst (λ v. P x v) (sym f) is)
 
 module _ (s : Scope) where
   abbrev Reads : Typed Answer → Read Answer → Type 0
@@ -128,19 +125,19 @@ module _ (s : Scope) where
   stmt_level (Stmt-F.Return (Some x)) rs h = let rule = return_rule s (answer_of x.0) rs h in ap (λ (a : Answer). Some a) (x.1 (Some rule.0) rule.1) ∙ ap head (sym rule.2)
 
   of_expr : (y : Expr-F E S T) → Reads (answer_of (roll-Expr (expr_tree y))) (expr_width (roll-Expr (expr_tree y)))
-  of_expr y = opened Reads (fold-roll-Expr (Typed Answer) (Typed (List Answer)) (Typed Answer) t.expr_step t.stmt_step t.touch_step (expr_tree y))
+  of_expr y = opened2 Reads (fold-roll-Expr (Typed Answer) (Typed (List Answer)) (Typed Answer) t.expr_step t.stmt_step t.touch_step (expr_tree y))
       (fold-roll-Expr (Read Answer) (Read (Option Answer)) (Read Answer) w.expr_step w.stmt_step w.touch_step (expr_tree y)) (expr_level y)
 
   of_touch : (y : Touch-F E S T) → Reads (touch_answer (roll-Touch (touch_tree y))) (touch_width (roll-Touch (touch_tree y)))
-  of_touch y = opened Reads (fold-roll-Touch (Typed Answer) (Typed (List Answer)) (Typed Answer) t.expr_step t.stmt_step t.touch_step (touch_tree y))
+  of_touch y = opened2 Reads (fold-roll-Touch (Typed Answer) (Typed (List Answer)) (Typed Answer) t.expr_step t.stmt_step t.touch_step (touch_tree y))
       (fold-roll-Touch (Read Answer) (Read (Option Answer)) (Read Answer) w.expr_step w.stmt_step w.touch_step (touch_tree y)) (touch_level y)
 
   of_stmt : (y : Stmt-F E S T) → Returns (returns_of (roll-Stmt (stmt_tree y))) (first_return (roll-Stmt (stmt_tree y)))
-  of_stmt y = opened Returns (fold-roll-Stmt (Typed Answer) (Typed (List Answer)) (Typed Answer) t.expr_step t.stmt_step t.touch_step (stmt_tree y))
+  of_stmt y = opened2 Returns (fold-roll-Stmt (Typed Answer) (Typed (List Answer)) (Typed Answer) t.expr_step t.stmt_step t.touch_step (stmt_tree y))
       (fold-roll-Stmt (Read Answer) (Read (Option Answer)) (Read Answer) w.expr_step w.stmt_step w.touch_step (stmt_tree y)) (stmt_level y)
 
+  by_nodes : Cases (λ e. Reads (answer_of e) (expr_width e)) (λ e. Returns (returns_of e) (first_return e)) (λ e. Reads (touch_answer e) (touch_width e))
+  by_nodes = record { expr = of_expr; stmt = of_stmt; touch = of_touch }
+
   pub expr_reads : (e : Expr) → Reads (answer_of e) (expr_width e)
-  expr_reads = ind-Expr (λ e. Reads (answer_of e) (expr_width e)) (λ e. Returns (returns_of e) (first_return e)) (λ e. Reads (touch_answer e) (touch_width e))
-      (λ e y is. subst (λ z. Reads (answer_of (roll-Expr z)) (expr_width (roll-Expr z))) is (of_expr y))
-      (λ e y is. subst (λ z. Returns (returns_of (roll-Stmt z)) (first_return (roll-Stmt z))) is (of_stmt y))
-      (λ e y is. subst (λ z. Reads (touch_answer (roll-Touch z)) (touch_width (roll-Touch z))) is (of_touch y))
+  expr_reads = expr_by by_nodes

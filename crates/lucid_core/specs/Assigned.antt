@@ -9,7 +9,8 @@ use Rattle.lucid_core.specs.declared.body.Expr.TheOpen.{Expr-F, Stmt-F, Touch-F}
 use Rattle.lucid_core.specs.declared.body.Expr.TheFolds.{fold-Expr, fold-Stmt, fold-Touch}
 use Rattle.lucid_core.specs.Children.{expr_children, stmt_children, touch_children}
 use Rattle.lucid_core.specs.Parts.{CoreParts}
-use Rattle.lucid_core.specs.Numbers.{is_in, places}
+use Rattle.lucid_base.specs.Numbers.{is_in}
+use Rattle.lucid_core.specs.Numbers.{places}
 use Rattle.lucid_core.specs.Events.{event_params}
 
 -- For a part of a body: whether it reads only assigned locals, given those assigned before it, and the locals that it assigns for the
@@ -31,7 +32,7 @@ only_reads test = record { reads_assigned = test; assigns = [] }
 
 -- The pairs of an `Inlined` count as an assignment each at the head of its statements.
 abbrev pub expr_step : Expr-F Flow Flow Flow → Flow
-expr_step (Expr-F.Local i) = only_reads (λ known. is_in known i)
+expr_step (Expr-F.Local i) = only_reads (λ known. is_in i known)
 expr_step (Expr-F.Inlined given ss) = only_reads (λ known. all_read_assigned (map (λ g. g.1) given) known && block_reads_assigned ss (known ++ map (λ g. g.0) given))
 expr_step e = only_reads (all_read_assigned (expr_children e))
 

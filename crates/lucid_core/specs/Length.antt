@@ -8,7 +8,7 @@ use Rattle.lucid_core.specs.declared.body.Expr.TheFolds.{fold-Expr, fold-Stmt, f
 use Rattle.lucid_core.specs.declared.defs.FunDef.{FunDef}
 use Rattle.lucid_core.specs.declared.defs.HandlerDef.{HandlerDef}
 use Rattle.lucid_core.specs.Events.{event_params}
-use Rattle.lucid_core.specs.Numbers.{is_in}
+use Rattle.lucid_base.specs.Numbers.{is_in}
 use Rattle.lucid_core.specs.Parts.{CoreParts}
 
 -- The lengths of the functions before, how many locals there are, and which of them are from outside: parameters, and those assigned earlier in a block round.
@@ -78,7 +78,7 @@ expr_step (Expr-F.Cast w x) = measured false (λ a. x.ops a + 1)
 expr_step (Expr-F.Hash w xs) = measured false (λ a. total_ops xs a + 1)
 expr_step (Expr-F.Array t) = measured false (λ a. t.ops a)
 expr_step (Expr-F.Fun k names xs) = measured true (λ a. total_ops xs a + slice_index a.funs k)
-expr_step (Expr-F.Inlined given ss) = measured true (λ a. total_ops (map (λ g. g.1) given) a + block_ops ss (with_held a (is_in (map (λ g. g.0) given))))
+expr_step (Expr-F.Inlined given ss) = measured true (λ a. total_ops (map (λ g. g.1) given) a + block_ops ss (with_held a (λ (n : ℕ). is_in n (map (λ g. g.0) given))))
 
 abbrev pub touch_step : Touch-F Measure Piece Measure → Measure
 touch_step t = measured false (λ a. t.index.ops a + t.get_arg.ops a + t.set_arg.ops a + 1)

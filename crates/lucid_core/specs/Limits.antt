@@ -10,13 +10,14 @@ use Rattle.lucid_core.specs.declared.defs.FunDef.{FunDef}
 use Rattle.lucid_core.specs.Children.{expr_children, stmt_children, touch_children}
 use Rattle.lucid_core.specs.Parts.{CoreParts}
 use Rattle.lucid_base.specs.Memop.{memop_fits}
-use Rattle.lucid_core.specs.Numbers.{all_hold, are_distinct}
+use Rattle.lucid_base.specs.Numbers.{all_differ}
+use Rattle.lucid_core.specs.Numbers.{all_hold}
 
 abbrev pub is_between : ℕ → ℕ → ℕ → Bool
 is_between least most n = nat_le least n && nat_le n most
 
 abbrev pub are_members : List ℕ → Bool
-are_members members = is_between 1 8 (length members) && list_all (λ m. nat_lt m 64) members && are_distinct members
+are_members members = is_between 1 8 (length members) && list_all (λ m. nat_lt m 64) members && all_differ members
 
 -- A hash has 1 to 9 operands, its seed among them.
 abbrev pub expr_step : Expr-F Bool Bool Bool → Bool

@@ -5,3 +5,4 @@ pub mod Owning
 pub mod Parts
 pub mod SmallPrograms
 pub mod Statements
+pub mod Times

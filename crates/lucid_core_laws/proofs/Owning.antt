@@ -1,32 +1,11 @@
 -- The locals that the inlined calls of a body name, part by part.
-use Rattle.std.proofs.Common.{◌≡◌, ◌⊎◌, inl, inr, ℕ, ◌+◌, ◌<◌, ◌≤◌, List, [], ◌∷◌, ◌++◌, Bool, true, false, cond, ◌&&◌, refl, sym, ap, subst, ◌∙◌, arith, nat_eq, nat_le}
+use Rattle.std.proofs.Common.{◌≡◌, ◌⊎◌, inl, inr, ℕ, ◌+◌, ◌<◌, ◌≤◌, List, [], ◌∷◌, ◌++◌, true, ◌&&◌, refl, sym, subst, ◌∙◌, arith, nat_eq, nat_le}
 use Rattle.std.specs.List.{list_all}
-use Rattle.std.proofs.lemmas.Bool.{and_from, cases_lt, cases_Bool, eqb-false, eq-eqb, le-leb, ne_eqb, or_left, or_right}
-use Rattle.std.proofs.lemmas.List.Sums.{sum_by-append, sum_by-cons}
-use Rattle.lucid_core.specs.Numbers.{is_in, are_in}
+use Rattle.std.proofs.lemmas.Bool.{and_from, cases_lt, eq-eqb, le-leb}
+use Rattle.lucid_core.specs.Numbers.{are_in}
 use Rattle.lucid_core.specs.Uses.{Uses, Inlining, all_keep_to_themselves, assigning, inlining, keeps_to_itself, named, times_in}
+use Rattle.lucid_core_laws.proofs.Times.{is_in-from, times-append, times-cons, times-none, times-one}
 use Rattle.lucid_core_laws.specs.InlinedNodes.{AllKeepToThemselves, InlinedNodes, Outside, Owns, count_of, joined, nothing_named}
-
-times-append : (xs ys : List ℕ) (x : ℕ) → times_in (xs ++ ys) x ≡ times_in xs x + times_in ys x
-times-append xs ys x = sum_by-append _ xs ys
-
-times-cons : (y : ℕ) (ys : List ℕ) (x : ℕ) → times_in (y ∷ ys) x ≡ cond (nat_eq x y) 1 0 + times_in ys x
-times-cons y ys x = sum_by-cons _ y ys
-
-times-none : (y : ℕ) (ys : List ℕ) (x : ℕ) → (x ≡ y → ⊥) → times_in (y ∷ ys) x ≡ times_in ys x
-times-none y ys x ne = times-cons y ys x ∙ ap (λ (b : Bool). cond b 1 0 + times_in ys x) (ne_eqb x y ne) ∙ (let z : 0 + times_in ys x ≡ times_in ys x = omega arith in z)
-
-times-one : (y : ℕ) (ys : List ℕ) (x : ℕ) → x ≡ y → times_in (y ∷ ys) x ≡ 1 + times_in ys x
-times-one y ys x e = times-cons y ys x ∙ ap (λ (b : Bool). cond b 1 0 + times_in ys x) (eq-eqb x y e)
-
--- A number that occurs at least once is in the list.
-is_in-from : (xs : List ℕ) (x : ℕ) → 0 < times_in xs x → is_in xs x ≡ true
-is_in-from [] x h = absurd (omega arith)
-is_in-from (y ∷ ys) x h = either (cases_Bool (nat_eq x y)) (is_in-from ys x)
-  where
-    either : (nat_eq x y ≡ true) ⊎ (nat_eq x y ≡ false) → (0 < times_in ys x → is_in ys x ≡ true) → is_in (y ∷ ys) x ≡ true
-    either (inl e) rest = or_left _ _ e
-    either (inr e) rest = or_right _ _ (rest (let n = times-none y ys x (eqb-false x y e) in omega arith))
 
 -- Every number in `names` that occurs there is in `known`.
 are_in-from : (known xs : List ℕ) → ((x : ℕ) → 0 < times_in xs x → 0 < times_in known x) → are_in known xs ≡ true
@@ -35,12 +14,12 @@ are_in-from known (y ∷ ys) h = and_from _ _
     (is_in-from known y (h y (let e = times-one y ys y refl in omega arith)))
     (are_in-from known ys (λ x k. h x (let e = times-cons y ys x in omega arith)))
 
-keep_both : (lo hi : ℕ) (count : ℕ → ℕ) (is js : List Inlining) → AllKeepToThemselves lo hi count is → AllKeepToThemselves lo hi count js → AllKeepToThemselves lo hi count (is ++ js)
+pub keep_both : (lo hi : ℕ) (count : ℕ → ℕ) (is js : List Inlining) → AllKeepToThemselves lo hi count is → AllKeepToThemselves lo hi count js → AllKeepToThemselves lo hi count (is ++ js)
 keep_both lo hi count [] js h k = k
 keep_both lo hi count (i ∷ is) js h k = (h.0, keep_both lo hi count is js h.1 k)
 
 -- In a wider range, if the counts there are the same.
-keep_wider : (lo hi lo2 hi2 : ℕ) (count count2 : ℕ → ℕ) (is : List Inlining) → lo2 ≤ lo → hi ≤ hi2 → ((a : ℕ) → lo ≤ a → a < hi → count2 a ≡ count a) → AllKeepToThemselves lo hi count is → AllKeepToThemselves lo2 hi2 count2 is
+pub keep_wider : (lo hi lo2 hi2 : ℕ) (count count2 : ℕ → ℕ) (is : List Inlining) → lo2 ≤ lo → hi ≤ hi2 → ((a : ℕ) → lo ≤ a → a < hi → count2 a ≡ count a) → AllKeepToThemselves lo hi count is → AllKeepToThemselves lo2 hi2 count2 is
 keep_wider lo hi lo2 hi2 count count2 [] l h e k = tt
 keep_wider lo hi lo2 hi2 count count2 (i ∷ is) l h e k = (
   record {
@@ -54,7 +33,7 @@ keep_wider lo hi lo2 hi2 count count2 (i ∷ is) l h e k = (
 owns_nothing : (b n lo : ℕ) → Owns b n lo lo nothing_named
 owns_nothing b n lo = record { rises = omega arith; reads = λ x o. refl; assigns = λ x o. refl; covers = λ x l h. absurd (omega arith); kept = tt }
 
-count_joined : (u v : Uses) (x : ℕ) → count_of (joined u v) x ≡ count_of u x + count_of v x
+pub count_joined : (u v : Uses) (x : ℕ) → count_of (joined u v) x ≡ count_of u x + count_of v x
 count_joined u v x =
     let e1 = times-append (u.reads ++ v.reads) (u.assigns ++ v.assigns) x in
     let e2 = times-append u.reads v.reads x in

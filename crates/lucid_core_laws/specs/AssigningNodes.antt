@@ -4,12 +4,12 @@ use Rattle.lucid_core.specs.declared.body.Expr.{Expr}
 use Rattle.lucid_core.specs.declared.body.Stmt.{Stmt}
 use Rattle.lucid_core.specs.declared.body.Expr.TheOpen.{Stmt-F}
 use Rattle.lucid_core.specs.declared.body.Expr.TheViews.{roll-Stmt}
-use Rattle.lucid_core.specs.Numbers.{is_in}
+use Rattle.lucid_base.specs.Numbers.{is_in}
 use Rattle.lucid_core.specs.Uses.{body_uses}
 
 -- Some statement of the block assigns the local.
 abbrev pub Assigns : ℕ → List Stmt → Type 0
-Assigns i ss = is_in (body_uses ss).assigns i ≡ true
+Assigns i ss = is_in i (body_uses ss).assigns ≡ true
 
 pub record AssigningNodes : Type 0 where
   pub assign : (i : ℕ) (c : Expr) (xs : List Stmt) → Assigns i (roll-Stmt (Stmt-F.Assign i c) ∷ xs)

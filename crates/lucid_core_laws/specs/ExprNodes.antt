@@ -12,7 +12,7 @@ use Rattle.lucid_core.specs.declared.body.Touch.{Touch}
 use Rattle.lucid_core.specs.declared.body.Expr.TheOpen.{Expr-F, Touch-F}
 use Rattle.lucid_core.specs.declared.body.Expr.TheViews.{roll-Expr, roll-Touch}
 use Rattle.lucid_core.specs.declared.defs.FunDef.{FunDef}
-use Rattle.lucid_core.specs.Numbers.{is_in}
+use Rattle.lucid_base.specs.Numbers.{is_in}
 use Rattle.lucid_core.specs.Typing.{Answer, all_typed, cell_width}
 use Rattle.lucid_core.specs.declared.ending.Ending.{Ending}
 use Rattle.lucid_core.specs.Endings.{on_every_path}
@@ -27,7 +27,7 @@ KeepsGiven p _ _ = ⊥
 
 pub record ExprNodes : Type 0 where
   pub fixed : (p : Place) (n : Bits) → KeepsExpr p (Some n.width) (roll-Expr (Expr-F.Fixed n))
-  pub local : (p : Place) (i w : ℕ) → slice_get p.scope.locals i ≡ Some w → is_in p.known i ≡ true → KeepsExpr p (Some w) (roll-Expr (Expr-F.Local i))
+  pub local : (p : Place) (i w : ℕ) → slice_get p.scope.locals i ≡ Some w → is_in i p.known ≡ true → KeepsExpr p (Some w) (roll-Expr (Expr-F.Local i))
   pub now : (p : Place) → KeepsExpr p (Some 32) (roll-Expr Expr-F.Now)
   pub me : (p : Place) → KeepsExpr p (Some 32) (roll-Expr Expr-F.Me)
   pub un : (p : Place) (w : ℕ) (op : UnOp) (c : Expr) → KeepsExpr p (Some w) c → KeepsExpr p (Some w) (roll-Expr (Expr-F.Un op c))

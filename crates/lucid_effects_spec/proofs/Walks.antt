@@ -6,7 +6,8 @@ use Rattle.lucid_core.specs.declared.body.Stmt.{Stmt}
 use Rattle.lucid_core.specs.declared.body.Touch.{Touch}
 use Rattle.lucid_core.specs.declared.body.Expr.TheOpen.{Expr-F, Stmt-F, Touch-F}
 use Rattle.lucid_core.specs.declared.body.Expr.TheViews.{roll-Expr, roll-Stmt, roll-Touch}
-use Rattle.lucid_core.specs.declared.body.Expr.TheFolds.{fold-roll-Expr, fold-roll-Stmt, fold-roll-Touch, ind-Expr, ind-Stmt, map-Expr, map-Stmt, map-Touch}
+use Rattle.lucid_core.specs.declared.body.Expr.TheFolds.{fold-roll-Expr, fold-roll-Stmt, fold-roll-Touch, map-Expr, map-Stmt, map-Touch}
+use Rattle.lucid_core.proofs.Induction.{Cases, expr_by, stmt_by}
 use Rattle.lucid_effects_spec.specs.Evaluation.{Walk, both, body_walk, expr_step, expr_walk, optional, sequence, stmt_parts, stmt_step, stmt_walk, touch_step, touch_walk}
 
 module _ {A B : Type 0} (w : Walk A) (v : Walk B) (R : A → B → Type 0) (nothing : R w.nothing v.nothing)
@@ -142,17 +143,14 @@ module _ {A B : Type 0} (w : Walk A) (v : Walk B) (R : A → B → Type 0) (noth
   of_touch : (y : Touch-F E S T) → R (touch_walk w (roll-Touch (touch_tree y))) (touch_walk v (roll-Touch (touch_tree y)))
   of_touch y = along _ _ _ _ (fold-roll-Touch A A A (expr_step w) (stmt_step w) (touch_step w) (touch_tree y)) (fold-roll-Touch B B B (expr_step v) (stmt_step v) (touch_step v) (touch_tree y)) (touch_level y)
 
+  by_nodes : Cases (λ e. R (expr_walk w e) (expr_walk v e)) (λ e. R (stmt_walk w e) (stmt_walk v e)) (λ e. R (touch_walk w e) (touch_walk v e))
+  by_nodes = record { expr = of_expr; stmt = of_stmt; touch = of_touch }
+
   pub expr_relates : (e : Expr) → R (expr_walk w e) (expr_walk v e)
-  expr_relates = ind-Expr (λ e. R (expr_walk w e) (expr_walk v e)) (λ e. R (stmt_walk w e) (stmt_walk v e)) (λ e. R (touch_walk w e) (touch_walk v e))
-      (λ e y is. subst (λ z. R (expr_walk w (roll-Expr z)) (expr_walk v (roll-Expr z))) is (of_expr y))
-      (λ e y is. subst (λ z. R (stmt_walk w (roll-Stmt z)) (stmt_walk v (roll-Stmt z))) is (of_stmt y))
-      (λ e y is. subst (λ z. R (touch_walk w (roll-Touch z)) (touch_walk v (roll-Touch z))) is (of_touch y))
+  expr_relates = expr_by by_nodes
 
   pub stmt_relates : (e : Stmt) → R (stmt_walk w e) (stmt_walk v e)
-  stmt_relates = ind-Stmt (λ e. R (expr_walk w e) (expr_walk v e)) (λ e. R (stmt_walk w e) (stmt_walk v e)) (λ e. R (touch_walk w e) (touch_walk v e))
-      (λ e y is. subst (λ z. R (expr_walk w (roll-Expr z)) (expr_walk v (roll-Expr z))) is (of_expr y))
-      (λ e y is. subst (λ z. R (stmt_walk w (roll-Stmt z)) (stmt_walk v (roll-Stmt z))) is (of_stmt y))
-      (λ e y is. subst (λ z. R (touch_walk w (roll-Touch z)) (touch_walk v (roll-Touch z))) is (of_touch y))
+  stmt_relates = stmt_by by_nodes
 
   pub bodies_relate : (ss : List Stmt) → R (body_walk w ss) (body_walk v ss)
   bodies_relate [] = nothing

@@ -1,23 +1,25 @@
 -- The findings for the parts of a core are the length of its normal form and the size of its flat form, both capped.
-use Rattle.std.proofs.Common.{◌≡◌, ◌⊎◌, inl, inr, ℕ, ◌+◌, ◌*◌, ◌-◌, ◌^◌, ◌<◌, length-append, min, List, [], ◌∷◌, ◌++◌, Bool, true, false, if◌then◌else◌, ◌&&◌, ◌||◌, Option, None, Some, fold, is_some, length, map, option_to_list, refl, sym, ap, ap₂, subst, ◌∙◌, arith, nat_eq, slice_index, slice_index_or, slice_set}
+use Rattle.std.proofs.Common.{◌≡◌, ◌⊎◌, inl, inr, ℕ, ◌+◌, ◌*◌, ◌-◌, ◌^◌, ◌<◌, length-append, min, List, [], ◌∷◌, ◌++◌, Bool, true, false, if◌then◌else◌, ◌&&◌, ◌||◌, Option, None, Some, fold, is_some, length, map, option_to_list, refl, sym, ap, ap₂, ◌∙◌, arith, nat_eq, slice_index, slice_index_or, slice_set}
 use Rattle.std.specs.Prelude.{option_map}
 use Rattle.std.proofs.lemmas.Bool.{and_parts, cases_eq, eq-eqb, ne_eqb}
 use Rattle.std.proofs.lemmas.Grind.{get_or-set_at}
 use Rattle.std.proofs.lemmas.List.{get_or-set_other, length-map, length-set}
-use Rattle.std.proofs.lemmas.List.Folds.{list_any-append}
+use Rattle.lucid_base.proofs.NumbersLemmas.{is_in_append, nat_eq_swap}
 use Rattle.lucid_core.specs.declared.body.Expr.{Expr}
 use Rattle.lucid_core.specs.declared.body.Stmt.{Stmt}
 use Rattle.lucid_core.specs.declared.body.Touch.{Touch}
 use Rattle.lucid_core.specs.declared.body.Expr.TheOpen.{Expr-F, Stmt-F, Touch-F}
 use Rattle.lucid_core.specs.declared.body.Expr.TheViews.{roll-Expr, roll-Stmt, roll-Touch}
-use Rattle.lucid_core.specs.declared.body.Expr.TheFolds.{fold-roll-Expr, fold-roll-Stmt, fold-roll-Touch, ind-Stmt, map-Expr, map-Stmt, map-Touch}
+use Rattle.lucid_core.specs.declared.body.Expr.TheFolds.{fold-roll-Expr, fold-roll-Stmt, fold-roll-Touch, map-Expr, map-Stmt, map-Touch}
 use Rattle.lucid_core.specs.Length as l
 use Rattle.lucid_core.specs.Length.{Around, Measure, Piece, any_changes, expr_measure, stmt_piece, total_ops, touch_measure, with_held}
-use Rattle.lucid_core.specs.Numbers.{all_hold, is_in}
+use Rattle.lucid_base.specs.Numbers.{is_in}
+use Rattle.lucid_core.specs.Numbers.{all_hold}
 use Rattle.lucid_core.specs.OutCount.{Count, total as sum}
 use Rattle.lucid_core.specs.Syntax as c
 use Rattle.lucid_core.specs.Syntax.{is_core_expr, is_core_stmt, is_core_touch}
 use Rattle.lucid_core.proofs.Fine.{both_pass}
+use Rattle.lucid_core.proofs.Induction.{Cases, body_by, opened4}
 use Rattle.lucid_inline_spec.proofs.Kept.{or_false}
 use Rattle.lucid_inline_spec.proofs.Outs.{total-append}
 use Rattle.lucid_inline_spec.specs.Counts as z
@@ -52,7 +54,7 @@ sets_it (Some i) k = nat_eq k i
 
 pub record Tallies (x : Tally) (m : Piece) (size : Count) : Type 0 where
   pub counts : (r : Round) (a : Around) (sizes : List ℕ) → Alike r a sizes → x.counts r ≡ both (m.ops a) (size sizes)
-  pub names : (i : ℕ) → is_in x.names i ≡ m.changes i
+  pub names : (i : ℕ) → is_in i x.names ≡ m.changes i
   pub sets : (i : ℕ) → m.sets i ≡ sets_it x.sets i
   pub returns : x.returns ≡ m.returns
   pub value : x.value ≡ m.value
@@ -238,11 +240,11 @@ blocks (y ∷ es) core x m n e r a sizes alike =
 block_is : (es : List S) → all_hold (map is_core_stmt (stmts es)) ≡ true → (r : Round) (a : Around) (sizes : List ℕ) → Alike r a sizes → t.block_counts (map stmt_tally (stmts es)) r ≡ both (block_ops_of es a) (block_size_of es sizes)
 block_is es core r a sizes alike = same _ _ _ _ (blocks es core (counted 0 0) 0 0 none r a sizes alike) (omega arith) (omega arith)
 
-names_are : (es : List S) → all_hold (map is_core_stmt (stmts es)) ≡ true → (i : ℕ) → is_in (names_of (map stmt_tally (stmts es))) i ≡ any_changes (map stmt_piece (stmts es)) i
+names_are : (es : List S) → all_hold (map is_core_stmt (stmts es)) ≡ true → (i : ℕ) → is_in i (names_of (map stmt_tally (stmts es))) ≡ any_changes (map stmt_piece (stmts es)) i
 names_are [] core i = refl
 names_are (x ∷ es) core i =
     let parts = and_parts _ _ core in
-    list_any-append (nat_eq i) (stmt_tally x.0).names (names_of (map stmt_tally (stmts es))) ∙ ap₂ (λ (a b : Bool). a || b) ((x.1 parts.0).names i) (names_are es parts.1 i)
+    is_in_append i (stmt_tally x.0).names (names_of (map stmt_tally (stmts es))) ∙ ap₂ (λ (a b : Bool). a || b) ((x.1 parts.0).names i) (names_are es parts.1 i)
 
 returns_are : (es : List S) → all_hold (map is_core_stmt (stmts es)) ≡ true → t.any_returns (map stmt_tally (stmts es)) ≡ l.any_returns (map stmt_piece (stmts es))
 returns_are [] core = refl
@@ -261,7 +263,7 @@ joins_are es gs core core2 r a sizes alike =
     let changes : (i : ℕ) → Bool = λ i. any_changes (map stmt_piece (stmts es)) i || any_changes (map stmt_piece (stmts gs)) i in
     let held : joined r.held names ≡ l.count_below a.locals (λ i. a.held i && changes i) =
     count_alike (length r.held) _ (λ i. a.held i && changes i) (λ i below. ap₂ (λ (x y : Bool). x && y) (alike.held i below)
-    (list_any-append (nat_eq i) (names_of (map stmt_tally (stmts es))) (names_of (map stmt_tally (stmts gs))) ∙ ap₂ (λ (x y : Bool). x || y) (names_are es core i) (names_are gs core2 i)))
+    (is_in_append i (names_of (map stmt_tally (stmts es))) (names_of (map stmt_tally (stmts gs))) ∙ ap₂ (λ (x y : Bool). x || y) (names_are es core i) (names_are gs core2 i)))
     ∙ ap (λ (n : ℕ). l.count_below n (λ i. a.held i && changes i)) (sym alike.locals) in
     ap₂ counted (
     ap₂ (λ (x y : Bool). t.joins x y r.held names) (ap₂ (λ (x y : Bool). x || y) (returns_are es core) (returns_are gs core2)) (ap₂ (λ (x y : Bool). x && y) (value_is es core) (value_is gs core2))
@@ -335,7 +337,7 @@ if_level e es gs core =
           same _ _ _ _ (behind _ _ _ _ branches (joins_are es gs parts.0 parts.1 r a sizes alike))
           (ap (λ (b : Bool). (expr_measure e.0).ops a + (if b then 1 else 0) + block_ops_of es a + block_ops_of gs a + l.joins (map stmt_piece (stmts es)) (map stmt_piece (stmts gs)) a) own.needs_move)
           (omega (arith, s));
-      names = λ i. list_any-append (nat_eq i) (names_of (map stmt_tally (stmts es))) (names_of (map stmt_tally (stmts gs))) ∙ ap₂ (λ (x y : Bool). x || y) (names_are es parts.0 i) (names_are gs parts.1 i);
+      names = λ i. is_in_append i (names_of (map stmt_tally (stmts es))) (names_of (map stmt_tally (stmts gs))) ∙ ap₂ (λ (x y : Bool). x || y) (names_are es parts.0 i) (names_are gs parts.1 i);
       sets = λ i. refl;
       returns = ap₂ (λ (x y : Bool). x || y) (returns_are es parts.0) (returns_are gs parts.1);
       value = ap₂ (λ (x y : Bool). x && y) (value_is es parts.0) (value_is gs parts.1);
@@ -344,7 +346,7 @@ if_level e es gs core =
 stmt_level : (y : Stmt-F E S T) → StmtLevel (stmt_tree y)
 stmt_level (Stmt-F.Assign i e) core = record {
   counts = λ r a sizes alike. same _ _ _ _ (more _ _ 1 1 ((e.1 (and_parts _ _ core).0).counts r.funs a sizes alike.funs)) refl (omega arith);
-  names = λ k. sym (or_false (nat_eq k i));
+  names = λ k. sym (or_false (nat_eq i k)) ∙ nat_eq_swap i k;
   sets = λ k. refl;
   returns = refl;
   value = refl;
@@ -367,9 +369,6 @@ stmt_level (Stmt-F.Return (Some e)) core = record {
   value = refl;
 }
 
-opened : {A B C D : Type 0} (Q : A → B → C → D → Type 0) {a x : A} {b y : B} {d w : C} {e v : D} → a ≡ x → b ≡ y → d ≡ w → e ≡ v → Q x y w v → Q a b d e
-opened Q {a} {x} {b} {y} {d} {w} {e} {v} f g h i is = subst (λ u. Q u b d e) (sym f) (subst (λ u. Q x u d e) (sym g) (subst (λ u. Q x y u e) (sym h) (subst (λ u. Q x y w u) (sym i) is)))
-
 abbrev OfExpr : Expr → Type 0
 OfExpr e = ExprAgrees (expr_found e) (expr_measure e) (expr_size e) (is_core_expr e)
 
@@ -380,34 +379,23 @@ abbrev OfTouch : Touch → Type 0
 OfTouch u = ExprAgrees (touch_found u) (touch_measure u) (touch_size u) (is_core_touch u)
 
 of_expr : (y : Expr-F E S T) → OfExpr (roll-Expr (expr_tree y))
-of_expr y = opened ExprAgrees (fold-roll-Expr ExprTally Tally ExprTally t.expr_step t.stmt_step t.touch_step (expr_tree y)) (fold-roll-Expr Measure Piece Measure l.expr_step l.stmt_step l.touch_step (expr_tree y))
+of_expr y = opened4 ExprAgrees (fold-roll-Expr ExprTally Tally ExprTally t.expr_step t.stmt_step t.touch_step (expr_tree y)) (fold-roll-Expr Measure Piece Measure l.expr_step l.stmt_step l.touch_step (expr_tree y))
     (fold-roll-Expr Count Count Count z.expr_step z.stmt_step z.touch_step (expr_tree y)) (fold-roll-Expr Bool Bool Bool c.not_inlined c.any_stmt c.touch_step (expr_tree y)) (expr_level y)
 
 of_stmt : (y : Stmt-F E S T) → OfStmt (roll-Stmt (stmt_tree y))
-of_stmt y = opened StmtAgrees (fold-roll-Stmt ExprTally Tally ExprTally t.expr_step t.stmt_step t.touch_step (stmt_tree y)) (fold-roll-Stmt Measure Piece Measure l.expr_step l.stmt_step l.touch_step (stmt_tree y))
+of_stmt y = opened4 StmtAgrees (fold-roll-Stmt ExprTally Tally ExprTally t.expr_step t.stmt_step t.touch_step (stmt_tree y)) (fold-roll-Stmt Measure Piece Measure l.expr_step l.stmt_step l.touch_step (stmt_tree y))
     (fold-roll-Stmt Count Count Count z.expr_step z.stmt_step z.touch_step (stmt_tree y)) (fold-roll-Stmt Bool Bool Bool c.not_inlined c.any_stmt c.touch_step (stmt_tree y)) (stmt_level y)
 
 of_touch : (y : Touch-F E S T) → OfTouch (roll-Touch (touch_tree y))
-of_touch y = opened ExprAgrees (fold-roll-Touch ExprTally Tally ExprTally t.expr_step t.stmt_step t.touch_step (touch_tree y)) (fold-roll-Touch Measure Piece Measure l.expr_step l.stmt_step l.touch_step (touch_tree y))
+of_touch y = opened4 ExprAgrees (fold-roll-Touch ExprTally Tally ExprTally t.expr_step t.stmt_step t.touch_step (touch_tree y)) (fold-roll-Touch Measure Piece Measure l.expr_step l.stmt_step l.touch_step (touch_tree y))
     (fold-roll-Touch Count Count Count z.expr_step z.stmt_step z.touch_step (touch_tree y)) (fold-roll-Touch Bool Bool Bool c.not_inlined c.any_stmt c.touch_step (touch_tree y)) (touch_level y)
 
-stmt_agrees : (s : Stmt) → OfStmt s
-stmt_agrees = ind-Stmt OfExpr OfStmt OfTouch
-    (λ e y is. subst (λ v. OfExpr (roll-Expr v)) is (of_expr y))
-    (λ e y is. subst (λ v. OfStmt (roll-Stmt v)) is (of_stmt y))
-    (λ e y is. subst (λ v. OfTouch (roll-Touch v)) is (of_touch y))
-
-proved : List Stmt → List S
-proved ss = map (λ (e : Stmt). (e, stmt_agrees e)) ss
-
-stmts-proved : (ss : List Stmt) → stmts (proved ss) ≡ ss
-unfolding proved
-stmts-proved [] = refl
-stmts-proved (e ∷ es) = ap (λ (q : List Stmt). e ∷ q) (stmts-proved es)
+by_nodes : Cases OfExpr OfStmt OfTouch
+by_nodes = record { expr = of_expr; stmt = of_stmt; touch = of_touch }
 
 abbrev BlockAgrees : List Stmt → Type 0
 BlockAgrees ss = all_hold (map is_core_stmt ss) ≡ true → (r : Round) (a : Around) (sizes : List ℕ) → Alike r a sizes →
     t.block_counts (map stmt_tally ss) r ≡ both (l.block_ops (map stmt_piece ss) a) (sum (map stmt_size ss) sizes)
 
 pub block_agrees : (ss : List Stmt) → BlockAgrees ss
-block_agrees ss = subst BlockAgrees (stmts-proved ss) (block_is (proved ss))
+block_agrees = body_by BlockAgrees by_nodes block_is

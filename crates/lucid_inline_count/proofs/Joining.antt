@@ -4,7 +4,7 @@ use Rattle.std.proofs.lemmas.Bool.{cases_eq, eq-eqb, ne_eqb}
 use Rattle.std.proofs.lemmas.Grind.{get_or-set_at}
 use Rattle.std.proofs.lemmas.List.{get_or-set_other, length-set}
 use Rattle.lucid_core.specs.Length.{count_below}
-use Rattle.lucid_core.specs.Numbers.{is_in}
+use Rattle.lucid_base.specs.Numbers.{is_in}
 use Rattle.lucid_inline_count.specs.Found.{joined}
 
 pub count_alike : (n : ℕ) (f g : ℕ → Bool) → ((k : ℕ) → k < n → f k ≡ g k) → count_below n f ≡ count_below n g
@@ -49,16 +49,16 @@ pub joined_more : (held : List Bool) (x : ℕ) (names : List ℕ) → slice_inde
 joined_more held x names e =
     let l = there held x e in
     let long = length-set held x false in
-    count_one (length held) x (λ i. slice_index_or held i false && is_in (x ∷ names) i) (λ i. slice_index_or (slice_set held x false) i false && is_in names i) l
-    (ap₂ (λ (a b : Bool). a && (b || is_in names x)) e (eq-eqb x x refl)) (ap (λ (b : Bool). b && is_in names x) (get_or-set_at held x x false false refl l))
-    (λ k m ne. ap₂ (λ (a b : Bool). a && b) (sym (get_or-set_other held x k false false ne)) (ap (λ (b : Bool). b || is_in names k) (ne_eqb k x ne)))
-    ∙ ap (λ (n : ℕ). 1 + count_below n (λ i. slice_index_or (slice_set held x false) i false && is_in names i)) (sym long)
+    count_one (length held) x (λ i. slice_index_or held i false && is_in i (x ∷ names)) (λ i. slice_index_or (slice_set held x false) i false && is_in i names) l
+    (ap₂ (λ (a b : Bool). a && (b || is_in x names)) e (eq-eqb x x refl)) (ap (λ (b : Bool). b && is_in x names) (get_or-set_at held x x false false refl l))
+    (λ k m ne. ap₂ (λ (a b : Bool). a && b) (sym (get_or-set_other held x k false false ne)) (ap (λ (b : Bool). b || is_in k names) (ne_eqb x k (λ q. ne (sym q)))))
+    ∙ ap (λ (n : ℕ). 1 + count_below n (λ i. slice_index_or (slice_set held x false) i false && is_in i names)) (sym long)
 
 pub joined_less : (held : List Bool) (x : ℕ) (names : List ℕ) → slice_index_or held x false ≡ false → joined held (x ∷ names) ≡ joined held names
-joined_less held x names e = count_alike (length held) (λ i. slice_index_or held i false && is_in (x ∷ names) i) (λ i. slice_index_or held i false && is_in names i) (λ k l. here k (cases_eq k x))
+joined_less held x names e = count_alike (length held) (λ i. slice_index_or held i false && is_in i (x ∷ names)) (λ i. slice_index_or held i false && is_in i names) (λ k l. here k (cases_eq k x))
   where
-    here : (k : ℕ) → (k ≡ x) ⊎ (k ≡ x → ⊥) → (slice_index_or held k false && is_in (x ∷ names) k) ≡ (slice_index_or held k false && is_in names k)
+    here : (k : ℕ) → (k ≡ x) ⊎ (k ≡ x → ⊥) → (slice_index_or held k false && is_in k (x ∷ names)) ≡ (slice_index_or held k false && is_in k names)
     here k (inl q) =
         let gone : slice_index_or held k false ≡ false = ap (λ (j : ℕ). slice_index_or held j false) q ∙ e in
-        ap (λ (b : Bool). b && is_in (x ∷ names) k) gone ∙ sym (ap (λ (b : Bool). b && is_in names k) gone)
-    here k (inr q) = ap (λ (b : Bool). slice_index_or held k false && (b || is_in names k)) (ne_eqb k x q)
+        ap (λ (b : Bool). b && is_in k (x ∷ names)) gone ∙ sym (ap (λ (b : Bool). b && is_in k names) gone)
+    here k (inr q) = ap (λ (b : Bool). slice_index_or held k false && (b || is_in k names)) (ne_eqb x k (λ e. q (sym e)))

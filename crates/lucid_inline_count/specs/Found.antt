@@ -10,7 +10,7 @@ use Rattle.lucid_core.specs.declared.body.Touch.{Touch}
 use Rattle.lucid_core.specs.declared.body.Expr.TheOpen.{Expr-F, Stmt-F, Touch-F}
 use Rattle.lucid_core.specs.declared.body.Expr.TheFolds.{fold-Expr, fold-Stmt, fold-Touch}
 use Rattle.lucid_core.specs.Length.{count_below}
-use Rattle.lucid_core.specs.Numbers.{is_in}
+use Rattle.lucid_base.specs.Numbers.{is_in}
 use Rattle.lucid_inline_count.specs.declared.counts.Counts.{Counts}
 use Rattle.lucid_inline_count.specs.declared.body.Part.{Part}
 use Rattle.lucid_inline_count.specs.Counts.{capped, counted, counts_at, plus}
@@ -79,7 +79,7 @@ block_part ts r = record { counts = block_counts ts r; sets = None; returns = an
 
 -- How many of the locals that are held are named.
 abbrev pub joined : List Bool → List ℕ → ℕ
-joined held names = count_below (length held) (λ i. slice_index_or held i false && is_in names i)
+joined held names = count_below (length held) (λ i. slice_index_or held i false && is_in i names)
 
 -- The moves where two branches join that return, or return a value, and assign these.
 abbrev pub joins : Bool → Bool → List Bool → List ℕ → ℕ

@@ -9,13 +9,14 @@ use Rattle.lucid_core.specs.declared.body.Stmt.{Stmt}
 use Rattle.lucid_core.specs.declared.body.Touch.{Touch}
 use Rattle.lucid_core.specs.declared.body.Expr.TheOpen.{Expr-F, Stmt-F, Touch-F}
 use Rattle.lucid_core.specs.declared.body.Expr.TheViews.{roll-Expr, roll-Stmt, roll-Touch}
-use Rattle.lucid_core.specs.declared.body.Expr.TheFolds.{fold-roll-Expr, fold-roll-Stmt, fold-roll-Touch, ind-Stmt, map-Expr, map-Stmt, map-Touch}
+use Rattle.lucid_core.specs.declared.body.Expr.TheFolds.{fold-roll-Expr, fold-roll-Stmt, fold-roll-Touch, map-Expr, map-Stmt, map-Touch}
 use Rattle.lucid_core.specs.declared.defs.EventDef.{EventDef}
 use Rattle.lucid_core.specs.declared.defs.FunDef.{FunDef}
 use Rattle.lucid_core.specs.declared.defs.HandlerDef.{HandlerDef}
 use Rattle.lucid_core.specs.Computations.{array_of}
 use Rattle.lucid_core.specs.Events.{event_params, events_and_handlers_agree}
-use Rattle.lucid_core.specs.Numbers.{are_in, is_in, places}
+use Rattle.lucid_base.specs.Numbers.{is_in}
+use Rattle.lucid_core.specs.Numbers.{are_in, places}
 use Rattle.lucid_core.specs.OutCount.{Count, total}
 use Rattle.lucid_core.specs.Parts.{CoreParts}
 use Rattle.lucid_core.specs.Uses as u
@@ -24,6 +25,7 @@ use Rattle.lucid_core.specs.Valid.{IsValid}
 use Rattle.lucid_core.proofs.Fine.{both_pass}
 use Rattle.lucid_core.proofs.Handlers.{declared}
 use Rattle.lucid_core.proofs.WidthLists.{passes_at}
+use Rattle.lucid_core.proofs.Induction.{Cases, body_by, opened4}
 use Rattle.lucid_inline_spec.specs.Counts as o
 use Rattle.lucid_inline_spec.specs.Counts.{body_size, expr_size, fun_sizes, stmt_size, touch_size}
 use Rattle.lucid_inline_spec.specs.Flat as f
@@ -35,7 +37,8 @@ use Rattle.lucid_inline_spec.proofs.Outs.{total-append}
 use Rattle.lucid_inline_spec.proofs.Owning.{uses_append}
 use Rattle.lucid_inline_spec.proofs.Runs.{funs_fit, puts_from, rooms_from}
 use Rattle.lucid_inline_spec.proofs.Steps.{valid_fits}
-use Rattle.lucid_inline_spec.proofs.Times.{dropped_there, in-times, times-cons}
+use Rattle.lucid_core_laws.proofs.Times.{in-times, times-cons}
+use Rattle.lucid_inline_spec.proofs.Times.{dropped_there}
 
 -- ---- numbers that are all in a list are no more than it has
 
@@ -96,7 +99,7 @@ few_own params locals known h = which (cases_lt (length locals) params)
     which (inr l) =
         let m = length locals - params in
         let least = tally_least m params known (λ i k. let z : 0 + (params + i) ≡ params + i = omega arith in
-        in-times known (params + i) (subst (λ (j : ℕ). is_in known j ≡ true) z (dropped_there params locals 0 known h (params + i) (omega arith) (omega arith)))) in
+        in-times known (params + i) (subst (λ (j : ℕ). is_in j known ≡ true) z (dropped_there params locals 0 known h (params + i) (omega arith) (omega arith)))) in
         let most = tally_most m params known in
         omega arith
     which (inl l) = omega arith
@@ -125,7 +128,7 @@ AllFew (c ∷ cs) (put ∷ puts) = ((arrays ws : List ℕ) → length (put array
 AllFew _ _ = ⊥
 
 module _ (p : Site) (counts : List ℕ) (all : AllFew counts p.funs) (n : ℕ) (rooms : List ℕ) where
-  -- Where four folds are opened at a node: each statement assigns one local at most, and each call adds at most 8 that its body doesn't assign.
+  -- Where four folds are opened4 at a node: each statement assigns one local at most, and each call adds at most 8 that its body doesn't assign.
   abbrev Few : {A : Type 0} → Flatten A → Count → Uses → Fit → Type 0
   Few t c uses fit = fit n rooms ≡ true → (ws : List ℕ) → length uses.assigns + length (t p ws).locals ≤ length ws + 8 * c counts
 
@@ -326,43 +329,29 @@ module _ (p : Site) (counts : List ℕ) (all : AllFew counts p.funs) (n : ℕ) (
   stmt_level (Stmt-F.Return None) fit ws = omega arith
   stmt_level (Stmt-F.Return (Some e)) fit ws = let e1 = e.1 (and_parts _ _ fit).0 ws in let e2 = assigned-one (expr_uses e.0) in omega arith
 
-  opened : {A B C D : Type 0} (P : A → B → C → D → Type 0) {a x : A} {b y : B} {c w : C} {d z : D} → a ≡ x → b ≡ y → c ≡ w → d ≡ z → P x y w z → P a b c d
-  opened P {a} {x} {b} {y} {c} {w} {d} {z} e g h i is = subst (λ v. P v b c d) (sym e) (subst (λ v. P x v c d) (sym g) (subst (λ v. P x y v d) (sym h) (subst (λ v. P x y w v) (sym i) is)))
-
   of_expr : (y : Expr-F E S T) → Few (flat_expr (roll-Expr (expr_tree y))) (expr_size (roll-Expr (expr_tree y))) (expr_uses (roll-Expr (expr_tree y))) (expr_fit (roll-Expr (expr_tree y)))
-  of_expr y = let tree = expr_tree y in opened (Few {A = Expr})
+  of_expr y = let tree = expr_tree y in opened4 (Few {A = Expr})
       (fold-roll-Expr (Flatten Expr) (Flatten (List Stmt)) (Flatten Touch) f.expr_step f.stmt_step f.touch_step tree) (fold-roll-Expr Count Count Count o.expr_step o.stmt_step o.touch_step tree)
       (fold-roll-Expr Uses Uses Uses u.expr_step u.stmt_step u.touch_step tree) (fold-roll-Expr Fit Fit Fit r.expr_step r.stmt_step r.touch_step tree) (expr_level y)
 
   of_stmt : (y : Stmt-F E S T) → Few (flat_stmt (roll-Stmt (stmt_tree y))) (stmt_size (roll-Stmt (stmt_tree y))) (stmt_uses (roll-Stmt (stmt_tree y))) (stmt_fit (roll-Stmt (stmt_tree y)))
-  of_stmt y = let tree = stmt_tree y in opened (Few {A = List Stmt})
+  of_stmt y = let tree = stmt_tree y in opened4 (Few {A = List Stmt})
       (fold-roll-Stmt (Flatten Expr) (Flatten (List Stmt)) (Flatten Touch) f.expr_step f.stmt_step f.touch_step tree) (fold-roll-Stmt Count Count Count o.expr_step o.stmt_step o.touch_step tree)
       (fold-roll-Stmt Uses Uses Uses u.expr_step u.stmt_step u.touch_step tree) (fold-roll-Stmt Fit Fit Fit r.expr_step r.stmt_step r.touch_step tree) (stmt_level y)
 
   of_touch : (y : Touch-F E S T) → Few (flat_touch (roll-Touch (touch_tree y))) (touch_size (roll-Touch (touch_tree y))) (touch_uses (roll-Touch (touch_tree y))) (touch_fit (roll-Touch (touch_tree y)))
-  of_touch y = let tree = touch_tree y in opened (Few {A = Touch})
+  of_touch y = let tree = touch_tree y in opened4 (Few {A = Touch})
       (fold-roll-Touch (Flatten Expr) (Flatten (List Stmt)) (Flatten Touch) f.expr_step f.stmt_step f.touch_step tree) (fold-roll-Touch Count Count Count o.expr_step o.stmt_step o.touch_step tree)
       (fold-roll-Touch Uses Uses Uses u.expr_step u.stmt_step u.touch_step tree) (fold-roll-Touch Fit Fit Fit r.expr_step r.stmt_step r.touch_step tree) (touch_level y)
 
-  stmt_few : (e : Stmt) → Few (flat_stmt e) (stmt_size e) (stmt_uses e) (stmt_fit e)
-  stmt_few = ind-Stmt (λ e. Few (flat_expr e) (expr_size e) (expr_uses e) (expr_fit e)) (λ e. Few (flat_stmt e) (stmt_size e) (stmt_uses e) (stmt_fit e)) (λ e. Few (flat_touch e) (touch_size e) (touch_uses e) (touch_fit e))
-      (λ e y is. subst (λ v. Few (flat_expr (roll-Expr v)) (expr_size (roll-Expr v)) (expr_uses (roll-Expr v)) (expr_fit (roll-Expr v))) is (of_expr y))
-      (λ e y is. subst (λ v. Few (flat_stmt (roll-Stmt v)) (stmt_size (roll-Stmt v)) (stmt_uses (roll-Stmt v)) (stmt_fit (roll-Stmt v))) is (of_stmt y))
-      (λ e y is. subst (λ v. Few (flat_touch (roll-Touch v)) (touch_size (roll-Touch v)) (touch_uses (roll-Touch v)) (touch_fit (roll-Touch v))) is (of_touch y))
-
-  proved : List Stmt → List S
-  proved ss = map (λ (e : Stmt). (e, stmt_few e)) ss
-
-  stmts-proved : (ss : List Stmt) → stmts (proved ss) ≡ ss
-  unfolding proved
-  stmts-proved [] = refl
-  stmts-proved (e ∷ es) = ap (λ (q : List Stmt). e ∷ q) (stmts-proved es)
+  by_nodes : Cases (λ e. Few (flat_expr e) (expr_size e) (expr_uses e) (expr_fit e)) (λ e. Few (flat_stmt e) (stmt_size e) (stmt_uses e) (stmt_fit e)) (λ e. Few (flat_touch e) (touch_size e) (touch_uses e) (touch_fit e))
+  by_nodes = record { expr = of_expr; stmt = of_stmt; touch = of_touch }
 
   abbrev BodyFew : List Stmt → Type 0
   BodyFew ss = r.each (map stmt_fit ss) n rooms ≡ true → (ws : List ℕ) → all_assigned (map stmt_uses ss) + length (f.block (map flat_stmt ss) p ws).locals ≤ length ws + 8 * body_size ss counts
 
   body_few : (ss : List Stmt) → BodyFew ss
-  body_few ss = subst BodyFew (stmts-proved ss) (those (proved ss))
+  body_few = body_by BodyFew by_nodes those
 
 one_more : (cs : List ℕ) (ps : List PutIn) (c : ℕ) (put : PutIn) → AllFew cs ps → ((arrays ws : List ℕ) → length (put arrays ws).locals ≤ length ws + 8 + 8 * c) → AllFew (cs ++ c ∷ []) (ps ++ put ∷ [])
 one_more [] [] c put all one = (one, tt)

@@ -5,8 +5,9 @@ use Rattle.lucid_core.specs.declared.body.Stmt.{Stmt}
 use Rattle.lucid_core.specs.declared.body.Touch.{Touch}
 use Rattle.lucid_core.specs.declared.body.Expr.TheOpen.{Expr-F, Stmt-F, Touch-F}
 use Rattle.lucid_core.specs.declared.body.Expr.TheViews.{roll-Expr, roll-Stmt, roll-Touch}
-use Rattle.lucid_core.specs.declared.body.Expr.TheFolds.{fold-roll-Expr, fold-roll-Stmt, fold-roll-Touch, ind-Expr, ind-Stmt, map-Expr, map-Stmt, map-Touch}
+use Rattle.lucid_core.specs.declared.body.Expr.TheFolds.{fold-roll-Expr, fold-roll-Stmt, fold-roll-Touch, map-Expr, map-Stmt, map-Touch}
 use Rattle.lucid_core.specs.Computations.{array_of}
+use Rattle.lucid_core.proofs.Induction.{Cases, expr_by, stmt_by}
 use Rattle.lucid_inline_spec.specs.Flat as f
 use Rattle.lucid_inline_spec.specs.Flat.{Flatten, Flattened, Site, PutIn, done, ◌>>=◌, flat_expr, flat_stmt, flat_touch}
 use Rattle.lucid_inline_spec.proofs.Locals.{Begins, begins_self, begins_then, begins_append}
@@ -153,17 +154,14 @@ rolled_s y = along _ _ (fold-roll-Stmt (Flatten Expr) (Flatten (List Stmt)) (Fla
 rolled_t : (y : Touch-F E S T) → Grows (flat_touch (roll-Touch (tree_t y)))
 rolled_t y = along _ _ (fold-roll-Touch (Flatten Expr) (Flatten (List Stmt)) (Flatten Touch) f.expr_step f.stmt_step f.touch_step (tree_t y)) (touch_level y)
 
+by_nodes : Cases (λ e. Grows (flat_expr e)) (λ e. Grows (flat_stmt e)) (λ e. Grows (flat_touch e))
+by_nodes = record { expr = rolled_e; stmt = rolled_s; touch = rolled_t }
+
 pub expr_grows : (e : Expr) → Grows (flat_expr e)
-expr_grows = ind-Expr (λ e. Grows (flat_expr e)) (λ e. Grows (flat_stmt e)) (λ e. Grows (flat_touch e))
-    (λ e y is. subst (λ z. Grows (flat_expr (roll-Expr z))) is (rolled_e y))
-    (λ e y is. subst (λ z. Grows (flat_stmt (roll-Stmt z))) is (rolled_s y))
-    (λ e y is. subst (λ z. Grows (flat_touch (roll-Touch z))) is (rolled_t y))
+expr_grows = expr_by by_nodes
 
 pub stmt_grows : (e : Stmt) → Grows (flat_stmt e)
-stmt_grows = ind-Stmt (λ e. Grows (flat_expr e)) (λ e. Grows (flat_stmt e)) (λ e. Grows (flat_touch e))
-    (λ e y is. subst (λ z. Grows (flat_expr (roll-Expr z))) is (rolled_e y))
-    (λ e y is. subst (λ z. Grows (flat_stmt (roll-Stmt z))) is (rolled_s y))
-    (λ e y is. subst (λ z. Grows (flat_touch (roll-Touch z))) is (rolled_t y))
+stmt_grows = stmt_by by_nodes
 
 pub exprs_grow : (es : List Expr) → Grows (f.each (map flat_expr es))
 exprs_grow es = each_grows (map flat_expr es) (all es)

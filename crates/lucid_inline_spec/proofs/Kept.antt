@@ -15,7 +15,8 @@ use Rattle.lucid_core.specs.Computations.{array_of}
 use Rattle.lucid_core.specs.Assigned.{Flow, all_read_assigned, block_reads_assigned, expr_flow, stmt_flow, touch_flow}
 use Rattle.lucid_core.specs.Limits.{expr_limits, stmt_limits, touch_limits}
 use Rattle.lucid_core.specs.Names.{expr_names, stmt_names, touch_names}
-use Rattle.lucid_core.specs.Numbers.{all_hold, is_in}
+use Rattle.lucid_base.specs.Numbers.{is_in}
+use Rattle.lucid_core.specs.Numbers.{all_hold}
 use Rattle.lucid_core.specs.Returns.{Returns, block_returns, expr_returns, stmt_returns, touch_returns}
 use Rattle.lucid_core.specs.Scope.{Scope, Test, each}
 use Rattle.lucid_core.specs.Syntax.{is_core_expr, is_core_stmt, is_core_touch}
@@ -29,12 +30,14 @@ use Rattle.lucid_core.specs.Endings.{on_every_path, on_some_path}
 use Rattle.lucid_core.specs.Few.{expr_few, stmt_few, touch_few}
 use Rattle.lucid_core_laws.specs.Keeps.{KeepsAll, KeepsBlock, KeepsExpr, KeepsStmt, KeepsTouch}
 use Rattle.lucid_core_laws.specs.Place.{Place}
+use Rattle.lucid_core.proofs.Fine.{both_pass}
 use Rattle.lucid_core_laws.proofs.Statements.{stmt_nodes}
 use Rattle.lucid_inline_spec.specs.Flat as f
 use Rattle.lucid_inline_spec.specs.Flat.{Flatten, Flattened, PutIn, Site, flat_expr, flat_stmt, flat_touch}
 use Rattle.lucid_inline_spec.proofs.Grows.{AllGrow, expr_grows, exprs_grow, stmt_grows, stmts_grow}
 use Rattle.lucid_inline_spec.proofs.Locals.{Begins, begins_then}
-use Rattle.lucid_inline_spec.proofs.Numbered.{in_either, in_first, in_second, slice_begins}
+use Rattle.lucid_base.proofs.NumbersLemmas.{in_either, in_first, in_second}
+use Rattle.lucid_inline_spec.proofs.Numbered.{slice_begins}
 
 -- ---- endings
 
@@ -56,11 +59,6 @@ pub not_some : (b : Bool) → (not b || false) ≡ true → b ≡ false
 not_some true h = absurd (cc)
 not_some false h = refl
 
--- ---- tests of two lists
-
-pub both_tests : {A : Type 0} (test : A → Bool) (xs ys : List A) → list_all test (xs ++ ys) ≡ true → (list_all test xs ≡ true) × (list_all test ys ≡ true)
-both_tests test xs ys h = and_parts _ _ (sym (list_all-append test xs ys) ∙ h)
-
 pub few_append : (xs ys : List Stmt) → all_hold (map stmt_few xs) ≡ true → all_hold (map stmt_few ys) ≡ true → all_hold (map stmt_few (xs ++ ys)) ≡ true
 few_append xs ys h k = ap all_hold (map-append stmt_few xs ys) ∙ list_all-append (λ b. b) (map stmt_few xs) (map stmt_few ys) ∙ and_from _ _ h k
 
@@ -78,7 +76,7 @@ module _ (A : List ℕ) (Ev Fo : List (List ℕ)) where
   pub record PutKeeps (d : FunDef) (put : PutIn) : Type 0 where
     pub params : d.params ≤ length d.locals
     pub begins : (arrays ws : List ℕ) → Begins (ws ++ d.locals) (put arrays ws).locals
-    pub body : (arrays ws : List ℕ) → Stand d.arrays arrays → (W : List ℕ) → Begins (put arrays ws).locals W → (K : List ℕ) → ((i : ℕ) → i < d.params → is_in K (length ws + i) ≡ true) →
+    pub body : (arrays ws : List ℕ) → Stand d.arrays arrays → (W : List ℕ) → Begins (put arrays ws).locals W → (K : List ℕ) → ((i : ℕ) → i < d.params → is_in (length ws + i) K ≡ true) →
         (r : Ending) × (is_some d.answer ≡ true → on_every_path r ≡ true) × KeepsBlock (flat_place W K) d.answer r (put arrays ws).value
     pub few : (arrays ws : List ℕ) → Stand d.arrays arrays → all_hold (map stmt_few (put arrays ws).value) ≡ true
 
@@ -103,12 +101,12 @@ module _ (A : List ℕ) (Ev Fo : List (List ℕ)) where
 
     -- The locals assigned in the body are assigned here.
     abbrev pub Knows : List ℕ → List ℕ → Type 0
-    Knows known K = (i : ℕ) → is_in known i ≡ true → is_in K (p.first + i) ≡ true
+    Knows known K = (i : ℕ) → is_in i known ≡ true → is_in (p.first + i) K ≡ true
 
-    pub knows_both : (known K xs ys : List ℕ) → Knows known K → ((i : ℕ) → is_in xs i ≡ true → is_in ys (p.first + i) ≡ true) → Knows (known ++ xs) (K ++ ys)
+    pub knows_both : (known K xs ys : List ℕ) → Knows known K → ((i : ℕ) → is_in i xs ≡ true → is_in (p.first + i) ys ≡ true) → Knows (known ++ xs) (K ++ ys)
     knows_both known K xs ys h more i is = of (in_either known xs i is)
       where
-        of : (is_in known i ≡ true) ⊎ (is_in xs i ≡ true) → is_in (K ++ ys) (p.first + i) ≡ true
+        of : (is_in i known ≡ true) ⊎ (is_in i xs ≡ true) → is_in (p.first + i) (K ++ ys) ≡ true
         of (inl e) = in_first K ys (p.first + i) (h i e)
         of (inr e) = in_second K ys (p.first + i) (more i e)
 
@@ -192,7 +190,7 @@ module _ (A : List ℕ) (Ev Fo : List (List ℕ)) where
 
     -- A part that becomes one statement, which assigns these.
     pub alone : (known : List ℕ) (a : Answer) (t : Flatten (List Stmt)) (returns : Returns) (assigns : List ℕ) (r : Ending) → on_some_path r ≡ returns.some → on_every_path r ≡ returns.always →
-        (k : List ℕ) → ((i : ℕ) → is_in assigns i ≡ true → is_in k (p.first + i) ≡ true) → (x : List ℕ → Stmt) → ((ws : List ℕ) → (t p ws).value ≡ x ws ∷ []) →
+        (k : List ℕ) → ((i : ℕ) → is_in i assigns ≡ true → is_in (p.first + i) k ≡ true) → (x : List ℕ → Stmt) → ((ws : List ℕ) → (t p ws).value ≡ x ws ∷ []) →
         ((ws : List ℕ) → Here ws → (W : List ℕ) → Begins (t p ws).locals W → (K : List ℕ) → Knows known K → KeepsStmt (flat_place W K) a r k (x ws)) → ((ws : List ℕ) → stmt_few (x ws) ≡ true) →
         KeptStmt known a t returns assigns
     alone known a t returns assigns r some always k assigned x is keeps few = record {
@@ -265,7 +263,7 @@ module _ (A : List ℕ) (Ev Fo : List (List ℕ)) where
           limited = (and_parts _ _ h.limited).0;
           filled = (and_parts _ _ h.filled).0;
           formed = (and_parts _ _ h.formed).0;
-        }) rule.0 rule.1 a (both_tests (option_eq nat_eq a) rule.0 (joined rule.2.0) only2).0 in
+        }) rule.0 rule.1 a (both_pass (option_eq nat_eq a) rule.0 (joined rule.2.0) only2).0 in
         record {
           ending = one.ending;
           some = one.some ∙ or_false (stmt_returns e.0).some;
@@ -276,7 +274,7 @@ module _ (A : List ℕ) (Ev Fo : List (List ℕ)) where
     block_kept known (e ∷ (g ∷ es)) h rs typed a only =
         let rule = all_rule core_scope (returns_of e.0) (map returns_of (stmts (g ∷ es))) rs typed in
         let only2 : list_all (option_eq nat_eq a) (rule.0 ++ joined rule.2.0) ≡ true = subst (λ (q : List (List Answer)). list_all (option_eq nat_eq a) (joined q) ≡ true) rule.2.2 only in
-        let onlys = both_tests (option_eq nat_eq a) rule.0 (joined rule.2.0) only2 in
+        let onlys = both_pass (option_eq nat_eq a) rule.0 (joined rule.2.0) only2 in
         let last = and_parts _ _ h.last in
         let lasts = and_parts _ _ last.0 in
         let on : (stmt_returns e.0).some ≡ false = not_some (stmt_returns e.0).some last.1 in

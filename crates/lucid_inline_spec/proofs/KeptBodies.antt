@@ -9,7 +9,7 @@ use Rattle.lucid_core.specs.declared.body.Stmt.{Stmt}
 use Rattle.lucid_core.specs.declared.body.Touch.{Touch}
 use Rattle.lucid_core.specs.declared.body.Expr.TheOpen.{Expr-F, Stmt-F, Touch-F}
 use Rattle.lucid_core.specs.declared.body.Expr.TheViews.{roll-Expr, roll-Stmt, roll-Touch}
-use Rattle.lucid_core.specs.declared.body.Expr.TheFolds.{fold-roll-Expr, fold-roll-Stmt, fold-roll-Touch, ind-Stmt, map-Stmt}
+use Rattle.lucid_core.specs.declared.body.Expr.TheFolds.{fold-roll-Expr, fold-roll-Stmt, fold-roll-Touch, map-Stmt}
 use Rattle.lucid_core.specs.declared.defs.FunDef.{FunDef}
 use Rattle.lucid_core.specs.declared.defs.HandlerDef.{HandlerDef}
 use Rattle.lucid_core.specs.Assigned as flow
@@ -19,7 +19,8 @@ use Rattle.lucid_core.specs.Limits as limits
 use Rattle.lucid_core.specs.Limits.{body_keeps_limits, stmt_limits}
 use Rattle.lucid_core.specs.Names as names
 use Rattle.lucid_core.specs.Names.{stmt_names}
-use Rattle.lucid_core.specs.Numbers.{all_hold, is_in, places}
+use Rattle.lucid_base.specs.Numbers.{is_in}
+use Rattle.lucid_core.specs.Numbers.{all_hold, places}
 use Rattle.lucid_core.specs.Parts.{CoreParts}
 use Rattle.lucid_core.specs.Returns as returns
 use Rattle.lucid_core.specs.Returns.{Returns, block_returns, body_returns, stmt_returns}
@@ -36,6 +37,7 @@ use Rattle.lucid_core.proofs.TypingRules.{body_rule}
 use Rattle.lucid_core.proofs.WidthLists.{passes_at}
 use Rattle.lucid_core.specs.declared.ending.Ending.{Ending}
 use Rattle.lucid_core.specs.Few.{stmt_few}
+use Rattle.lucid_core.proofs.Induction.{Cases, body_by}
 use Rattle.lucid_core_laws.specs.Keeps.{KeepsBlock}
 use Rattle.lucid_inline_spec.specs.Flat as f
 use Rattle.lucid_inline_spec.specs.Flat.{Flatten, PutIn, Site, flat_expr, flat_stmt, flat_touch}
@@ -120,26 +122,15 @@ module _ (A : List ℕ) (Ev Fo : List (List ℕ)) (p : Site) (P L : List ℕ) (F
       (subst (λ (q : Returns). KeptStmt known a (nodes.flat_s A Ev Fo p P L Fs all grow stand tree) q (stmt_flow (roll-Stmt tree)).assigns) (sym back)
       (subst (λ (w : Flow). KeptStmt known a (nodes.flat_s A Ev Fo p P L Fs all grow stand tree) (returns.stmt_step (map-Stmt Expr Stmt Touch Returns Returns Returns returns.expr_returns stmt_returns returns.touch_returns tree)) w.assigns) (sym ahead) whole))
 
-  stmt_keeps : (e : Stmt) → StmtKeeps e
-  stmt_keeps = ind-Stmt ExprKeeps StmtKeeps TouchKeeps
-      (λ e y is. subst (λ z. ExprKeeps (roll-Expr z)) is (of_expr y))
-      (λ e y is. subst (λ z. StmtKeeps (roll-Stmt z)) is (of_stmt y))
-      (λ e y is. subst (λ z. TouchKeeps (roll-Touch z)) is (of_touch y))
-
-  proved : List Stmt → List S
-  proved ss = map (λ (e : Stmt). (e, stmt_keeps e)) ss
-
-  stmts-proved : (ss : List Stmt) → map (λ (e : S). e.0) (proved ss) ≡ ss
-  unfolding proved
-  stmts-proved [] = refl
-  stmts-proved (e ∷ es) = ap (λ (q : List Stmt). e ∷ q) (stmts-proved es)
+  by_nodes : Cases ExprKeeps StmtKeeps TouchKeeps
+  by_nodes = record { expr = of_expr; stmt = of_stmt; touch = of_touch }
 
   abbrev BodyKeeps : List Stmt → Type 0
   BodyKeeps ss = (known : List ℕ) → kept.BlockTested A Ev Fo p P L Fs all grow stand known ss → (rs : List (List Answer)) → all_typed (map returns_of ss) s ≡ Some rs → (a : Answer) → list_all (option_eq nat_eq a) (joined rs) ≡ true →
       kept.KeptBlock A Ev Fo p P L Fs all grow stand known a (f.block (map flat_stmt ss)) (block_returns (map stmt_returns ss))
 
   pub body_keeps : (ss : List Stmt) → BodyKeeps ss
-  body_keeps ss = subst BodyKeeps (stmts-proved ss) (λ known h rs typed a only. kept.block_kept A Ev Fo p P L Fs all grow stand known (proved ss) h rs typed a only)
+  body_keeps = body_by BodyKeeps by_nodes (λ es. λ known h rs typed a only. kept.block_kept A Ev Fo p P L Fs all grow stand known es h rs typed a only)
 
 all_mapped : (ss : List Stmt) → list_all is_core_stmt ss ≡ true → all_hold (map is_core_stmt ss) ≡ true
 all_mapped [] h = refl
@@ -227,6 +218,6 @@ module _ (core : CoreParts) where
       (record { named = names; last = last; reads = reads; limited = limits; filled = texts; formed = all_mapped h.body forms }) rule.0 rule.1 None rule.2 in record {
         ending = made.ending;
         body = made.keeps h.locals (λ i w there. let z : 0 + i ≡ i = omega arith in ap (slice_get h.locals) z ∙ there) (f.flat_handler core.funs h).locals (begins_self (f.flat_handler core.funs h).locals) known
-            (λ i there. let z : 0 + i ≡ i = omega arith in ap (is_in known) z ∙ there);
+            (λ i there. let z : 0 + i ≡ i = omega arith in ap (λ (n : ℕ). is_in n known) z ∙ there);
         few = made.few h.locals;
       }

@@ -2,7 +2,7 @@
 use Rattle.std.proofs.Common.{◌≡◌, ◌⊎◌, inl, inr, ℕ, zero, suc, ◌+◌, ◌<◌, List, [], ◌∷◌, ◌++◌, Bool, true, false, ◌&&◌, ◌||◌, if◌then◌else◌, is_some, unwrap_or, Option, None, Some, length, map, take, refl, sym, ap, ap₂, subst, ◌∙◌, arith, append-nil, append_assoc, length-append, nat_eq, nat_le, slice_get, option_map, option_to_list}
 use Rattle.std.specs.List.{list_all, enumerate_from}
 use Rattle.std.specs.Option.{option_eq, option_map_or}
-use Rattle.std.proofs.lemmas.Bool.{and_from, and_parts, eq-eqb, eqb-true, or_left}
+use Rattle.std.proofs.lemmas.Bool.{and_from, and_parts, eq-eqb, eqb-true, or_cases, or_left}
 use Rattle.std.proofs.lemmas.List.{length-map, length-take-le, map-append}
 use Rattle.std.proofs.lemmas.List.Folds.{list_all-append}
 use Rattle.lucid_base.specs.Bits.{bits_of}
@@ -22,7 +22,8 @@ use Rattle.lucid_core.specs.Limits as limits
 use Rattle.lucid_core.specs.Limits.{are_members, expr_limits, stmt_limits, touch_limits}
 use Rattle.lucid_core.specs.Names as names
 use Rattle.lucid_core.specs.Names.{expr_names, is_array, stmt_names, touch_names}
-use Rattle.lucid_core.specs.Numbers.{all_hold, is_in}
+use Rattle.lucid_base.specs.Numbers.{is_in}
+use Rattle.lucid_core.specs.Numbers.{all_hold}
 use Rattle.lucid_core.specs.Returns as returns
 use Rattle.lucid_core.specs.Returns.{Returns, block_returns, expr_returns, stmt_returns, touch_returns}
 use Rattle.lucid_core.specs.Scope.{Scope, Test, each}
@@ -32,7 +33,7 @@ use Rattle.lucid_core.specs.Texts as texts
 use Rattle.lucid_core.specs.Texts.{Printed, each_filled, expr_texts, holes_of, stmt_texts, touch_texts}
 use Rattle.lucid_core.specs.Typing as typing
 use Rattle.lucid_core.specs.Typing.{Answer, Typed, all_typed, answer_of, cell_width, joined, returns_of, touch_answer, value, values}
-use Rattle.lucid_core.proofs.Fine.{is_none, is_this}
+use Rattle.lucid_core.proofs.Fine.{both_pass, is_none, is_this}
 use Rattle.lucid_core.proofs.Pairwise.{Pairwise}
 use Rattle.lucid_core.proofs.TypingRules.{AllGive, Gives, all_rule, assign_rule, bin_rule, call_rule, cast_rule, cmp_rule, drop_rule, first_of_two, gen_rule, give_parts, hash_rule, holds, if_rule, is_value, local_rule, multi_rule, return_rule, say_rule, un_rule, values_rule}
 use Rattle.lucid_core.proofs.WidthRead.{expr_reads}
@@ -52,7 +53,8 @@ use Rattle.lucid_inline_spec.proofs.Grows.{AllGrow, expr_grows, exprs_grow, put_
 use Rattle.lucid_inline_spec.proofs.Kept.{PutKeeps, Stand, flat_place, found}
 use Rattle.lucid_inline_spec.proofs.Kept as kept
 use Rattle.lucid_inline_spec.proofs.Locals.{Begins, begins_append, begins_self, begins_then}
-use Rattle.lucid_inline_spec.proofs.Numbered.{either_true, in_first, in_second, number_there, numbers_of, slice_begins, slice_behind}
+use Rattle.lucid_base.proofs.NumbersLemmas.{in_first, in_second, itself_in}
+use Rattle.lucid_inline_spec.proofs.Numbered.{number_there, numbers_of, slice_begins, slice_behind}
 
 -- ---- few operands
 
@@ -102,7 +104,7 @@ on_every_of Always Never = refl
 on_every_of Always Sometimes = refl
 on_every_of Always Always = refl
 
-nowhere : (k : List ℕ) (j i : ℕ) → is_in [] i ≡ true → is_in k j ≡ true
+nowhere : (k : List ℕ) (j i : ℕ) → is_in i [] ≡ true → is_in j k ≡ true
 nowhere k j i h = absurd (cc)
 
 -- A text that is there.
@@ -431,7 +433,7 @@ module _ (A : List ℕ) (Ev Fo : List (List ℕ)) (p : Site) (P L : List ℕ) (F
 
   -- Everything that is assigned here is assigned there.
   abbrev More : List ℕ → List ℕ → Type 0
-  More K K2 = (j : ℕ) → is_in K j ≡ true → is_in K2 j ≡ true
+  More K K2 = (j : ℕ) → is_in j K ≡ true → is_in j K2 ≡ true
 
   -- The added locals have the widths of their values.
   widths_read : (ws K vs : List ℕ) (xs : List Expr) → KeepsAll (PlaceAt ws K) vs xs → map (f.width_in ws) xs ≡ vs
@@ -451,7 +453,7 @@ module _ (A : List ℕ) (Ev Fo : List (List ℕ)) (p : Site) (P L : List ℕ) (F
   wide_first W b v vs h = let z : b ≡ b + 0 = omega arith in ap (slice_get W) z ∙ h 0 v refl
 
   held_keep : (known W : List ℕ) (a : Answer) (r : Ending) (vs : List ℕ) (xs : List Expr) (b : ℕ) (K : List ℕ) → Knows known K → ((K2 : List ℕ) → Knows known K2 → KeepsAll (PlaceAt W K2) vs xs) → Wide W b vs → (rest : List Stmt) →
-      ((K2 : List ℕ) → More K K2 → ((i : ℕ) → i < length vs → is_in K2 (b + i) ≡ true) → KeepsBlock (PlaceAt W K2) a r rest) → KeepsBlock (PlaceAt W K) a r (held_by b xs ++ rest)
+      ((K2 : List ℕ) → More K K2 → ((i : ℕ) → i < length vs → is_in (b + i) K2 ≡ true) → KeepsBlock (PlaceAt W K2) a r rest) → KeepsBlock (PlaceAt W K) a r (held_by b xs ++ rest)
   held_keep known W a r [] [] b K knows h wide rest then_ = then_ K (λ j i. i) (λ i l. absurd (omega arith))
   held_keep known W a r (v ∷ vs) (x ∷ xs) b K knows h wide rest then_ =
       let knows2 : Knows known (K ++ b ∷ []) = λ i is. in_first K (b ∷ []) (p.first + i) (knows i is) in
@@ -459,18 +461,18 @@ module _ (A : List ℕ) (Ev Fo : List (List ℕ)) (p : Site) (P L : List ℕ) (F
       (held_keep known W a r vs xs (b + 1) (K ++ b ∷ []) knows2 (λ K2 k. (h K2 k).1) (wide_rest W b v vs wide) rest
       (λ K2 more nums. then_ K2 (λ j i. more j (in_first K (b ∷ []) j i)) (λ i l. at K2 more nums i l)))
     where
-      at : (K2 : List ℕ) → More (K ++ b ∷ []) K2 → ((i : ℕ) → i < length vs → is_in K2 (b + 1 + i) ≡ true) → (i : ℕ) → i < suc (length vs) → is_in K2 (b + i) ≡ true
-      at K2 more nums zero l = let z : b + 0 ≡ b = omega arith in ap (is_in K2) z ∙ more b (in_second K (b ∷ []) b (or_left _ _ (eq-eqb b b refl)))
-      at K2 more nums (suc i) l = let e : b + suc i ≡ b + 1 + i = omega arith in ap (is_in K2) e ∙ nums i (omega arith)
+      at : (K2 : List ℕ) → More (K ++ b ∷ []) K2 → ((i : ℕ) → i < length vs → is_in (b + 1 + i) K2 ≡ true) → (i : ℕ) → i < suc (length vs) → is_in (b + i) K2 ≡ true
+      at K2 more nums zero l = let z : b + 0 ≡ b = omega arith in ap (λ (n : ℕ). is_in n K2) z ∙ more b (in_second K (b ∷ []) b (itself_in b))
+      at K2 more nums (suc i) l = let e : b + suc i ≡ b + 1 + i = omega arith in ap (λ (n : ℕ). is_in n K2) e ∙ nums i (omega arith)
   held_keep known W a r [] (x ∷ xs) b K knows h wide rest then_ = absurd (h K knows)
   held_keep known W a r (v ∷ vs) [] b K knows h wide rest then_ = absurd (h K knows)
 
-  locals_keep : (W K : List ℕ) (vs : List ℕ) (b : ℕ) → Wide W b vs → ((i : ℕ) → i < length vs → is_in K (b + i) ≡ true) → KeepsAll (PlaceAt W K) vs (f.locals_from b (length vs))
+  locals_keep : (W K : List ℕ) (vs : List ℕ) (b : ℕ) → Wide W b vs → ((i : ℕ) → i < length vs → is_in (b + i) K ≡ true) → KeepsAll (PlaceAt W K) vs (f.locals_from b (length vs))
   locals_keep W K [] b wide there = tt
   locals_keep W K (v ∷ vs) b wide there =
       let z : b ≡ b + 0 = omega arith in (
-        expr_nodes.local (PlaceAt W K) b v (wide_first W b v vs wide) (ap (is_in K) z ∙ there 0 (omega arith)),
-        locals_keep W K vs (b + 1) (wide_rest W b v vs wide) (λ i l. let e : b + 1 + i ≡ b + suc i = omega arith in ap (is_in K) e ∙ there (suc i) (omega arith)),
+        expr_nodes.local (PlaceAt W K) b v (wide_first W b v vs wide) (ap (λ (n : ℕ). is_in n K) z ∙ there 0 (omega arith)),
+        locals_keep W K vs (b + 1) (wide_rest W b v vs wide) (λ i l. let e : b + 1 + i ≡ b + suc i = omega arith in ap (λ (n : ℕ). is_in n K) e ∙ there (suc i) (omega arith)),
       )
 
   -- The widths of a delay, where there is one.
@@ -478,7 +480,7 @@ module _ (A : List ℕ) (Ev Fo : List (List ℕ)) (p : Site) (P L : List ℕ) (F
   Delayed true us = (w : ℕ) × (us ≡ w ∷ [])
   Delayed false us = us ≡ []
 
-  delay_keeps : (W K params us : List ℕ) (b : ℕ) (delayed : Bool) → Delayed delayed us → Wide W b (params ++ us) → ((i : ℕ) → i < length (params ++ us) → is_in K (b + i) ≡ true) →
+  delay_keeps : (W K params us : List ℕ) (b : ℕ) (delayed : Bool) → Delayed delayed us → Wide W b (params ++ us) → ((i : ℕ) → i < length (params ++ us) → is_in (b + i) K ≡ true) →
       MayKeep (PlaceAt W K) (if delayed then Some (local (b + length params)) else None)
   delay_keeps W K params us b false is wide there = tt
   delay_keeps W K params us b true is wide there =
@@ -494,7 +496,7 @@ module _ (A : List ℕ) (Ev Fo : List (List ℕ)) (p : Site) (P L : List ℕ) (F
   left_wide W b params us wide i w is = wide i w (slice_begins params (params ++ us) (begins_append params us) i w is)
 
   sent_keep : (known W : List ℕ) (a : Answer) (r : Ending) (event b : ℕ) (params us : List ℕ) (delayed : Bool) → slice_get Ev event ≡ Some params → nat_le (length params) 8 ≡ true → Delayed delayed us → Wide W b (params ++ us) →
-      (members : List ℕ) (K : List ℕ) → ((i : ℕ) → i < length (params ++ us) → is_in K (b + i) ≡ true) → (rest : List Stmt) → ((K2 : List ℕ) → More K K2 → KeepsBlock (PlaceAt W K2) a r rest) →
+      (members : List ℕ) (K : List ℕ) → ((i : ℕ) → i < length (params ++ us) → is_in (b + i) K ≡ true) → (rest : List Stmt) → ((K2 : List ℕ) → More K K2 → KeepsBlock (PlaceAt W K2) a r rest) →
       KeepsBlock (PlaceAt W K) a r (sent_to event b (length params) delayed members ++ rest)
   sent_keep known W a r event b params us delayed there short late wide [] K nums rest then_ = then_ K (λ j i. i)
   sent_keep known W a r event b params us delayed there short late wide (m ∷ members) K nums rest then_ =
@@ -560,7 +562,7 @@ module _ (A : List ℕ) (Ev Fo : List (List ℕ)) (p : Site) (P L : List ℕ) (F
           (subst (λ (ss : List Stmt). KeepsBlock (PlaceAt W K) a r ss) (sym (append_assoc (held_by b first.value) (sent_to event b (length params) delayed members) xs))
           (held_keep known W a r (params ++ us) first.value b K knows (λ K2 k. given.keeps ws here W (begins_then first.locals (first.locals ++ own) W (begins_append first.locals own) begins) K2 k) wide (sent_to event b (length params) delayed members ++ xs)
           (λ K2 more nums. sent_keep known W a r event b params us delayed there short late wide members K2 nums xs
-          (λ K3 more2. then_ K3 (λ i is. more2 (p.first + i) (more (p.first + i) (knows i (subst (λ (z : List ℕ). is_in z i ≡ true) (append-nil known) is))))))))
+          (λ K3 more2. then_ K3 (λ i is. more2 (p.first + i) (more (p.first + i) (knows i (subst (λ (z : List ℕ). is_in i z ≡ true) (append-nil known) is))))))))
 
   -- ---- statements
 
@@ -603,7 +605,7 @@ module _ (A : List ℕ) (Ev Fo : List (List ℕ)) (p : Site) (P L : List ℕ) (F
       )
 
   alone : (known : List ℕ) (a : Answer) (t : Flatten (List Stmt)) (q : Returns) (assigns : List ℕ) (r : Ending) → on_some_path r ≡ q.some → on_every_path r ≡ q.always →
-      (k : List ℕ) → ((i : ℕ) → is_in assigns i ≡ true → is_in k (p.first + i) ≡ true) → (x : List ℕ → Stmt) → ((ws : List ℕ) → (t p ws).value ≡ x ws ∷ []) →
+      (k : List ℕ) → ((i : ℕ) → is_in i assigns ≡ true → is_in (p.first + i) k ≡ true) → (x : List ℕ → Stmt) → ((ws : List ℕ) → (t p ws).value ≡ x ws ∷ []) →
       ((ws : List ℕ) → Here ws → (W : List ℕ) → Begins (t p ws).locals W → (K : List ℕ) → Knows known K → KeepsStmt (PlaceAt W K) a r k (x ws)) → ((ws : List ℕ) → stmt_few (x ws) ≡ true) → KeptStmt known a t q assigns
   alone = kept.alone A Ev Fo p P L Fs all grow stand
 
@@ -730,12 +732,12 @@ module _ (A : List ℕ) (Ev Fo : List (List ℕ)) (p : Site) (P L : List ℕ) (F
   stmt_level (Stmt-F.Assign i e) known h rs typed a only =
       let rule = assign_rule s i (answer_of e.0) rs typed in
       let x = e.1 known (record { named = (and_parts _ _ h.named).1; last = (and_parts _ _ h.last).0; reads = h.reads; limited = (and_parts _ _ h.limited).0; filled = (and_parts _ _ h.filled).0; formed = (and_parts _ _ h.formed).0 }) (Some rule.0) rule.1 in
-      alone known a _ _ (i ∷ []) Never refl refl ((p.first + i) ∷ []) (λ k is. same k (either_true _ _ is)) (λ ws. roll-Stmt (Stmt-F.Assign (p.first + i) (flat_expr e.0 p ws).value)) (λ ws. refl)
+      alone known a _ _ (i ∷ []) Never refl refl ((p.first + i) ∷ []) (λ k is. same k (or_cases _ _ is)) (λ ws. roll-Stmt (Stmt-F.Assign (p.first + i) (flat_expr e.0 p ws).value)) (λ ws. refl)
       (λ ws here W begins K knows. stmt_nodes.assign (PlaceAt W K) a (p.first + i) rule.0 _ (slice_begins ws W (begins_then ws (flat_expr e.0 p ws).locals W (expr_grows e.0 p grow ws) begins) (p.first + i) rule.0 (here i rule.0 rule.2)) (x.keeps ws here W begins K knows))
       (λ ws. stmt_few_at (Stmt-F.Assign (p.first + i) (flat_expr e.0 p ws).value) ∙ and_from _ _ (x.few ws) refl)
     where
-      same : (k : ℕ) → (nat_eq k i ≡ true) ⊎ (is_in [] k ≡ true) → is_in ((p.first + i) ∷ []) (p.first + k) ≡ true
-      same k (inl e2) = let q = eqb-true k i e2 in or_left _ _ (eq-eqb (p.first + k) (p.first + i) (omega arith))
+      same : (k : ℕ) → (nat_eq i k ≡ true) ⊎ (is_in k [] ≡ true) → is_in (p.first + k) ((p.first + i) ∷ []) ≡ true
+      same k (inl e2) = let q = eqb-true i k e2 in or_left _ _ (eq-eqb (p.first + i) (p.first + k) (omega arith))
       same k (inr e2) = absurd (cc)
   stmt_level (Stmt-F.Drop e) known h rs typed a only =
       let rule = drop_rule s (answer_of e.0) rs typed in
@@ -745,19 +747,19 @@ module _ (A : List ℕ) (Ev Fo : List (List ℕ)) (p : Site) (P L : List ℕ) (F
       (λ ws. stmt_few_at (Stmt-F.Drop (flat_expr e.0 p ws).value) ∙ and_from _ _ (x.few ws) refl)
   stmt_level (Stmt-F.If e es gs) known h rs typed a only =
       let rule = if_rule s (answer_of e.0) (map returns_of (stmts es)) (map returns_of (stmts gs)) rs typed in
-      let onlys = kept.both_tests (option_eq nat_eq a) (joined rule.first) (joined rule.second) (subst (λ (q : List Answer). list_all (option_eq nat_eq a) q ≡ true) rule.returns only) in
+      let onlys = both_pass (option_eq nat_eq a) (joined rule.first) (joined rule.second) (subst (λ (q : List Answer). list_all (option_eq nat_eq a) q ≡ true) rule.returns only) in
       let named = and_parts _ _ h.named in
-      let names2 = kept.both_tests (λ (test : Test). test s) (map stmt_names (stmts es)) (map stmt_names (stmts gs)) named.1 in
+      let names2 = both_pass (λ (test : Test). test s) (map stmt_names (stmts es)) (map stmt_names (stmts gs)) named.1 in
       let last = and_parts _ _ h.last in
       let last2 = and_parts _ _ last.0 in
       let reads = and_parts _ _ h.reads in
       let reads2 = and_parts _ _ reads.0 in
       let limit = and_parts _ _ h.limited in
-      let limits2 = kept.both_tests (λ (b : Bool). b) (map stmt_limits (stmts es)) (map stmt_limits (stmts gs)) limit.1 in
+      let limits2 = both_pass (λ (b : Bool). b) (map stmt_limits (stmts es)) (map stmt_limits (stmts gs)) limit.1 in
       let filled = and_parts _ _ h.filled in
-      let filled2 = kept.both_tests (λ (test : Printed). test Fo) (map stmt_texts (stmts es)) (map stmt_texts (stmts gs)) filled.1 in
+      let filled2 = both_pass (λ (test : Printed). test Fo) (map stmt_texts (stmts es)) (map stmt_texts (stmts gs)) filled.1 in
       let formed = and_parts _ _ h.formed in
-      let formed2 = kept.both_tests (λ (b : Bool). b) (map is_core_stmt (stmts es)) (map is_core_stmt (stmts gs)) formed.1 in
+      let formed2 = both_pass (λ (b : Bool). b) (map is_core_stmt (stmts es)) (map is_core_stmt (stmts gs)) formed.1 in
       let x = e.1 known (record { named = named.0; last = last2.0; reads = reads2.0; limited = limit.0; filled = filled.0; formed = formed.0 }) (Some 1) rule.condition in
       let u = kept.block_kept A Ev Fo p P L Fs all grow stand known es (record { named = names2.0; last = last2.1; reads = reads2.1; limited = limits2.0; filled = filled2.0; formed = formed2.0 }) rule.first rule.typed a onlys.0 in
       let v = kept.block_kept A Ev Fo p P L Fs all grow stand known gs (record { named = names2.1; last = last.1; reads = reads.1; limited = limits2.1; filled = filled2.1; formed = formed2.1 }) rule.second rule.typed_too a onlys.1 in

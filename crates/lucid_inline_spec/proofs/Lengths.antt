@@ -10,15 +10,16 @@ use Rattle.lucid_core.specs.declared.body.Stmt.{Stmt}
 use Rattle.lucid_core.specs.declared.body.Touch.{Touch}
 use Rattle.lucid_core.specs.declared.body.Expr.TheOpen.{Expr-F, Stmt-F, Touch-F}
 use Rattle.lucid_core.specs.declared.body.Expr.TheViews.{roll-Expr, roll-Stmt, roll-Touch}
-use Rattle.lucid_core.specs.declared.body.Expr.TheFolds.{fold-roll-Expr, fold-roll-Stmt, fold-roll-Touch, ind-Stmt, map-Expr, map-Stmt, map-Touch}
+use Rattle.lucid_core.specs.declared.body.Expr.TheFolds.{fold-roll-Expr, fold-roll-Stmt, fold-roll-Touch, map-Expr, map-Stmt, map-Touch}
 use Rattle.lucid_core.specs.Computations.{array_of}
 use Rattle.lucid_core.specs.ExamplePrograms.{local}
-use Rattle.lucid_core.specs.Numbers.{is_in}
+use Rattle.lucid_base.specs.Numbers.{is_in}
 use Rattle.lucid_core.proofs.Fine.{both_pass}
 use Rattle.lucid_inline_spec.specs.Flat as f
 use Rattle.lucid_inline_spec.specs.Flat.{Flatten, Flattened, Site, PutIn, flat_expr, flat_stmt, flat_touch}
 use Rattle.lucid_core.specs.Length as l
 use Rattle.lucid_core.specs.Length.{Around, Measure, Piece, total_ops, with_held, block_ops, any_changes, any_returns, any_value, count_below, expr_measure, stmt_piece, touch_measure, joins}
+use Rattle.lucid_core.proofs.Induction.{Cases, body_by, opened3}
 use Rattle.lucid_inline_spec.proofs.Fit as r
 use Rattle.lucid_inline_spec.proofs.Fit.{Fit, expr_fit, stmt_fit, touch_fit}
 use Rattle.lucid_inline_spec.proofs.Grows.{AllGrow, put_grows, expr_grows, exprs_grow, stmt_grows, stmts_grow}
@@ -93,21 +94,21 @@ args_alone b (x ∷ xs) = ap (λ (ms : List Measure). expr_measure x ∷ ms) (ar
 abbrev params_of : ℕ → List Expr → List ℕ
 params_of b xs = map (λ (g : ℕ × Measure). g.0) (map (λ (g : ℕ × Expr). (g.0, expr_measure g.1)) (enumerate_from b xs))
 
-given_past : (xs : List Expr) (b k : ℕ) → b + length xs ≤ k → is_in (params_of b xs) k ≡ false
+given_past : (xs : List Expr) (b k : ℕ) → b + length xs ≤ k → is_in k (params_of b xs) ≡ false
 given_past [] b k h = refl
-given_past (x ∷ xs) b k h = ap (λ (t : Bool). t || is_in (params_of (b + 1) xs) k) (ne_eqb k b (λ q. absurd (omega arith))) ∙ given_past xs (b + 1) k (omega arith)
+given_past (x ∷ xs) b k h = ap (λ (t : Bool). t || is_in k (params_of (b + 1) xs)) (ne_eqb b k (λ q. absurd (omega arith))) ∙ given_past xs (b + 1) k (omega arith)
 
-given_in : (xs : List Expr) (b i : ℕ) → i < length xs → is_in (params_of b xs) (b + i) ≡ true
+given_in : (xs : List Expr) (b i : ℕ) → i < length xs → is_in (b + i) (params_of b xs) ≡ true
 given_in [] b i h = absurd (omega arith)
-given_in (x ∷ xs) b zero h = let e : b + 0 ≡ b = omega arith in ap (λ (t : Bool). t || is_in (params_of (b + 1) xs) (b + 0)) (eq-eqb (b + 0) b e)
+given_in (x ∷ xs) b zero h = let e : b + 0 ≡ b = omega arith in ap (λ (t : Bool). t || is_in (b + 0) (params_of (b + 1) xs)) (eq-eqb b (b + 0) (sym e))
 given_in (x ∷ xs) b (suc i) h =
     let e : b + suc i ≡ (b + 1) + i = omega arith in
-    ap (λ (t : Bool). t || is_in (params_of (b + 1) xs) (b + suc i)) (ne_eqb (b + suc i) b (λ q. absurd (omega arith))) ∙ ap (is_in (params_of (b + 1) xs)) e ∙ given_in xs (b + 1) i (omega arith)
+    ap (λ (t : Bool). t || is_in (b + suc i) (params_of (b + 1) xs)) (ne_eqb b (b + suc i) (λ q. absurd (omega arith))) ∙ ap (λ (n : ℕ). is_in n (params_of (b + 1) xs)) e ∙ given_in xs (b + 1) i (omega arith)
 
-given_there : (xs : List Expr) (b i : ℕ) → is_in (params_of b xs) (b + i) ≡ nat_lt i (length xs)
+given_there : (xs : List Expr) (b i : ℕ) → is_in (b + i) (params_of b xs) ≡ nat_lt i (length xs)
 given_there xs b i = either (cases_lt i (length xs))
   where
-    either : (i < length xs) ⊎ (length xs ≤ i) → is_in (params_of b xs) (b + i) ≡ nat_lt i (length xs)
+    either : (i < length xs) ⊎ (length xs ≤ i) → is_in (b + i) (params_of b xs) ≡ nat_lt i (length xs)
     either (inl h) = given_in xs b i h ∙ sym (lt-ltb i (length xs) h)
     either (inr h) = given_past xs b (b + i) (omega arith) ∙ sym (le-ltb i (length xs) h)
 
@@ -293,7 +294,7 @@ module _ (N : ℕ) (p : Site) (counts rooms : List ℕ) (all : AllCounts N count
       let e = eqb-true (length args) r fit in
       let room = h.0.room in
       let above = h.0.above arrays ws in
-      let inner = with_held b (is_in (params_of (length ws) args)) in
+      let inner = with_held b (λ (n : ℕ). is_in n (params_of (length ws) args)) in
       let own : (i : ℕ) → i < h.0.own → inner.held (length ws + i) ≡ nat_lt i r = λ i j.
       ap₂ (λ (x y : Bool). x || y) (rest (length ws + i) (omega arith) (omega arith)) (given_there args (length ws) i ∙ ap (nat_lt i) e) in
       let past : (j : ℕ) → length ws + h.0.own ≤ j → j < top → inner.held j ≡ false = λ j m u.
@@ -840,7 +841,7 @@ module _ (N : ℕ) (p : Site) (counts rooms : List ℕ) (all : AllCounts N count
       (λ ws. begins_length ws (flat_expr e.0 p ws).locals (expr_grows e.0 p grow ws))
       (λ fit ws bound top under within a b near. e.1.ops (and_parts _ _ fit).0 ws bound top under within a b near) (λ fit ws i h. refl) (λ fit ws k out. refl) (λ fit ws i bound h. refl) (λ fit ws k bound out side. refl) (λ ws. refl) (λ ws. refl)
 
-  -- Where three folds are opened at a node.
+  -- Where three folds are opened3 at a node.
   abbrev ExprNode : Flatten Expr → Measure → Fit → Type 0
   ExprNode t m fit = ExprLong t m (fit n rooms)
 
@@ -850,15 +851,12 @@ module _ (N : ℕ) (p : Site) (counts rooms : List ℕ) (all : AllCounts N count
   abbrev TouchLong : Flatten Touch → Measure → Fit → Type 0
   TouchLong t m fit = Long t (λ x. (touch_measure x).ops) m.ops (fit n rooms)
 
-  opened : {A B C : Type 0} (P : A → B → C → Type 0) {a x : A} {b y : B} {c z : C} → a ≡ x → b ≡ y → c ≡ z → P x y z → P a b c
-  opened P {a} {x} {b} {y} {c} {z} e g h is = subst (λ v. P v b c) (sym e) (subst (λ v. P x v c) (sym g) (subst (λ v. P x y v) (sym h) is))
-
   rolled-all : (ys : List (Stmt-F Expr Stmt Touch)) → pieces (map roll-Stmt ys) ≡ map stmt_of ys
   rolled-all [] = refl
   rolled-all (y ∷ ys) = ap₂ (λ (x : Piece) (xs : List Piece). x ∷ xs) (fold-roll-Stmt Measure Piece Measure l.expr_step l.stmt_step l.touch_step y) (rolled-all ys)
 
   of_expr : (y : Expr-F E S T) → ExprNode (flat_expr (roll-Expr (expr_tree y))) (expr_measure (roll-Expr (expr_tree y))) (expr_fit (roll-Expr (expr_tree y)))
-  of_expr y = let tree = expr_tree y in opened ExprNode
+  of_expr y = let tree = expr_tree y in opened3 ExprNode
       (fold-roll-Expr (Flatten Expr) (Flatten (List Stmt)) (Flatten Touch) f.expr_step f.stmt_step f.touch_step tree)
       (fold-roll-Expr Measure Piece Measure l.expr_step l.stmt_step l.touch_step tree)
       (fold-roll-Expr Fit Fit Fit r.expr_step r.stmt_step r.touch_step tree)
@@ -871,7 +869,7 @@ module _ (N : ℕ) (p : Site) (counts rooms : List ℕ) (all : AllCounts N count
       at x = fold-roll-Expr Measure Piece Measure l.expr_step l.stmt_step l.touch_step x
 
   of_touch : (y : Touch-F E S T) → TouchLong (flat_touch (roll-Touch (touch_tree y))) (touch_measure (roll-Touch (touch_tree y))) (touch_fit (roll-Touch (touch_tree y)))
-  of_touch y = let tree = touch_tree y in opened TouchLong
+  of_touch y = let tree = touch_tree y in opened3 TouchLong
       (fold-roll-Touch (Flatten Expr) (Flatten (List Stmt)) (Flatten Touch) f.expr_step f.stmt_step f.touch_step tree)
       (fold-roll-Touch Measure Piece Measure l.expr_step l.stmt_step l.touch_step tree)
       (fold-roll-Touch Fit Fit Fit r.expr_step r.stmt_step r.touch_step tree)
@@ -881,7 +879,7 @@ module _ (N : ℕ) (p : Site) (counts rooms : List ℕ) (all : AllCounts N count
       })
 
   of_stmt : (y : Stmt-F E S T) → StmtLong (flat_stmt (roll-Stmt (stmt_tree y))) (stmt_piece (roll-Stmt (stmt_tree y))) (stmt_fit (roll-Stmt (stmt_tree y)))
-  of_stmt y = let tree = stmt_tree y in opened StmtLong
+  of_stmt y = let tree = stmt_tree y in opened3 StmtLong
       (fold-roll-Stmt (Flatten Expr) (Flatten (List Stmt)) (Flatten Touch) f.expr_step f.stmt_step f.touch_step tree)
       (fold-roll-Stmt Measure Piece Measure l.expr_step l.stmt_step l.touch_step tree)
       (fold-roll-Stmt Fit Fit Fit r.expr_step r.stmt_step r.touch_step tree)
@@ -897,23 +895,12 @@ module _ (N : ℕ) (p : Site) (counts rooms : List ℕ) (all : AllCounts N count
       at : (x : Stmt-F Expr Stmt Touch) (ws : List ℕ) → pieces (map roll-Stmt (node_s x p ws).value) ≡ map stmt_of (node_s x p ws).value
       at x ws = rolled-all (node_s x p ws).value
 
-  stmt_long : (e : Stmt) → StmtLong (flat_stmt e) (stmt_piece e) (stmt_fit e)
-  stmt_long = ind-Stmt (λ e. ExprNode (flat_expr e) (expr_measure e) (expr_fit e)) (λ e. StmtLong (flat_stmt e) (stmt_piece e) (stmt_fit e)) (λ e. TouchLong (flat_touch e) (touch_measure e) (touch_fit e))
-      (λ e y is. subst (λ z. ExprNode (flat_expr (roll-Expr z)) (expr_measure (roll-Expr z)) (expr_fit (roll-Expr z))) is (of_expr y))
-      (λ e y is. subst (λ z. StmtLong (flat_stmt (roll-Stmt z)) (stmt_piece (roll-Stmt z)) (stmt_fit (roll-Stmt z))) is (of_stmt y))
-      (λ e y is. subst (λ z. TouchLong (flat_touch (roll-Touch z)) (touch_measure (roll-Touch z)) (touch_fit (roll-Touch z))) is (of_touch y))
-
-  proved : List Stmt → List S
-  proved ss = map (λ (e : Stmt). (e, stmt_long e)) ss
-
-  stmts-proved : (ss : List Stmt) → stmts (proved ss) ≡ ss
-  unfolding proved
-  stmts-proved [] = refl
-  stmts-proved (e ∷ es) = ap (λ (q : List Stmt). e ∷ q) (stmts-proved es)
+  by_nodes : Cases (λ e. ExprNode (flat_expr e) (expr_measure e) (expr_fit e)) (λ e. StmtLong (flat_stmt e) (stmt_piece e) (stmt_fit e)) (λ e. TouchLong (flat_touch e) (touch_measure e) (touch_fit e))
+  by_nodes = record { expr = of_expr; stmt = of_stmt; touch = of_touch }
 
   abbrev BodyLong : List Stmt → Type 0
   BodyLong ss = r.each (map stmt_fit ss) n rooms ≡ true → (ws : List ℕ) → p.first + n ≤ length ws → (top : ℕ) → length (f.block (map flat_stmt ss) p ws).locals ≤ top →
       length (f.block (map flat_stmt ss) p ws).locals ≤ N → (a b : Around) → NearHere (length ws) top a b → block_ops (pieces (f.block (map flat_stmt ss) p ws).value) b ≡ block_ops (pieces ss) a
 
   pub body_long : (ss : List Stmt) → BodyLong ss
-  body_long ss = subst BodyLong (stmts-proved ss) (those (proved ss))
+  body_long = body_by BodyLong by_nodes those

@@ -1,38 +1,24 @@
 -- Numbers in a list, and the numbers that parts of a list get from some number on.
-use Rattle.std.proofs.Common.{◌≡◌, ◌⊎◌, inl, inr, ℕ, zero, suc, ◌+◌, ◌<◌, ◌≤◌, List, [], ◌∷◌, ◌++◌, Bool, true, false, ◌||◌, Some, length, map, refl, sym, ap, subst, ◌∙◌, arith, nat_eq, slice_get}
+use Rattle.std.proofs.Common.{◌≡◌, ◌⊎◌, inl, inr, ℕ, zero, suc, ◌+◌, ◌<◌, ◌≤◌, List, [], ◌∷◌, ◌++◌, true, Some, length, map, sym, ap, subst, ◌∙◌, arith, nat_eq, slice_get}
 use Rattle.std.specs.List.{enumerate_from}
-use Rattle.std.proofs.lemmas.Bool.{eqb-true, eq-eqb, or_left, or_right}
-use Rattle.std.proofs.lemmas.List.Folds.{list_any-append}
-use Rattle.lucid_core.specs.Numbers.{is_in}
+use Rattle.std.proofs.lemmas.Bool.{eqb-true, eq-eqb, or_cases, or_left, or_right}
+use Rattle.lucid_base.specs.Numbers.{is_in}
 use Rattle.lucid_inline_spec.proofs.Locals.{Begins}
 
 abbrev pub numbers_of : {A : Type 0} → ℕ → List A → List ℕ
 numbers_of {A} b xs = map (λ (g : ℕ × A). g.0) (enumerate_from b xs)
 
-pub either_true : (a b : Bool) → (a || b) ≡ true → (a ≡ true) ⊎ (b ≡ true)
-either_true true b h = inl refl
-either_true false b h = inr h
-
-pub in_first : (xs ys : List ℕ) (i : ℕ) → is_in xs i ≡ true → is_in (xs ++ ys) i ≡ true
-in_first xs ys i h = list_any-append (nat_eq i) xs ys ∙ or_left _ _ h
-
-pub in_second : (xs ys : List ℕ) (i : ℕ) → is_in ys i ≡ true → is_in (xs ++ ys) i ≡ true
-in_second xs ys i h = list_any-append (nat_eq i) xs ys ∙ or_right _ _ h
-
-pub in_either : (xs ys : List ℕ) (i : ℕ) → is_in (xs ++ ys) i ≡ true → (is_in xs i ≡ true) ⊎ (is_in ys i ≡ true)
-in_either xs ys i h = either_true _ _ (sym (list_any-append (nat_eq i) xs ys) ∙ h)
-
-pub number_there : {A : Type 0} (xs : List A) (b i : ℕ) → i < length xs → is_in (numbers_of b xs) (b + i) ≡ true
+pub number_there : {A : Type 0} (xs : List A) (b i : ℕ) → i < length xs → is_in (b + i) (numbers_of b xs) ≡ true
 number_there [] b i h = absurd (omega arith)
-number_there (x ∷ xs) b zero h = let z : b + 0 ≡ b = omega arith in or_left _ _ (eq-eqb (b + 0) b z)
-number_there {A = A} (x ∷ xs) b (suc i) h = let e : b + suc i ≡ b + 1 + i = omega arith in or_right _ _ (ap (is_in (numbers_of (b + 1) xs)) e ∙ number_there xs (b + 1) i (omega arith))
+number_there (x ∷ xs) b zero h = let z : b + 0 ≡ b = omega arith in or_left _ _ (eq-eqb b (b + 0) (sym z))
+number_there {A = A} (x ∷ xs) b (suc i) h = let e : b + suc i ≡ b + 1 + i = omega arith in or_right _ _ (ap (λ (n : ℕ). is_in n (numbers_of (b + 1) xs)) e ∙ number_there xs (b + 1) i (omega arith))
 
-pub number_within : {A : Type 0} (xs : List A) (b i : ℕ) → is_in (numbers_of b xs) i ≡ true → (b ≤ i) × (i < b + length xs)
+pub number_within : {A : Type 0} (xs : List A) (b i : ℕ) → is_in i (numbers_of b xs) ≡ true → (b ≤ i) × (i < b + length xs)
 number_within [] b i h = absurd (cc)
-number_within {A = A} (x ∷ xs) b i h = of (either_true _ _ h) (number_within xs (b + 1) i)
+number_within {A = A} (x ∷ xs) b i h = of (or_cases _ _ h) (number_within xs (b + 1) i)
   where
-    of : (nat_eq i b ≡ true) ⊎ (is_in (numbers_of (b + 1) xs) i ≡ true) → (is_in (numbers_of (b + 1) xs) i ≡ true → (b + 1 ≤ i) × (i < b + 1 + length xs)) → (b ≤ i) × (i < b + suc (length xs))
-    of (inl e) rest = let same = eqb-true i b e in (omega arith, omega arith)
+    of : (nat_eq b i ≡ true) ⊎ (is_in i (numbers_of (b + 1) xs) ≡ true) → (is_in i (numbers_of (b + 1) xs) ≡ true → (b + 1 ≤ i) × (i < b + 1 + length xs)) → (b ≤ i) × (i < b + suc (length xs))
+    of (inl e) rest = let same = eqb-true b i e in (omega arith, omega arith)
     of (inr e) rest = let both = rest e in let l = both.0 in let u = both.1 in (omega arith, omega arith)
 
 -- An item at a position is there in a longer list, and after another list.

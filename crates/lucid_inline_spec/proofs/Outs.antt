@@ -7,7 +7,7 @@ use Rattle.lucid_core.specs.declared.body.Stmt.{Stmt}
 use Rattle.lucid_core.specs.declared.body.Touch.{Touch}
 use Rattle.lucid_core.specs.declared.body.Expr.TheOpen.{Expr-F, Stmt-F, Touch-F}
 use Rattle.lucid_core.specs.declared.body.Expr.TheViews.{roll-Expr, roll-Stmt, roll-Touch}
-use Rattle.lucid_core.specs.declared.body.Expr.TheFolds.{fold-roll-Expr, fold-roll-Stmt, fold-roll-Touch, ind-Stmt, map-Expr, map-Stmt, map-Touch}
+use Rattle.lucid_core.specs.declared.body.Expr.TheFolds.{fold-roll-Expr, fold-roll-Stmt, fold-roll-Touch, map-Expr, map-Stmt, map-Touch}
 use Rattle.lucid_core.specs.declared.defs.FunDef.{FunDef}
 use Rattle.lucid_core.specs.Computations.{array_of}
 use Rattle.lucid_core.specs.OutCount as o
@@ -22,6 +22,7 @@ use Rattle.lucid_core.specs.declared.defs.HandlerDef.{HandlerDef}
 use Rattle.lucid_inline_spec.specs.Flat as f
 use Rattle.lucid_inline_spec.specs.Flat.{Flatten, Flattened, Site, PutIn, flat_expr, flat_stmt, flat_touch, locals_from, to_member}
 use Rattle.lucid_core.specs.ExamplePrograms.{local}
+use Rattle.lucid_core.proofs.Induction.{Cases, body_by, opened3}
 
 pub total-append : (xs ys : List Count) (fs : List ℕ) → total (xs ++ ys) fs ≡ total xs fs + total ys fs
 total-append [] ys fs = let z : 0 + total ys fs ≡ total ys fs = omega arith in sym z
@@ -266,7 +267,7 @@ module _ (p : Site) (counts : List ℕ) (all : AllCount counts p.funs) (n : ℕ)
   stmt_level (Stmt-F.Return None) fit ws = refl
   stmt_level (Stmt-F.Return (Some e)) fit ws = alone _ _ (ap (λ (m : ℕ). m + 0) (e.1 (and_parts _ _ fit).0 ws))
 
-  -- Where three folds are opened at a node.
+  -- Where three folds are opened3 at a node.
   abbrev ExprSame : Flatten Expr → Count → Fit → Type 0
   ExprSame t c fit = fit n rooms ≡ true → (ws : List ℕ) → expr_outs (t p ws).value [] ≡ c counts
 
@@ -276,43 +277,29 @@ module _ (p : Site) (counts : List ℕ) (all : AllCount counts p.funs) (n : ℕ)
   abbrev TouchSame : Flatten Touch → Count → Fit → Type 0
   TouchSame t c fit = fit n rooms ≡ true → (ws : List ℕ) → touch_outs (t p ws).value [] ≡ c counts
 
-  opened : {A B C : Type 0} (P : A → B → C → Type 0) {a x : A} {b y : B} {c z : C} → a ≡ x → b ≡ y → c ≡ z → P x y z → P a b c
-  opened P {a} {x} {b} {y} {c} {z} e g h is = subst (λ v. P v b c) (sym e) (subst (λ v. P x v c) (sym g) (subst (λ v. P x y v) (sym h) is))
-
   of_expr : (y : Expr-F E S T) → ExprSame (flat_expr (roll-Expr (expr_tree y))) (expr_outs (roll-Expr (expr_tree y))) (expr_fit (roll-Expr (expr_tree y)))
-  of_expr y = let tree = expr_tree y in opened ExprSame
+  of_expr y = let tree = expr_tree y in opened3 ExprSame
       (fold-roll-Expr (Flatten Expr) (Flatten (List Stmt)) (Flatten Touch) f.expr_step f.stmt_step f.touch_step tree) (expr_at tree) (fold-roll-Expr Fit Fit Fit r.expr_step r.stmt_step r.touch_step tree)
       (λ fit ws. ap (λ (c : Count). c []) (expr_at (node_e tree ws)) ∙ expr_level y fit ws)
 
   of_stmt : (y : Stmt-F E S T) → StmtSame (flat_stmt (roll-Stmt (stmt_tree y))) (stmt_outs (roll-Stmt (stmt_tree y))) (stmt_fit (roll-Stmt (stmt_tree y)))
-  of_stmt y = let tree = stmt_tree y in opened StmtSame
+  of_stmt y = let tree = stmt_tree y in opened3 StmtSame
       (fold-roll-Stmt (Flatten Expr) (Flatten (List Stmt)) (Flatten Touch) f.expr_step f.stmt_step f.touch_step tree) (stmt_at tree) (fold-roll-Stmt Fit Fit Fit r.expr_step r.stmt_step r.touch_step tree)
       (λ fit ws. ap (λ (cs : List Count). total cs []) (stmts_at (node_s tree ws)) ∙ stmt_level y fit ws)
 
   of_touch : (y : Touch-F E S T) → TouchSame (flat_touch (roll-Touch (touch_tree y))) (touch_outs (roll-Touch (touch_tree y))) (touch_fit (roll-Touch (touch_tree y)))
-  of_touch y = let tree = touch_tree y in opened TouchSame
+  of_touch y = let tree = touch_tree y in opened3 TouchSame
       (fold-roll-Touch (Flatten Expr) (Flatten (List Stmt)) (Flatten Touch) f.expr_step f.stmt_step f.touch_step tree) (touch_at tree) (fold-roll-Touch Fit Fit Fit r.expr_step r.stmt_step r.touch_step tree)
       (λ fit ws. ap (λ (c : Count). c []) (touch_at (node_t tree ws)) ∙ touch_level y fit ws)
 
-  stmt_same : (e : Stmt) → StmtSame (flat_stmt e) (stmt_outs e) (stmt_fit e)
-  stmt_same = ind-Stmt (λ e. ExprSame (flat_expr e) (expr_outs e) (expr_fit e)) (λ e. StmtSame (flat_stmt e) (stmt_outs e) (stmt_fit e)) (λ e. TouchSame (flat_touch e) (touch_outs e) (touch_fit e))
-      (λ e y is. subst (λ z. ExprSame (flat_expr (roll-Expr z)) (expr_outs (roll-Expr z)) (expr_fit (roll-Expr z))) is (of_expr y))
-      (λ e y is. subst (λ z. StmtSame (flat_stmt (roll-Stmt z)) (stmt_outs (roll-Stmt z)) (stmt_fit (roll-Stmt z))) is (of_stmt y))
-      (λ e y is. subst (λ z. TouchSame (flat_touch (roll-Touch z)) (touch_outs (roll-Touch z)) (touch_fit (roll-Touch z))) is (of_touch y))
-
-  proved : List Stmt → List S
-  proved ss = map (λ (e : Stmt). (e, stmt_same e)) ss
-
-  stmts-proved : (ss : List Stmt) → stmts (proved ss) ≡ ss
-  unfolding proved
-  stmts-proved [] = refl
-  stmts-proved (e ∷ es) = ap (λ (q : List Stmt). e ∷ q) (stmts-proved es)
+  by_nodes : Cases (λ e. ExprSame (flat_expr e) (expr_outs e) (expr_fit e)) (λ e. StmtSame (flat_stmt e) (stmt_outs e) (stmt_fit e)) (λ e. TouchSame (flat_touch e) (touch_outs e) (touch_fit e))
+  by_nodes = record { expr = of_expr; stmt = of_stmt; touch = of_touch }
 
   abbrev BodySame : List Stmt → Type 0
   BodySame ss = r.each (map stmt_fit ss) n rooms ≡ true → (ws : List ℕ) → body_outs (f.block (map flat_stmt ss) p ws).value [] ≡ body_outs ss counts
 
   pub body_same : (ss : List Stmt) → BodySame ss
-  body_same ss = subst BodySame (stmts-proved ss) (those (proved ss))
+  body_same = body_by BodySame by_nodes those
 
 one_more : (cs : List ℕ) (ps : List PutIn) (c : ℕ) (put : PutIn) → AllCount cs ps → ((arrays ws : List ℕ) → body_outs (put arrays ws).value [] ≡ c) → AllCount (cs ++ c ∷ []) (ps ++ put ∷ [])
 one_more [] [] c put all one = (one, tt)

@@ -16,7 +16,9 @@ use Rattle.lucid_core.specs.Uses.{Inlining, Uses, all_uses, assigning, body_uses
 use Rattle.lucid_core_laws.specs.InlinedNodes.{AllKeepToThemselves, Owns, count_of, joined, nothing_named}
 use Rattle.lucid_inline_spec.specs.Flat.{locals_from, to_member}
 use Rattle.lucid_inline_spec.proofs.Numbered.{numbers_of}
-use Rattle.lucid_inline_spec.proofs.Times.{numbers_above, numbers_below, numbers_there, times-append, times-cons, times-none}
+use Rattle.lucid_core_laws.proofs.Owning.{count_joined, keep_both, keep_wider}
+use Rattle.lucid_core_laws.proofs.Times.{times-append, times-cons, times-none}
+use Rattle.lucid_inline_spec.proofs.Times.{numbers_above, numbers_below, numbers_there}
 
 -- ---- the uses of lists
 
@@ -40,34 +42,9 @@ uses_one x =
 
 -- ---- calls that keep to themselves
 
-keep_both : (lo hi : ℕ) (count : ℕ → ℕ) (is js : List Inlining) → AllKeepToThemselves lo hi count is → AllKeepToThemselves lo hi count js → AllKeepToThemselves lo hi count (is ++ js)
-keep_both lo hi count [] js h k = k
-keep_both lo hi count (i ∷ is) js h k = (h.0, keep_both lo hi count is js h.1 k)
-
 keep_parts : (lo hi : ℕ) (count : ℕ → ℕ) (is js : List Inlining) → AllKeepToThemselves lo hi count (is ++ js) → AllKeepToThemselves lo hi count is × AllKeepToThemselves lo hi count js
 keep_parts lo hi count [] js h = (tt, h)
 keep_parts lo hi count (i ∷ is) js h = let rest = keep_parts lo hi count is js h.1 in ((h.0, rest.0), rest.1)
-
--- In a wider range, if the counts there are the same.
-keep_wider : (lo hi hi2 : ℕ) (count count2 : ℕ → ℕ) (is : List Inlining) → hi ≤ hi2 → ((a : ℕ) → lo ≤ a → a < hi → count2 a ≡ count a) → AllKeepToThemselves lo hi count is → AllKeepToThemselves lo hi2 count2 is
-keep_wider lo hi hi2 count count2 [] h e k = tt
-keep_wider lo hi hi2 count count2 (i ∷ is) h e k = (
-  record {
-    within = λ a there. let w = k.0.within a there in (w.0, omega arith);
-    as_often = λ a there. let w = k.0.within a there in e a w.0 w.1 ∙ k.0.as_often a there;
-    reads = k.0.reads;
-  },
-  keep_wider lo hi hi2 count count2 is h e k.1,
-)
-
-count-joined : (x y : Uses) (a : ℕ) → count_of (joined x y) a ≡ count_of x a + count_of y a
-count-joined x y a =
-    let e1 = times-append (x.reads ++ y.reads) (x.assigns ++ y.assigns) a in
-    let e2 = times-append x.reads y.reads a in
-    let e3 = times-append x.assigns y.assigns a in
-    let e4 = times-append x.reads x.assigns a in
-    let e5 = times-append y.reads y.assigns a in
-    omega arith
 
 -- The order of two parts is no matter.
 pub owns_turned : (b n lo hi : ℕ) (x y : Uses) → Owns b n lo hi (joined x y) → Owns b n lo hi (joined y x)
@@ -78,7 +55,7 @@ owns_turned b n lo hi x y k = record {
   covers = λ a l h. let e1 = times-append x.assigns y.assigns a in let e2 = times-append y.assigns x.assigns a in let z = k.covers a l h in omega arith;
   kept =
       let parts = keep_parts lo hi (count_of (joined x y)) x.inlined y.inlined k.kept in
-      keep_wider lo hi hi (count_of (joined x y)) (count_of (joined y x)) (y.inlined ++ x.inlined) (omega arith) (λ a l h. let e1 = count-joined x y a in let e2 = count-joined y x a in omega arith)
+      keep_wider lo hi lo hi (count_of (joined x y)) (count_of (joined y x)) (y.inlined ++ x.inlined) (omega arith) (omega arith) (λ a l h. let e1 = count_joined x y a in let e2 = count_joined y x a in omega arith)
       (keep_both lo hi (count_of (joined x y)) y.inlined x.inlined parts.1 parts.0);
 }
 
@@ -191,9 +168,9 @@ group_owns b n lo mid xs sent bound k r0 =
       covers = λ a l h. let e1 = times-append held.assigns sent.assigns a in let e2 = held_assigns mid xs a in which a l h e1 e2 (cases_lt a mid);
       kept = subst (λ (is : List Inlining). AllKeepToThemselves lo (mid + length xs) (count_of (joined held sent)) is)
           (sym (ap₂ (λ (p q : List Inlining). p ++ q) (held_inlined mid xs) r0.inlined ∙ append-nil args.inlined))
-          (keep_wider lo mid (mid + length xs) (count_of args) (count_of (joined held sent)) args.inlined (omega arith)
+          (keep_wider lo mid lo (mid + length xs) (count_of args) (count_of (joined held sent)) args.inlined (omega arith) (omega arith)
           (λ a l h.
-          let e1 = count-joined held sent a in
+          let e1 = count_joined held sent a in
           let e2 = times-append held.reads held.assigns a in
           let e3 = ap (λ (q : List ℕ). times_in q a) (held_reads mid xs) in
           let e4 = held_assigns mid xs a in

@@ -9,11 +9,12 @@ use Rattle.lucid_core.specs.declared.body.Stmt.{Stmt}
 use Rattle.lucid_core.specs.declared.body.Touch.{Touch}
 use Rattle.lucid_core.specs.declared.body.Expr.TheOpen.{Expr-F, Stmt-F, Touch-F}
 use Rattle.lucid_core.specs.declared.body.Expr.TheViews.{roll-Expr, roll-Stmt, roll-Touch}
-use Rattle.lucid_core.specs.declared.body.Expr.TheFolds.{fold-roll-Expr, fold-roll-Stmt, fold-roll-Touch, ind-Stmt, map-Expr, map-Stmt, map-Touch}
+use Rattle.lucid_core.specs.declared.body.Expr.TheFolds.{fold-roll-Expr, fold-roll-Stmt, fold-roll-Touch, map-Expr, map-Stmt, map-Touch}
 use Rattle.lucid_core.specs.Computations.{array_of}
 use Rattle.lucid_core.specs.Uses as u
 use Rattle.lucid_core.specs.Uses.{Uses, all_uses, assigning, body_uses, expr_uses, inlining, stmt_uses, times_in, touch_uses}
 use Rattle.lucid_core.proofs.Fine.{both_pass}
+use Rattle.lucid_core.proofs.Induction.{Cases, body_by, opened3}
 use Rattle.lucid_core_laws.specs.InlinedNodes.{Owns, joined, nothing_named}
 use Rattle.lucid_core_laws.proofs.Owning.{inlined_nodes}
 use Rattle.lucid_inline_spec.specs.Flat as f
@@ -24,7 +25,8 @@ use Rattle.lucid_inline_spec.proofs.Grows.{AllGrow, expr_grows, exprs_grow, stmt
 use Rattle.lucid_inline_spec.proofs.Locals.{begins_length}
 use Rattle.lucid_inline_spec.proofs.Numbered.{numbers_of}
 use Rattle.lucid_inline_spec.proofs.Owning.{assigns, exprs_uses, expr_at, group_owns, held_assigns, joined-assoc, members_read, node_uses, owns_turned, stmts_at, uses_append, uses_of_nodes, uses_one}
-use Rattle.lucid_inline_spec.proofs.Times.{numbers_above, numbers_below, numbers_there, times-append, times-cons, times-none, times-one}
+use Rattle.lucid_core_laws.proofs.Times.{times-append, times-cons, times-none, times-one}
+use Rattle.lucid_inline_spec.proofs.Times.{numbers_above, numbers_below, numbers_there}
 
 -- A function's inlined body names and assigns its own locals and those after them; its parameters are assigned by the call.
 pub record PutOwns (arity : ℕ) (put : PutIn) : Type 0 where
@@ -87,7 +89,7 @@ module _ (p : Site) (rooms : List ℕ) (all : AllOwn rooms p.funs) (grow : AllGr
         let z = h.carries c (omega arith) in omega arith;
   }
 
-  -- Where three folds are opened at a node.
+  -- Where three folds are opened3 at a node.
   abbrev ExprOwned : Flatten Expr → Uses → Fit → Type 0
   ExprOwned t core fit = fit n rooms ≡ true → (ws : List ℕ) → p.first + n ≤ length ws → Owned core (expr_uses (t p ws).value) (length ws) (length (t p ws).locals)
 
@@ -353,40 +355,26 @@ module _ (p : Site) (rooms : List ℕ) (all : AllOwn rooms p.funs) (grow : AllGr
   stmt_level (Stmt-F.Return None) fit ws bound = becomes_one _ _ _ _ (owned_none (length ws))
   stmt_level (Stmt-F.Return (Some e)) fit ws bound = becomes_one _ _ _ _ (owned_one _ _ _ _ bound (e.1 (and_parts _ _ fit).0 ws bound))
 
-  opened : {A B C : Type 0} (Q : A → B → C → Type 0) {a x : A} {b y : B} {c w : C} → a ≡ x → b ≡ y → c ≡ w → Q x y w → Q a b c
-  opened Q {a} {x} {b} {y} {c} {w} e g h is = subst (λ v. Q v b c) (sym e) (subst (λ v. Q x v c) (sym g) (subst (λ v. Q x y v) (sym h) is))
-
   of_expr : (y : Expr-F E S T) → ExprOwned (flat_expr (roll-Expr (expr_tree y))) (expr_uses (roll-Expr (expr_tree y))) (expr_fit (roll-Expr (expr_tree y)))
-  of_expr y = let tree = expr_tree y in opened ExprOwned
+  of_expr y = let tree = expr_tree y in opened3 ExprOwned
       (fold-roll-Expr (Flatten Expr) (Flatten (List Stmt)) (Flatten Touch) f.expr_step f.stmt_step f.touch_step tree) (expr_at tree) (fold-roll-Expr Fit Fit Fit r.expr_step r.stmt_step r.touch_step tree)
       (λ fit ws bound. subst (λ (v : Uses). Owned (uses_e tree) v (length ws) (length (node_e tree ws).locals)) (sym (expr_at (node_e tree ws).value)) (expr_level y fit ws bound))
 
   of_stmt : (y : Stmt-F E S T) → StmtOwned (flat_stmt (roll-Stmt (stmt_tree y))) (stmt_uses (roll-Stmt (stmt_tree y))) (stmt_fit (roll-Stmt (stmt_tree y)))
-  of_stmt y = let tree = stmt_tree y in opened StmtOwned
+  of_stmt y = let tree = stmt_tree y in opened3 StmtOwned
       (fold-roll-Stmt (Flatten Expr) (Flatten (List Stmt)) (Flatten Touch) f.expr_step f.stmt_step f.touch_step tree) (fold-roll-Stmt Uses Uses Uses u.expr_step u.stmt_step u.touch_step tree) (fold-roll-Stmt Fit Fit Fit r.expr_step r.stmt_step r.touch_step tree)
       (λ fit ws bound. subst (λ (vs : List Uses). Owned (node_uses tree) (all_uses vs) (length ws) (length (node_s tree ws).locals)) (sym (stmts_at (node_s tree ws).value)) (stmt_level y fit ws bound))
 
   of_touch : (y : Touch-F E S T) → TouchOwned (flat_touch (roll-Touch (touch_tree y))) (touch_uses (roll-Touch (touch_tree y))) (touch_fit (roll-Touch (touch_tree y)))
-  of_touch y = let tree = touch_tree y in opened TouchOwned
+  of_touch y = let tree = touch_tree y in opened3 TouchOwned
       (fold-roll-Touch (Flatten Expr) (Flatten (List Stmt)) (Flatten Touch) f.expr_step f.stmt_step f.touch_step tree) (fold-roll-Touch Uses Uses Uses u.expr_step u.stmt_step u.touch_step tree) (fold-roll-Touch Fit Fit Fit r.expr_step r.stmt_step r.touch_step tree)
       (λ fit ws bound. subst (λ (v : Uses). Owned (uses_t tree) v (length ws) (length (node_t tree ws).locals)) (sym (fold-roll-Touch Uses Uses Uses u.expr_step u.stmt_step u.touch_step (node_t tree ws).value)) (touch_level y fit ws bound))
 
-  stmt_owned : (e : Stmt) → StmtOwned (flat_stmt e) (stmt_uses e) (stmt_fit e)
-  stmt_owned = ind-Stmt (λ e. ExprOwned (flat_expr e) (expr_uses e) (expr_fit e)) (λ e. StmtOwned (flat_stmt e) (stmt_uses e) (stmt_fit e)) (λ e. TouchOwned (flat_touch e) (touch_uses e) (touch_fit e))
-      (λ e y is. subst (λ z. ExprOwned (flat_expr (roll-Expr z)) (expr_uses (roll-Expr z)) (expr_fit (roll-Expr z))) is (of_expr y))
-      (λ e y is. subst (λ z. StmtOwned (flat_stmt (roll-Stmt z)) (stmt_uses (roll-Stmt z)) (stmt_fit (roll-Stmt z))) is (of_stmt y))
-      (λ e y is. subst (λ z. TouchOwned (flat_touch (roll-Touch z)) (touch_uses (roll-Touch z)) (touch_fit (roll-Touch z))) is (of_touch y))
-
-  proved : List Stmt → List S
-  proved ss = map (λ (e : Stmt). (e, stmt_owned e)) ss
-
-  stmts-proved : (ss : List Stmt) → stmts (proved ss) ≡ ss
-  unfolding proved
-  stmts-proved [] = refl
-  stmts-proved (e ∷ es) = ap (λ (q : List Stmt). e ∷ q) (stmts-proved es)
+  by_nodes : Cases (λ e. ExprOwned (flat_expr e) (expr_uses e) (expr_fit e)) (λ e. StmtOwned (flat_stmt e) (stmt_uses e) (stmt_fit e)) (λ e. TouchOwned (flat_touch e) (touch_uses e) (touch_fit e))
+  by_nodes = record { expr = of_expr; stmt = of_stmt; touch = of_touch }
 
   abbrev BodyOwned : List Stmt → Type 0
   BodyOwned ss = r.each (map stmt_fit ss) n rooms ≡ true → (ws : List ℕ) → p.first + n ≤ length ws → Owned (body_uses ss) (body_uses (f.block (map flat_stmt ss) p ws).value) (length ws) (length (f.block (map flat_stmt ss) p ws).locals)
 
   pub body_owned : (ss : List Stmt) → BodyOwned ss
-  body_owned ss = subst BodyOwned (stmts-proved ss) (those (proved ss))
+  body_owned = body_by BodyOwned by_nodes those

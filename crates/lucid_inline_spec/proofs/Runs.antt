@@ -9,7 +9,7 @@ use Rattle.lucid_core.specs.declared.body.Stmt.{Stmt}
 use Rattle.lucid_core.specs.declared.body.Touch.{Touch}
 use Rattle.lucid_core.specs.declared.body.Expr.TheOpen.{Expr-F, Stmt-F, Touch-F}
 use Rattle.lucid_core.specs.declared.body.Expr.TheViews.{roll-Expr, roll-Stmt, roll-Touch}
-use Rattle.lucid_core.specs.declared.body.Expr.TheFolds.{fold-roll-Expr, fold-roll-Stmt, fold-roll-Touch, ind-Stmt}
+use Rattle.lucid_core.specs.declared.body.Expr.TheFolds.{fold-roll-Expr, fold-roll-Stmt, fold-roll-Touch}
 use Rattle.lucid_core.specs.declared.defs.FunDef.{FunDef}
 use Rattle.lucid_core.specs.declared.defs.HandlerDef.{HandlerDef}
 use Rattle.lucid_core.specs.Computations.{Computation, Effect, Fun, State, Ran, block, begun_with}
@@ -22,6 +22,7 @@ use Rattle.lucid_core.specs.Values.{nothing}
 use Rattle.lucid_core.proofs.Funs.{funs_from}
 use Rattle.lucid_core.proofs.WidthLists.{passes_at}
 use Rattle.lucid_core.specs.declared.defs.EventDef.{EventDef}
+use Rattle.lucid_core.proofs.Induction.{Cases, body_by, opened3}
 use Rattle.lucid_base.specs.declared.event.Event.{Event}
 use Rattle.std.proofs.lemmas.Option.{slice_get-map}
 use Rattle.std.proofs.Common.{option_map, option_and_then}
@@ -31,15 +32,11 @@ use Rattle.lucid_inline_spec.proofs.Fit as r
 use Rattle.lucid_inline_spec.proofs.Fit.{Fit, expr_fit, stmt_fit, touch_fit}
 use Rattle.lucid_inline_spec.proofs.Locals.{Begins, begins_self, begins_then, begins_append, begins_length, begun-length, begun_first, begun_past, zeros_part, held-length, held_there, held_above, local_at, zeros}
 use Rattle.lucid_inline_spec.proofs.Sim.{flat_frame, Same, Alike, Good, AllGood, good_more, Sim, core_frame}
-use Rattle.lucid_inline_spec.proofs.Levels.{E, S, T, block_of, expr_meaning, stmt_meaning, touch_meaning, expr_tree, stmt_tree, touch_tree, stmts, expr_level, stmt_level, touch_level, block_grows, block_acts}
+use Rattle.lucid_inline_spec.proofs.Levels.{E, S, T, block_of, expr_meaning, stmt_meaning, touch_meaning, expr_tree, stmt_tree, touch_tree, expr_level, stmt_level, touch_level, block_grows, block_acts}
 
 rolled-all : (ys : List (Stmt-F Expr Stmt Touch)) → map effect_of (map roll-Stmt ys) ≡ map stmt_meaning ys
 rolled-all [] = refl
 rolled-all (y ∷ ys) = ap₂ (λ (x : Effect) (xs : List Effect). x ∷ xs) (fold-roll-Stmt (Computation Bits) Effect (Computation Bits) m.expr_step m.stmt_step m.touch_step y) (rolled-all ys)
-
--- Where three folds are opened at a node.
-opened : {A B C : Type 0} (P : A → B → C → Type 0) {a x : A} {b y : B} {c z : C} → a ≡ x → b ≡ y → c ≡ z → P x y z → P a b c
-opened P {a} {x} {b} {y} {c} {z} e g h is = subst (λ v. P v b c) (sym e) (subst (λ v. P x v c) (sym g) (subst (λ v. P x y v) (sym h) is))
 
 module _ (W : List ℕ) (now me : ℕ) (p : Site) (rooms : List ℕ) (fs : List Fun) (good : AllGood W now me rooms p.funs fs) (n : ℕ) where
   abbrev Here : {A B : Type 0} → (A → Computation B) → Flatten A → Computation B → Fit → Type 0
@@ -65,41 +62,29 @@ module _ (W : List ℕ) (now me : ℕ) (p : Site) (rooms : List ℕ) (fs : List 
   }
 
   of_expr : (y : Expr-F (E W now me p rooms fs good n) (S W now me p rooms fs good n) (T W now me p rooms fs good n)) → ExprHolds (roll-Expr (expr_tree W now me p rooms fs good n y))
-  of_expr y = let tree = expr_tree W now me p rooms fs good n y in opened (Here value_of)
+  of_expr y = let tree = expr_tree W now me p rooms fs good n y in opened3 (Here value_of)
       (fold-roll-Expr (Flatten Expr) (Flatten (List Stmt)) (Flatten Touch) f.expr_step f.stmt_step f.touch_step tree)
       (fold-roll-Expr (Computation Bits) Effect (Computation Bits) m.expr_step m.stmt_step m.touch_step tree)
       (fold-roll-Expr Fit Fit Fit r.expr_step r.stmt_step r.touch_step tree)
       (rolled expr_meaning value_of roll-Expr _ _ _ (λ x. fold-roll-Expr (Computation Bits) Effect (Computation Bits) m.expr_step m.stmt_step m.touch_step x) (expr_level W now me p rooms fs good n y))
 
   of_touch : (y : Touch-F (E W now me p rooms fs good n) (S W now me p rooms fs good n) (T W now me p rooms fs good n)) → TouchHolds (roll-Touch (touch_tree W now me p rooms fs good n y))
-  of_touch y = let tree = touch_tree W now me p rooms fs good n y in opened (Here touch_of)
+  of_touch y = let tree = touch_tree W now me p rooms fs good n y in opened3 (Here touch_of)
       (fold-roll-Touch (Flatten Expr) (Flatten (List Stmt)) (Flatten Touch) f.expr_step f.stmt_step f.touch_step tree)
       (fold-roll-Touch (Computation Bits) Effect (Computation Bits) m.expr_step m.stmt_step m.touch_step tree)
       (fold-roll-Touch Fit Fit Fit r.expr_step r.stmt_step r.touch_step tree)
       (rolled touch_meaning touch_of roll-Touch _ _ _ (λ x. fold-roll-Touch (Computation Bits) Effect (Computation Bits) m.expr_step m.stmt_step m.touch_step x) (touch_level W now me p rooms fs good n y))
 
   of_stmt : (y : Stmt-F (E W now me p rooms fs good n) (S W now me p rooms fs good n) (T W now me p rooms fs good n)) → StmtHolds (roll-Stmt (stmt_tree W now me p rooms fs good n y))
-  of_stmt y = let tree = stmt_tree W now me p rooms fs good n y in opened (Here block_of)
+  of_stmt y = let tree = stmt_tree W now me p rooms fs good n y in opened3 (Here block_of)
       (fold-roll-Stmt (Flatten Expr) (Flatten (List Stmt)) (Flatten Touch) f.expr_step f.stmt_step f.touch_step tree)
       (fold-roll-Stmt (Computation Bits) Effect (Computation Bits) m.expr_step m.stmt_step m.touch_step tree)
       (fold-roll-Stmt Fit Fit Fit r.expr_step r.stmt_step r.touch_step tree)
       (rolled (λ ys. block (map stmt_meaning ys)) block_of (map roll-Stmt) _ _ _ (λ ys. ap block (rolled-all ys)) (stmt_level W now me p rooms fs good n y))
 
   -- By induction on all three.
-  stmt_holds : (e : Stmt) → StmtHolds e
-  stmt_holds = ind-Stmt ExprHolds StmtHolds TouchHolds
-      (λ e y is. subst (λ z. ExprHolds (roll-Expr z)) is (of_expr y))
-      (λ e y is. subst (λ z. StmtHolds (roll-Stmt z)) is (of_stmt y))
-      (λ e y is. subst (λ z. TouchHolds (roll-Touch z)) is (of_touch y))
-
-  -- With their proofs.
-  proved : List Stmt → List (S W now me p rooms fs good n)
-  proved ss = map (λ (e : Stmt). (e, stmt_holds e)) ss
-
-  stmts-proved : (ss : List Stmt) → stmts W now me p rooms fs good n (proved ss) ≡ ss
-  unfolding proved
-  stmts-proved [] = refl
-  stmts-proved (e ∷ es) = ap (λ (q : List Stmt). e ∷ q) (stmts-proved es)
+  by_nodes : Cases ExprHolds StmtHolds TouchHolds
+  by_nodes = record { expr = of_expr; stmt = of_stmt; touch = of_touch }
 
   pub record BodyHolds (ss : List Stmt) : Type 0 where
     pub grows : (ws : List ℕ) → Begins ws (f.block (map flat_stmt ss) p ws).locals
@@ -108,7 +93,7 @@ module _ (W : List ℕ) (now me : ℕ) (p : Site) (rooms : List ℕ) (fs : List 
         Alike W now me p.first n (length (f.block (map flat_stmt ss) p ws).locals) top q (block_of ss (core_frame W now me p rooms fs good n) s) (block_of (f.block (map flat_stmt ss) p ws).value (flat_frame W now me) q)
 
   pub body_holds : (ss : List Stmt) → BodyHolds ss
-  body_holds ss = subst BodyHolds (stmts-proved ss) (record { grows = block_grows W now me p rooms fs good n (proved ss); acts = block_acts W now me p rooms fs good n (proved ss) })
+  body_holds = body_by BodyHolds by_nodes (λ es. record { grows = block_grows W now me p rooms fs good n es; acts = block_acts W now me p rooms fs good n es })
 
 -- Functions, handlers and programs whose bodies fit.
 abbrev pub rooms_from : List ℕ → List FunDef → List ℕ

@@ -13,7 +13,7 @@ use Rattle.lucid_core.specs.declared.body.Stmt.{Stmt}
 use Rattle.lucid_core.specs.declared.body.Touch.{Touch}
 use Rattle.lucid_core.specs.declared.body.Expr.TheOpen.{Expr-F, Stmt-F, Touch-F}
 use Rattle.lucid_core.specs.declared.body.Expr.TheViews.{roll-Expr, roll-Stmt, roll-Touch}
-use Rattle.lucid_core.specs.declared.body.Expr.TheFolds.{fold-roll-Expr, fold-roll-Stmt, fold-roll-Touch, map-Expr, map-Stmt, map-Touch, ind-Stmt}
+use Rattle.lucid_core.specs.declared.body.Expr.TheFolds.{fold-roll-Expr, fold-roll-Stmt, fold-roll-Touch, map-Expr, map-Stmt, map-Touch}
 use Rattle.lucid_core.specs.declared.defs.FunDef.{FunDef}
 use Rattle.lucid_core.specs.declared.defs.HandlerDef.{HandlerDef}
 use Rattle.lucid_core.specs.Computations.{array_of}
@@ -22,6 +22,7 @@ use Rattle.lucid_effects_spec.specs.Ends as o
 use Rattle.lucid_effects_spec.specs.Ends.{FunEnd, Numbering, End, ◌⨾◌, larger, body_end, expr_end, stmt_end, touch_end}
 use Rattle.lucid_effects_spec.specs.Evaluation as walk
 use Rattle.lucid_core.proofs.Fine.{both_pass}
+use Rattle.lucid_core.proofs.Induction.{Cases, body_by}
 use Rattle.lucid_inline_spec.specs.Flat as f
 use Rattle.lucid_inline_spec.specs.Flat.{Flatten, Flattened, Site, PutIn, flat_expr, flat_stmt, flat_touch}
 use Rattle.lucid_inline_spec.proofs.Fit as r
@@ -365,22 +366,11 @@ module _ (N : Numbering) where
         (fold-roll-Stmt (Flatten Expr) (Flatten (List Stmt)) (Flatten Touch) f.expr_step f.stmt_step f.touch_step tree) (fold-roll-Stmt End End End (walk.expr_step o.ends) (walk.stmt_step o.ends) (walk.touch_step o.ends) tree) (fold-roll-Stmt Fit Fit Fit r.expr_step r.stmt_step r.touch_step tree)
         (λ h ws c. ap (λ (xs : List End). walk.sequence o.ends xs [] N c) (rolled_all (f.stmt_node (map-Stmt Expr Stmt Touch (Flatten Expr) (Flatten (List Stmt)) (Flatten Touch) flat_expr flat_stmt flat_touch tree) p ws).value) ∙ stmt_level y h ws c)
 
-    stmt_turns : (e : Stmt) → Turns body_end (flat_stmt e) (stmt_end e) (stmt_fit e)
-    stmt_turns = ind-Stmt (λ e. Turns expr_end (flat_expr e) (expr_end e) (expr_fit e)) (λ e. Turns body_end (flat_stmt e) (stmt_end e) (stmt_fit e)) (λ e. Turns touch_end (flat_touch e) (touch_end e) (touch_fit e))
-        (λ e y is. subst (λ z. Turns expr_end (flat_expr (roll-Expr z)) (expr_end (roll-Expr z)) (expr_fit (roll-Expr z))) is (of_expr y))
-        (λ e y is. subst (λ z. Turns body_end (flat_stmt (roll-Stmt z)) (stmt_end (roll-Stmt z)) (stmt_fit (roll-Stmt z))) is (of_stmt y))
-        (λ e y is. subst (λ z. Turns touch_end (flat_touch (roll-Touch z)) (touch_end (roll-Touch z)) (touch_fit (roll-Touch z))) is (of_touch y))
-
-    proved : List Stmt → List S
-    proved ss = map (λ (e : Stmt). (e, stmt_turns e)) ss
-
-    stmts-proved : (ss : List Stmt) → stmts (proved ss) ≡ ss
-    unfolding proved
-    stmts-proved [] = refl
-    stmts-proved (e ∷ es) = ap (λ (q : List Stmt). e ∷ q) (stmts-proved es)
+    by_nodes : Cases (λ e. Turns expr_end (flat_expr e) (expr_end e) (expr_fit e)) (λ e. Turns body_end (flat_stmt e) (stmt_end e) (stmt_fit e)) (λ e. Turns touch_end (flat_touch e) (touch_end e) (touch_fit e))
+    by_nodes = record { expr = of_expr; stmt = of_stmt; touch = of_touch }
 
     pub body_turns : (ss : List Stmt) → Turns {A = List Stmt} body_end (f.block (map flat_stmt ss)) (body_end ss) (r.each (map stmt_fit ss))
-    body_turns ss = subst (λ (q : List Stmt). Turns {A = List Stmt} body_end (f.block (map flat_stmt q)) (body_end q) (r.each (map stmt_fit q))) (stmts-proved ss) (stmts_turn (proved ss))
+    body_turns = body_by (λ (q : List Stmt). Turns {A = List Stmt} body_end (f.block (map flat_stmt q)) (body_end q) (r.each (map stmt_fit q))) by_nodes stmts_turn
 
   -- Functions, each behind those before it.
   funs_turn : (rooms : List ℕ) (puts : List PutIn) (gs : List FunEnd) (ds : List FunDef) → AllPut puts gs → funs_fit rooms ds ≡ true →

@@ -9,13 +9,14 @@ use Rattle.lucid_core.specs.declared.body.Stmt.{Stmt}
 use Rattle.lucid_core.specs.declared.body.Touch.{Touch}
 use Rattle.lucid_core.specs.declared.body.Expr.TheOpen.{Expr-F, Stmt-F, Touch-F}
 use Rattle.lucid_core.specs.declared.body.Expr.TheViews.{roll-Expr, roll-Stmt, roll-Touch}
-use Rattle.lucid_core.specs.declared.body.Expr.TheFolds.{fold-Expr, fold-Touch, fold-roll-Expr, fold-roll-Stmt, fold-roll-Touch, ind-Stmt, map-Expr, map-Stmt, map-Touch}
+use Rattle.lucid_core.specs.declared.body.Expr.TheFolds.{fold-Expr, fold-Touch, fold-roll-Expr, fold-roll-Stmt, fold-roll-Touch, map-Expr, map-Stmt, map-Touch}
 use Rattle.lucid_core.specs.declared.defs.FunDef.{FunDef}
 use Rattle.lucid_core.specs.declared.defs.HandlerDef.{HandlerDef}
 use Rattle.lucid_core.specs.Computations.{array_of}
 use Rattle.lucid_core.specs.ExamplePrograms.{local}
 use Rattle.lucid_core.specs.OutCount.{Count, total}
 use Rattle.lucid_core.proofs.Fine.{both_pass}
+use Rattle.lucid_core.proofs.Induction.{Cases, body_by, opened3}
 use Rattle.lucid_effects_spec.specs.Size as z
 use Rattle.lucid_effects_spec.specs.Size.{flat_stmt_size}
 use Rattle.lucid_inline_spec.specs.Counts as o
@@ -68,7 +69,7 @@ args_alone b [] = refl
 args_alone b (x ∷ xs) = ap (λ (cs : List ℕ). flat_expr_size x ∷ cs) (args_alone (b + 1) xs)
 
 module _ (p : Site) (counts : List ℕ) (all : AllSize counts p.funs) (n : ℕ) (rooms : List ℕ) where
-  -- Where three folds are opened at a node.
+  -- Where three folds are opened3 at a node.
   abbrev ExprSame : Flatten Expr → Count → Fit → Type 0
   ExprSame t c fit = fit n rooms ≡ true → (ws : List ℕ) → flat_expr_size (t p ws).value ≡ c counts
 
@@ -290,44 +291,30 @@ module _ (p : Site) (counts : List ℕ) (all : AllSize counts p.funs) (n : ℕ) 
   stmt_level (Stmt-F.Return None) fit ws = refl
   stmt_level (Stmt-F.Return (Some e)) fit ws = alone _ _ (ap (λ (m : ℕ). m + 0) (e.1 (and_parts _ _ fit).0 ws))
 
-  opened : {A B C : Type 0} (P : A → B → C → Type 0) {a x : A} {b y : B} {c w : C} → a ≡ x → b ≡ y → c ≡ w → P x y w → P a b c
-  opened P {a} {x} {b} {y} {c} {w} e g h is = subst (λ v. P v b c) (sym e) (subst (λ v. P x v c) (sym g) (subst (λ v. P x y v) (sym h) is))
-
   of_expr : (y : Expr-F E S T) → ExprSame (flat_expr (roll-Expr (expr_tree y))) (expr_size (roll-Expr (expr_tree y))) (expr_fit (roll-Expr (expr_tree y)))
-  of_expr y = let tree = expr_tree y in opened ExprSame
+  of_expr y = let tree = expr_tree y in opened3 ExprSame
       (fold-roll-Expr (Flatten Expr) (Flatten (List Stmt)) (Flatten Touch) f.expr_step f.stmt_step f.touch_step tree) (fold-roll-Expr Count Count Count o.expr_step o.stmt_step o.touch_step tree)
       (fold-roll-Expr Fit Fit Fit r.expr_step r.stmt_step r.touch_step tree) (λ fit ws. expr_at (node_e tree ws) ∙ expr_level y fit ws)
 
   of_stmt : (y : Stmt-F E S T) → StmtSame (flat_stmt (roll-Stmt (stmt_tree y))) (stmt_size (roll-Stmt (stmt_tree y))) (stmt_fit (roll-Stmt (stmt_tree y)))
-  of_stmt y = let tree = stmt_tree y in opened StmtSame
+  of_stmt y = let tree = stmt_tree y in opened3 StmtSame
       (fold-roll-Stmt (Flatten Expr) (Flatten (List Stmt)) (Flatten Touch) f.expr_step f.stmt_step f.touch_step tree) (fold-roll-Stmt Count Count Count o.expr_step o.stmt_step o.touch_step tree)
       (fold-roll-Stmt Fit Fit Fit r.expr_step r.stmt_step r.touch_step tree) (λ fit ws. ap z.total (stmts_at (node_s tree ws)) ∙ stmt_level y fit ws)
 
   of_touch : (y : Touch-F E S T) → TouchSame (flat_touch (roll-Touch (touch_tree y))) (touch_size (roll-Touch (touch_tree y))) (touch_fit (roll-Touch (touch_tree y)))
-  of_touch y = let tree = touch_tree y in opened TouchSame
+  of_touch y = let tree = touch_tree y in opened3 TouchSame
       (fold-roll-Touch (Flatten Expr) (Flatten (List Stmt)) (Flatten Touch) f.expr_step f.stmt_step f.touch_step tree) (fold-roll-Touch Count Count Count o.expr_step o.stmt_step o.touch_step tree)
       (fold-roll-Touch Fit Fit Fit r.expr_step r.stmt_step r.touch_step tree)
       (λ fit ws. fold-roll-Touch ℕ ℕ ℕ z.flat_expr z.stmt_step z.flat_touch (node_t tree ws) ∙ touch_level y fit ws)
 
-  stmt_same : (e : Stmt) → StmtSame (flat_stmt e) (stmt_size e) (stmt_fit e)
-  stmt_same = ind-Stmt (λ e. ExprSame (flat_expr e) (expr_size e) (expr_fit e)) (λ e. StmtSame (flat_stmt e) (stmt_size e) (stmt_fit e)) (λ e. TouchSame (flat_touch e) (touch_size e) (touch_fit e))
-      (λ e y is. subst (λ v. ExprSame (flat_expr (roll-Expr v)) (expr_size (roll-Expr v)) (expr_fit (roll-Expr v))) is (of_expr y))
-      (λ e y is. subst (λ v. StmtSame (flat_stmt (roll-Stmt v)) (stmt_size (roll-Stmt v)) (stmt_fit (roll-Stmt v))) is (of_stmt y))
-      (λ e y is. subst (λ v. TouchSame (flat_touch (roll-Touch v)) (touch_size (roll-Touch v)) (touch_fit (roll-Touch v))) is (of_touch y))
-
-  proved : List Stmt → List S
-  proved ss = map (λ (e : Stmt). (e, stmt_same e)) ss
-
-  stmts-proved : (ss : List Stmt) → stmts (proved ss) ≡ ss
-  unfolding proved
-  stmts-proved [] = refl
-  stmts-proved (e ∷ es) = ap (λ (q : List Stmt). e ∷ q) (stmts-proved es)
+  by_nodes : Cases (λ e. ExprSame (flat_expr e) (expr_size e) (expr_fit e)) (λ e. StmtSame (flat_stmt e) (stmt_size e) (stmt_fit e)) (λ e. TouchSame (flat_touch e) (touch_size e) (touch_fit e))
+  by_nodes = record { expr = of_expr; stmt = of_stmt; touch = of_touch }
 
   abbrev BodySame : List Stmt → Type 0
   BodySame ss = r.each (map stmt_fit ss) n rooms ≡ true → (ws : List ℕ) → sizes_of (f.block (map flat_stmt ss) p ws).value ≡ body_size ss counts
 
   pub body_same : (ss : List Stmt) → BodySame ss
-  body_same ss = subst BodySame (stmts-proved ss) (those (proved ss))
+  body_same = body_by BodySame by_nodes those
 
 one_more : (cs : List ℕ) (ps : List PutIn) (c : ℕ) (put : PutIn) → AllSize cs ps → ((arrays ws : List ℕ) → sizes_of (put arrays ws).value ≡ c) → AllSize (cs ++ c ∷ []) (ps ++ put ∷ [])
 one_more [] [] c put all one = (one, tt)

@@ -9,7 +9,7 @@ use Rattle.lucid_core.specs.declared.defs.FunDef.{FunDef}
 use Rattle.lucid_core.specs.declared.defs.HandlerDef.{HandlerDef}
 use Rattle.lucid_core.specs.Events.{event_params, events_and_handlers_agree, handles}
 use Rattle.lucid_core.specs.Numbered.{rising}
-use Rattle.lucid_core.specs.Numbers.{is_in}
+use Rattle.lucid_base.specs.Numbers.{is_in}
 use Rattle.lucid_core.specs.OutCount.{body_outs, funs_outs}
 use Rattle.lucid_core.specs.Parts.{CoreParts}
 use Rattle.lucid_core.specs.Uses.{all_keep_to_themselves, assigns_its_locals, body_uses, times_in}
@@ -32,7 +32,8 @@ use Rattle.lucid_inline_spec.proofs.Outs.{handler_outs}
 use Rattle.lucid_inline_spec.proofs.OwningNodes.{AllOwn, Owned, PutOwns, body_owned}
 use Rattle.lucid_inline_spec.proofs.Runs.{funs_fit, puts_from, rooms_from}
 use Rattle.lucid_inline_spec.proofs.Steps.{starts-length, valid_fits}
-use Rattle.lucid_inline_spec.proofs.Times.{dropped_from, dropped_there, in-times, is_in-from}
+use Rattle.lucid_core_laws.proofs.Times.{in-times, is_in-from}
+use Rattle.lucid_inline_spec.proofs.Times.{dropped_from, dropped_there}
 
 -- ---- the assigned locals of functions and handlers
 
@@ -53,7 +54,7 @@ fun_owns rooms puts d all grow small fit assigned = record {
       let e : length ws + c ≡ x = omega arith in
       let there = dropped_there d.params d.locals 0 (body_uses d.body).assigns assigned c (omega arith) (omega arith) in
       let z : 0 + c ≡ c = omega arith in
-      let some = in-times (body_uses d.body).assigns c (subst (λ (i : ℕ). is_in (body_uses d.body).assigns i ≡ true) z there) in
+      let some = in-times (body_uses d.body).assigns c (subst (λ (i : ℕ). is_in i (body_uses d.body).assigns ≡ true) z there) in
       subst (λ (i : ℕ). 0 < times_in (body_uses (f.put_of puts d arrays ws).value).assigns i) e ((body arrays ws).carries c some);
 }
   where
@@ -128,7 +129,7 @@ module _ (core : CoreParts) (valid : IsValid core) where
           (i : ℕ) → params h ≤ i → i < length (flat h).locals → (i < length h.locals) ⊎ (length h.locals ≤ i) → 0 < times_in (body_uses (flat h).body).assigns (0 + i)
       at rule own i l m (inl q) =
           let z : 0 + i ≡ i = omega arith in
-          own.carries i (in-times (body_uses h.body).assigns i (subst (λ (j : ℕ). is_in (body_uses h.body).assigns j ≡ true) z (dropped_there (params h) h.locals 0 (body_uses h.body).assigns rule i l q)))
+          own.carries i (in-times (body_uses h.body).assigns i (subst (λ (j : ℕ). is_in j (body_uses h.body).assigns ≡ true) z (dropped_there (params h) h.locals 0 (body_uses h.body).assigns rule i l q)))
       at rule own i l m (inr q) = own.owns.covers (0 + i) (omega arith) (omega arith)
 
   -- For all handlers, a fact of each.

@@ -1,19 +1,12 @@
 -- Of two literals that are opposed one is contested.
-use Rattle.std.proofs.Common.{◌≡◌, ℕ, ◌%◌, List, [], ◌∷◌, Option, Some, None, Bool, true, false, not, ◌&&◌, ◌||◌, if◌then◌else◌, nat_eq, slice_get, refl, sym, ap, ◌∙◌, ⊎_elim}
+use Rattle.std.proofs.Common.{◌≡◌, ◌%◌, List, [], ◌∷◌, Option, Some, None, Bool, true, false, not, ◌&&◌, ◌||◌, if◌then◌else◌, nat_eq, slice_get, refl, sym, ap, ◌∙◌, ⊎_elim}
 use Rattle.std.specs.List.{list_any}
 use Rattle.std.proofs.lemmas.Bool.{and_parts, and_from, or_cases, or_left, or_right, eqb-true, eq-eqb, true≢false}
+use Rattle.lucid_base.proofs.NumbersLemmas.{nat_eq_swap}
 use Rattle.lucid_code.specs.declared.op.Literal.{Literal}
 use Rattle.lucid_code.specs.Guards.{opposed, contradict}
 use Rattle.lucid_merge.specs.Contested.{field_slot, is_found, is_contested, opposes}
 use Rattle.lucid_merge.proofs.Literals.{literal_is}
-
-neq_same : (a b : ℕ) → nat_eq a b ≡ nat_eq b a
-neq_same a b = by (nat_eq a b) (nat_eq b a) (λ e. eq-eqb b a (sym (eqb-true a b e))) (λ e. eq-eqb a b (sym (eqb-true b a e)))
-  where
-    by : (x y : Bool) → (x ≡ true → y ≡ true) → (y ≡ true → x ≡ true) → x ≡ y
-    by true y f g = sym (f refl)
-    by false true f g = g refl
-    by false false f g = refl
 
 signs_turned : (t u e : Bool) → (if t then (if u then not e else e) else u && e) ≡ (if u then (if t then not e else e) else t && e)
 signs_turned true true e = refl
@@ -23,8 +16,8 @@ signs_turned false false e = refl
 
 opposed_turned : (l m : Literal) → opposed l m ≡ opposed m l
 opposed_turned l m =
-    ap (λ b. b && (if l.equal then (if m.equal then not (nat_eq l.value m.value) else nat_eq l.value m.value) else m.equal && nat_eq l.value m.value)) (neq_same l.field m.field)
-    ∙ ap (λ b. nat_eq m.field l.field && b) (signs_turned l.equal m.equal (nat_eq l.value m.value) ∙ ap (λ e. if m.equal then (if l.equal then not e else e) else l.equal && e) (neq_same l.value m.value))
+    ap (λ b. b && (if l.equal then (if m.equal then not (nat_eq l.value m.value) else nat_eq l.value m.value) else m.equal && nat_eq l.value m.value)) (nat_eq_swap l.field m.field)
+    ∙ ap (λ b. nat_eq m.field l.field && b) (signs_turned l.equal m.equal (nat_eq l.value m.value) ∙ ap (λ e. if m.equal then (if l.equal then not e else e) else l.equal && e) (nat_eq_swap l.value m.value))
 
 self_unopposed : (l : Literal) → opposed l l ≡ false
 self_unopposed l = by l.equal (nat_eq l.value l.value) (eq-eqb l.value l.value refl)

@@ -7,7 +7,7 @@ use Rattle.lucid_core.specs.declared.body.Expr.TheVariants as expr
 use Rattle.lucid_core.specs.declared.body.Stmt.{Stmt}
 use Rattle.lucid_core.specs.declared.body.Stmt.TheVariants as core
 use Rattle.lucid_core.specs.Limits.{are_members}
-use Rattle.lucid_core.specs.Numbers.{is_in}
+use Rattle.lucid_base.specs.Numbers.{is_in}
 use Rattle.lucid_core.specs.Typing.{Answer}
 use Rattle.lucid_core.specs.declared.ending.Ending.{Ending}
 use Rattle.lucid_core.specs.declared.ending.Ending.TheVariants.{Never, Always}
@@ -34,7 +34,8 @@ use Rattle.lucid_types_spec.specs.Types.{answer_width, ints, value_widths, width
 use Rattle.lucid_types_laws.proofs.Expressions as expression
 use Rattle.lucid_types_laws.proofs.Expressions.{typed, free, all_free, touched, called as called_keeps, given}
 use Rattle.lucid_types_laws.proofs.Numbering.{Covers, block_grows, cases_grow, covered, covers_behind, form_there, local_there}
-use Rattle.lucid_types_laws.proofs.Suits.{Suits, is_new, itself_in, suits_behind, suits_more}
+use Rattle.lucid_base.proofs.NumbersLemmas.{in_second, itself_in}
+use Rattle.lucid_types_laws.proofs.Suits.{Suits, suits_behind, suits_more}
 
 -- ---- what is sent
 
@@ -125,7 +126,7 @@ assigned_first p a i w c x r there value f = record {
     again {q} {xs} rest = subst (λ (ks : List ℕ). KeepsBlock (record p { known = ks }) a q xs) (sym (append-nil (p.known ++ i ∷ []))) rest
 
 -- A local is a number of its width.
-is_number_keeps : (p : Place) (i w n : ℕ) → slice_get p.scope.locals i ≡ Some w → is_in p.known i ≡ true → KeepsExpr p (Some 1) (is_number i w n)
+is_number_keeps : (p : Place) (i w n : ℕ) → slice_get p.scope.locals i ≡ Some w → is_in i p.known ≡ true → KeepsExpr p (Some 1) (is_number i w n)
 is_number_keeps p i w n there known =
     expression.cmp p w Eq (expr.Local i) (expr.Fixed (bits_of w n)) (expression.local p i w there known) (expression.fixed p (bits_of w n))
 
@@ -166,7 +167,7 @@ mutual
   statement {a} (rule.matched s m x w c y ys last b k of far all) p h g =
       let i = length m.locals in
       let there = local_there m p w (cases_grow all) g in
-      let choice = cases_keep all (behind p (i ∷ [])) (suits_behind p (i ∷ []) s h) (covers_behind p (i ∷ []) k g) there (is_new p.known (i ∷ []) i (itself_in i)) in
+      let choice = cases_keep all (behind p (i ∷ [])) (suits_behind p (i ∷ []) s h) (covers_behind p (i ∷ []) k g) there (in_second p.known (i ∷ []) i (itself_in i)) in
       subst (λ (d : Body). KeepsStatement p (answer_width a) (rule.before (core.Assign i c ∷ []) d)) choice.1
       (assigned_first p (answer_width a) i w c choice.0 b.ending there (free of p h) choice.2)
 
@@ -179,7 +180,7 @@ mutual
       let there = local_there m p w (block_grows rest) g in
       let q = behind p (i ∷ []) in
       stmt_nodes.first p (answer_width a) b.ending (i ∷ []) (core.Assign i c) b.steps (assigned p (answer_width a) i w c there (typed of p h))
-      (block rest q (suits_more q s (called n (entry.Local i v)) (suits_behind p (i ∷ []) s h) (record { there = there; assigned = is_new p.known (i ∷ []) i (itself_in i) }))
+      (block rest q (suits_more q s (called n (entry.Local i v)) (suits_behind p (i ∷ []) s h) (record { there = there; assigned = in_second p.known (i ∷ []) i (itself_in i) }))
       (covers_behind p (i ∷ []) k g))
   block (rule.goes_on s m x d l xs b k of is rest) p h g =
       let f = statement of p h (covered p (block_grows rest) g) in
@@ -196,7 +197,7 @@ mutual
   branches (rule.chain s m ys b l z d k of and) p h g = (block of p h (covered p (block_grows and) g), block and p h g)
 
   cases_keep : {a : Option ValueType} {s : Names} {m : Numbered} {i w : ℕ} {cases : List (ℕ × List S)} {last : Option (List S)} {b : Body} {k : Numbered} →
-      Cases a s m i w cases last b k → (p : Place) → Suits p s → Covers p k → slice_get p.scope.locals i ≡ Some w → is_in p.known i ≡ true →
+      Cases a s m i w cases last b k → (p : Place) → Suits p s → Covers p k → slice_get p.scope.locals i ≡ Some w → is_in i p.known ≡ true →
       KeepsCases p (answer_width a) cases b
   cases_keep {a} (rule.no_last s m i w) p h g there known = stmt_nodes.empty p (answer_width a)
   cases_keep (rule.last_arm s m i w zs b k of) p h g there known = block of p h g

@@ -12,7 +12,7 @@ use Rattle.lucid_base.specs.declared.ops.UnOp.TheVariants.{Neg, Flip, Shl, Shr}
 use Rattle.lucid_core.specs.declared.body.Expr.{Expr}
 use Rattle.lucid_core.specs.declared.body.Expr.TheVariants as core
 use Rattle.lucid_core.specs.declared.body.Touch.{Touch}
-use Rattle.lucid_core.specs.Numbers.{is_in}
+use Rattle.lucid_base.specs.Numbers.{is_in}
 use Rattle.lucid_core.specs.Typing.{Answer, all_typed, cell_width}
 use Rattle.lucid_core_laws.specs.Keeps.{KeepsAll, KeepsExpr, KeepsTouch}
 use Rattle.lucid_core_laws.specs.Place.{Place}
@@ -34,7 +34,7 @@ module _ (p : Place) where
   pub fixed : (n : Bits) → KeepsExpr p (Some n.width) (core.Fixed n)
   fixed n = subst (KeepsExpr p (Some n.width)) (core.rolls-Fixed n) (expr_nodes.fixed p n)
 
-  pub local : (i w : ℕ) → slice_get p.scope.locals i ≡ Some w → is_in p.known i ≡ true → KeepsExpr p (Some w) (core.Local i)
+  pub local : (i w : ℕ) → slice_get p.scope.locals i ≡ Some w → is_in i p.known ≡ true → KeepsExpr p (Some w) (core.Local i)
   local i w there assigned = subst (KeepsExpr p (Some w)) (core.rolls-Local i) (expr_nodes.local p i w there assigned)
 
   un : (w : ℕ) (op : UnOp) (c : Expr) → KeepsExpr p (Some w) c → KeepsExpr p (Some w) (core.Un op c)

@@ -1,12 +1,13 @@
 -- Lists by place.
 use Rattle.std.proofs.Common.{◌≡◌, ℕ, zero, suc, ◌+◌, ◌<◌, ◌≤◌, ◌⊎◌, inl, inr, List, [], ◌∷◌, ◌++◌, Option, None, Some, Bool, true, false, ◌&&◌, ◌||◌, length, map, take, drop, nat_eq, refl, sym, ap, ◌∙◌, slice_get, slice_set, arith}
-use Rattle.std.specs.List.{list_all, list_any, enumerate_from, starts_with}
+use Rattle.std.specs.List.{list_all, enumerate_from, starts_with}
 use Rattle.std.specs.Option.{option_map}
 use Rattle.std.specs.Cmp.Lexicographic.{pointwise}
 use Rattle.std.proofs.lemmas.Bool.{and_from, and_parts}
 use Rattle.std.proofs.lemmas.Bool.Decides.{nat_tests}
 use Rattle.std.proofs.lemmas.Option.{slice_get-map}
 use Rattle.std.proofs.lemmas.List.Folds.{list_all-append}
+use Rattle.lucid_base.specs.Numbers.{is_in}
 use Rattle.lucid_core_laws.proofs.Parts.{same_widths}
 use Rattle.lucid_core.proofs.Grown.{get_before, get_last}
 
@@ -61,16 +62,16 @@ both_all one two (x ∷ xs) h g =
 
 -- ---- places
 
-later : (k i : ℕ) → k ≤ i → nat_eq i k ≡ false → k + 1 ≤ i
+later : (k i : ℕ) → k ≤ i → nat_eq k i ≡ false → k + 1 ≤ i
 later k i low h = grind (arith, nat_tests)
 
 or_by : (a b : Bool) → (a ≡ false → b ≡ true) → a || b ≡ true
 or_by true b h = refl
 or_by false b h = h refl
 
-pub places_have : {A : Type 0} (xs : List A) (k i : ℕ) → k ≤ i → i < k + length xs → list_any (nat_eq i) (map (λ p. p.0) (enumerate_from k xs)) ≡ true
+pub places_have : {A : Type 0} (xs : List A) (k i : ℕ) → k ≤ i → i < k + length xs → is_in i (map (λ p. p.0) (enumerate_from k xs)) ≡ true
 places_have [] k i low high = absurd (omega (arith, low, high))
-places_have (x ∷ xs) k i low high = or_by (nat_eq i k) _ (λ h. places_have xs (k + 1) i (later k i low h) (omega (arith, high)))
+places_have (x ∷ xs) k i low high = or_by (nat_eq k i) _ (λ h. places_have xs (k + 1) i (later k i low h) (omega (arith, high)))
 
 pub places_after : {A : Type 0} (test : ℕ → Bool) (xs : List A) (k n : ℕ) → ((i : ℕ) → k + n ≤ i → i < k + length xs → test i ≡ true) →
     list_all test (drop n (map (λ p. p.0) (enumerate_from k xs))) ≡ true

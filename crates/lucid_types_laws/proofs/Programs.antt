@@ -14,7 +14,8 @@ use Rattle.lucid_core.specs.declared.defs.HandlerDef.{HandlerDef}
 use Rattle.lucid_core.specs.declared.defs.MemopDef.{MemopDef}
 use Rattle.lucid_core.specs.Events.{event_params}
 use Rattle.lucid_core.specs.Limits.{is_between}
-use Rattle.lucid_core.specs.Numbers.{are_in, is_in, places}
+use Rattle.lucid_base.specs.Numbers.{is_in}
+use Rattle.lucid_core.specs.Numbers.{are_in, places}
 use Rattle.lucid_core.specs.OutCount.{outs_are_few}
 use Rattle.lucid_core.specs.Parts.{CoreParts}
 use Rattle.lucid_core.specs.Uses.{body_uses}
@@ -132,7 +133,7 @@ body_suits m t arrays locals forms known names grow few params vs ks cs =
 assigned_after : (params locals : List ℕ) (xs : List Stmt) (n : ℕ) → ((i : ℕ) → length params ≤ i → i < length locals → Assigns i (xs ++ [])) → length params ≡ n →
     are_in (body_uses xs).assigns (drop n (places locals)) ≡ true
 assigned_after params locals xs n h is =
-    places_after (is_in (body_uses xs).assigns) locals 0 n (λ i low high. subst (λ (ys : List Stmt). Assigns i ys) (append-nil xs) (h i (omega (arith, low, is)) (omega (arith, high))))
+    places_after (λ (n : ℕ). is_in n (body_uses xs).assigns) locals 0 n (λ i low high. subst (λ (ys : List Stmt). Assigns i ys) (append-nil xs) (h i (omega (arith, low, is)) (omega (arith, high))))
 
 always : {a : Option Ty} {t : Option ValueType} {r : Ending} → Answers a t r → is_some (answer_width t) ≡ true → on_every_path r ≡ true
 always (types.void r) h = absurd (cc)

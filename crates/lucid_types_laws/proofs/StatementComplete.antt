@@ -4,7 +4,7 @@ use Rattle.std.proofs.lemmas.Bool.{eq-eqb, lt-ltb}
 use Rattle.std.proofs.lemmas.List.{append-nil}
 use Rattle.lucid_core.specs.declared.body.Expr.{Expr}
 use Rattle.lucid_core.specs.declared.body.Stmt.TheVariants as core
-use Rattle.lucid_core.specs.Numbers.{are_distinct}
+use Rattle.lucid_base.specs.Numbers.{all_differ}
 use Rattle.lucid_core.specs.Texts.{holes_of}
 use Rattle.lucid_core.specs.declared.ending.Ending.{Ending}
 use Rattle.lucid_core.specs.declared.ending.Ending.TheVariants.{Never, Sometimes, Always}
@@ -99,9 +99,9 @@ mutual
   taken {a} (rule.choose s m x ys z c b d k of both) =
       let r = branches both in at (if_is x ys z) a s m ∙ rw (complete.typed of, r.first, r.rest, r.whole c) refl
   taken {a} (rule.matched s m x w c y ys None b k of distinct all) =
-      at (match_is x (y ∷ ys)) a s m ∙ rw (ap are_distinct (numbers_are (y ∷ ys)) ∙ distinct, complete.free of, width of, cases all) refl
+      at (match_is x (y ∷ ys)) a s m ∙ rw (ap all_differ (numbers_are (y ∷ ys)) ∙ distinct, complete.free of, width of, cases all) refl
   taken {a} (rule.matched s m x w c y ys (Some zs) b k of distinct all) =
-      at (match_last_is x (y ∷ ys) zs) a s m ∙ rw (ap are_distinct (numbers_are (y ∷ ys)) ∙ distinct, complete.free of, width of, cases all) refl
+      at (match_last_is x (y ∷ ys) zs) a s m ∙ rw (ap all_differ (numbers_are (y ∷ ys)) ∙ distinct, complete.free of, width of, cases all) refl
 
   goes : {a : Option ValueType} {s : Names} {m : Numbered} {xs : List S} {b : Body} {k : Numbered} → Block a s m xs b k → Goes a s m xs b k
   goes (rule.end s m) = record { steps = []; behind = None; ran = refl; joined = refl; all = refl }

@@ -5,7 +5,7 @@ use Rattle.std.proofs.lemmas.Bool.{eqb-true, ltb-true}
 use Rattle.lucid_core.specs.declared.body.Expr.{Expr}
 use Rattle.lucid_core.specs.declared.body.Stmt.{Stmt}
 use Rattle.lucid_core.specs.declared.body.Stmt.TheVariants as core
-use Rattle.lucid_core.specs.Numbers.{are_distinct}
+use Rattle.lucid_base.specs.Numbers.{all_differ}
 use Rattle.lucid_core.specs.Texts.{holes_of}
 use Rattle.lucid_memop.proofs.Parts.{bound, same_some}
 use Rattle.lucid_core.specs.declared.ending.Ending.{Ending}
@@ -301,10 +301,10 @@ matched x (y ∷ ys) zs all end a s m b k h =
     let w = or_32 ((reading x).lead s) in
     let c = bound _ _ (b, k) h in
     let chain = bound (take.cases (taken_cases (y ∷ ys)) (option_map (map taking) zs) (length m.locals) w a s (one_local w m)) _ (b, k) c.2 in
-    let distinct = when_parts (are_distinct (map (λ z. z.0) (taken_cases (y ∷ ys)))) (read.free (reading x) s) c.0 c.1 in
+    let distinct = when_parts (all_differ (map (λ z. z.0) (taken_cases (y ∷ ys)))) (read.free (reading x) s) c.0 c.1 in
     subst (λ (z : Body × Numbered). Statement a s m (form.Match x (y ∷ ys) zs) z.0 z.1) (same_some _ (b, k) chain.2)
     (rule.matched s m x w c.0 y ys zs chain.0.0 chain.0.1 (sound.free_is x s c.0 distinct.1)
-    (sym (ap are_distinct (numbers_are (y ∷ ys))) ∙ distinct.0)
+    (sym (ap all_differ (numbers_are (y ∷ ys))) ∙ distinct.0)
     (cases (y ∷ ys) zs all end a s (one_local w m) (length m.locals) w chain.0.0 chain.0.1 chain.1))
 
 match : (x : E) (ys : List (ℕ × List S)) (zs : Option (List S)) → InCases P ys → InLast P zs → P (form.Match x ys zs)

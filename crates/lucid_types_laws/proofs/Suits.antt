@@ -1,12 +1,10 @@
 -- What the names in scope stand for is there, at a place in a core.
-use Rattle.std.proofs.Common.{◌≡◌, ℕ, List, [], ◌∷◌, ◌++◌, Option, Some, Bool, true, false, if◌then◌else◌, bytes_eq, nat_eq, take, refl, subst, ◌∙◌, slice_get}
-use Rattle.std.specs.List.{list_any}
-use Rattle.std.proofs.lemmas.List.Folds.{list_any-append}
-use Rattle.std.proofs.lemmas.Bool.{or_left, or_right, eq-eqb}
+use Rattle.std.proofs.Common.{◌≡◌, ℕ, List, ◌∷◌, Option, Some, Bool, true, false, if◌then◌else◌, bytes_eq, take, subst, slice_get}
+use Rattle.lucid_base.proofs.NumbersLemmas.{in_first}
 use Rattle.lucid_base.specs.Memop.{memop_fits}
 use Rattle.lucid_core.specs.declared.defs.FunDef.{FunDef}
 use Rattle.lucid_core.specs.Limits.{are_members}
-use Rattle.lucid_core.specs.Numbers.{is_in}
+use Rattle.lucid_base.specs.Numbers.{is_in}
 use Rattle.lucid_core.specs.Typing.{cell_width}
 use Rattle.lucid_core_laws.specs.Place.{Place, behind}
 use Rattle.lucid_core_laws.specs.StmtNodes.{IsEvent}
@@ -28,7 +26,7 @@ pub record IsFun (funs : List FunDef) (k : ℕ) (ps : List Param) (t : Option Va
 
 pub record IsLocal (p : Place) (i : ℕ) (t : ValueType) : Type 0 where
   pub there : slice_get p.scope.locals i ≡ Some (width_of t)
-  pub assigned : is_in p.known i ≡ true
+  pub assigned : is_in i p.known ≡ true
 
 -- What a name stands for is there, and a local is assigned.
 abbrev pub Holds : Place → Entry → Type 0
@@ -61,15 +59,6 @@ suits_more p s d h x = record { core = h.core; holds = seen_more (Holds p) s d h
 
 -- ---- more is assigned
 
-pub still_in : (xs ys : List ℕ) (i : ℕ) → is_in xs i ≡ true → is_in (xs ++ ys) i ≡ true
-still_in xs ys i h = list_any-append (nat_eq i) xs ys ∙ or_left _ _ h
-
-pub is_new : (xs ys : List ℕ) (i : ℕ) → is_in ys i ≡ true → is_in (xs ++ ys) i ≡ true
-is_new xs ys i h = list_any-append (nat_eq i) xs ys ∙ or_right (list_any (nat_eq i) xs) _ h
-
-pub itself_in : (i : ℕ) → is_in (i ∷ []) i ≡ true
-itself_in i = or_left (nat_eq i i) false (eq-eqb i i refl)
-
 pub event_still : (p : Place) (k : List ℕ) (i : ℕ) (ws : List ℕ) → IsEvent p i ws → IsEvent (behind p k) i ws
 event_still p k i ws h = record { there = h.there; few = h.few }
 
@@ -79,7 +68,7 @@ holds_still p k (entry.Array array w) h = h
 holds_still p k (entry.Memop m) h = h
 holds_still p k (entry.Event i ws) h = event_still p k i ws h
 holds_still p k (entry.Fun f ps t) h = h
-holds_still p k (entry.Local i t) h = record { there = h.there; assigned = still_in p.known k i h.assigned }
+holds_still p k (entry.Local i t) h = record { there = h.there; assigned = in_first p.known k i h.assigned }
 holds_still p k (entry.Group members) h = h
 
 pub suits_behind : (p : Place) (k : List ℕ) (s : Names) → Suits p s → Suits (behind p k) s

@@ -6,7 +6,8 @@ use Rattle.lucid_base.specs.Memop.{memop_fits}
 use Rattle.lucid_base.specs.declared.array.ArrayName.TheVariants as array_name
 use Rattle.lucid_core.specs.declared.defs.FunDef.{FunDef}
 use Rattle.lucid_core.specs.Limits.{are_members}
-use Rattle.lucid_core.specs.Numbers.{is_in, places}
+use Rattle.lucid_base.specs.Numbers.{is_in}
+use Rattle.lucid_core.specs.Numbers.{places}
 use Rattle.lucid_core.proofs.WidthLists.{passes_at}
 use Rattle.lucid_core_laws.specs.Place.{Place}
 use Rattle.lucid_parse_tree.specs.declared.tree.P.{P}
@@ -92,7 +93,7 @@ module _ (t : Tops) (params locals : List ℕ) (forms : List (List ℕ)) (known 
 -- At a place whose locals from the first number on, and whose array parameters from the second on, are these parameters.
 record Has (q : Place) (i j : ℕ) (qs : List Param) : Type 0 where
   locals : (n w : ℕ) → slice_get (value_widths qs) n ≡ Some w → slice_get q.scope.locals (i + n) ≡ Some w
-  known : (n w : ℕ) → slice_get (value_widths qs) n ≡ Some w → is_in q.known (i + n) ≡ true
+  known : (n w : ℕ) → slice_get (value_widths qs) n ≡ Some w → is_in (i + n) q.known ≡ true
   arrays : (n w : ℕ) → slice_get (cell_widths qs) n ≡ Some w → slice_get q.scope.params (j + n) ≡ Some w
 
 at_start : (i : ℕ) → i + 0 ≡ i
@@ -105,11 +106,11 @@ parameters : {i j : ℕ} {s k : Names} {ps : List P} {qs : List Param} → Param
 parameters (rule.none i j s) q has h = h
 parameters (rule.value i j s k t v n ps qs ok rest) q has h =
     let there = subst (λ (x : ℕ). slice_get q.scope.locals x ≡ Some (width_of v)) (at_start i) (has.locals 0 (width_of v) refl) in
-    let known = subst (λ (x : ℕ). is_in q.known x ≡ true) (at_start i) (has.known 0 (width_of v) refl) in
+    let known = subst (λ (x : ℕ). is_in x q.known ≡ true) (at_start i) (has.known 0 (width_of v) refl) in
     parameters rest q
     (record {
       locals = λ x w is. subst (λ (y : ℕ). slice_get q.scope.locals y ≡ Some w) (one_on i x) (has.locals (suc x) w is);
-      known = λ x w is. subst (λ (y : ℕ). is_in q.known y ≡ true) (one_on i x) (has.known (suc x) w is);
+      known = λ x w is. subst (λ (y : ℕ). is_in y q.known ≡ true) (one_on i x) (has.known (suc x) w is);
       arrays = has.arrays;
     })
     (suits_more q s (called n (entry.Local i v)) h (record { there = there; assigned = known }))
@@ -130,9 +131,9 @@ parameters_suit {qs = qs} of q h locals known arrays =
     parameters of q
     (record {
       locals = λ n w is. subst (λ (x : ℕ). slice_get q.scope.locals x ≡ Some w) (front n) (locals n w is);
-      known = λ n w is. subst (λ (xs : List ℕ). is_in xs (0 + n) ≡ true) (sym known) (there n w is);
+      known = λ n w is. subst (λ (xs : List ℕ). is_in (0 + n) xs ≡ true) (sym known) (there n w is);
       arrays = λ n w is. subst (λ (x : ℕ). slice_get q.scope.params x ≡ Some w) (front n) (arrays n w is);
     }) h
   where
-    there : (n w : ℕ) → slice_get (value_widths qs) n ≡ Some w → is_in (places (value_widths qs)) (0 + n) ≡ true
+    there : (n w : ℕ) → slice_get (value_widths qs) n ≡ Some w → is_in (0 + n) (places (value_widths qs)) ≡ true
     there n w is = let within = slice_get_within (value_widths qs) n w is in places_have (value_widths qs) 0 (0 + n) (omega arith) (omega (arith, within))

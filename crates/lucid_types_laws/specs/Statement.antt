@@ -4,7 +4,7 @@ use Rattle.lucid_core.specs.declared.body.Expr.{Expr}
 use Rattle.lucid_core.specs.declared.body.Expr.TheVariants as expr
 use Rattle.lucid_core.specs.declared.body.Stmt.{Stmt}
 use Rattle.lucid_core.specs.declared.body.Stmt.TheVariants as core
-use Rattle.lucid_core.specs.Numbers.{are_distinct}
+use Rattle.lucid_base.specs.Numbers.{all_differ}
 use Rattle.lucid_core.specs.Texts.{holes_of}
 use Rattle.lucid_core.specs.Typing.{◌>>=◌}
 use Rattle.lucid_core.specs.declared.ending.Ending.{Ending}
@@ -203,7 +203,7 @@ is_empty (x ∷ xs) = false
 -- There is a case, and no number twice.
 abbrev pub matched : E → List (ℕ × List Taking) → Option (List Taking) → Blocking
 matched x cs last a s m = do
-  c ← when (not (is_empty cs) && are_distinct (map (λ z. z.0) cs)) (free (reading x) s)
+  c ← when (not (is_empty cs) && all_differ (map (λ z. z.0) cs)) (free (reading x) s)
   b ← cases cs last (length m.locals) (or_32 ((reading x).lead s)) a s (one_local (or_32 ((reading x).lead s)) m)
   Some (before (core.Assign (length m.locals) c ∷ []) b.0, b.1)
 

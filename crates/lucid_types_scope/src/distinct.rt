@@ -1,6 +1,6 @@
 // Whether numbers are distinct: those of the cases of a `match`, and the members of a group.
 ghost use Rattle.std.specs.Prelude.{◌≡◌, IfOk};
-ghost use Rattle.lucid_core.specs.Numbers.{are_distinct};
+ghost use Rattle.lucid_base.specs.Numbers.{all_differ};
 
 use lucid_base::Memory;
 use lucid_seed::{Seed, Seeded};
@@ -19,7 +19,7 @@ fn seeded_by(numbers: &[u64]) -> Seeded {
 /// Returns whether no number occurs twice. The numbers are the seed of their table, so colliding ones can't be chosen beforehand.
 #[tactic(auto, using(crate::proofs::Apart::one_more, crate::proofs::Apart::twice, crate::proofs::Apart::first_of))]
 pub fn are_distinct(alloc: Global, numbers: &[u64]) -> Result<bool, Memory>
-    ensures { IfOk result (λ distinct. distinct ≡ are_distinct numbers.now) }
+    ensures { IfOk result (λ distinct. distinct ≡ all_differ numbers.now) }
 {
     // The numbers from the last back to this place.
     let mut seen: HashSet<u64, Seeded> = HashSet::with_hasher(alloc, seeded_by(numbers));

@@ -2,7 +2,7 @@
 use Rattle.std.proofs.Common.{◌≡◌, ◌≢◌, ◌⊎◌, inl, inr, ℕ, List, [], ◌∷◌, Option, None, Some, true, length, map, refl, sym, ap, subst, ◌∙◌}
 use Rattle.lucid_core.specs.declared.body.Expr.{Expr}
 use Rattle.lucid_core.specs.declared.body.Touch.{Touch}
-use Rattle.lucid_core.specs.Numbers.{are_distinct}
+use Rattle.lucid_base.specs.Numbers.{all_differ}
 use Rattle.lucid_core.specs.Texts.{holes_of}
 use Rattle.lucid_core.specs.declared.ending.Ending.TheVariants.{Never, Always}
 use Rattle.lucid_parse_tree.specs.declared.tree.C.{C, roll-C}
@@ -88,7 +88,7 @@ OpenedStatement a s m (S-F.Return x) b = OpenReturn a s x × (b.ending ≡ Alway
 OpenedStatement a s m (S-F.Generate x) b = (g : Sending) × Sends s x g
 OpenedStatement a s m (S-F.Printf text xs) b = (cs : List Expr) × AllFree s xs cs × (length cs ≡ holes_of text)
 OpenedStatement a s m (S-F.Match x cases last) b =
-    (w : ℕ) × (c : Expr) × Free s x w c × (are_distinct (map (λ z. z.0) cases) ≡ true)
+    (w : ℕ) × (c : Expr) × Free s x w c × (all_differ (map (λ z. z.0) cases) ≡ true)
     × ((i : ℕ) × (d : Body) × (k : Numbered) × Cases a s (one_local w m) i w cases last d k) × (cases ≢ [])
 
 back : (a : Option ValueType) (s : Names) (m : Numbered) (x : S) (b : Body) (y : S-F No S C) → out-S x ≡ y → OpenedStatement a s m y b → OpenedStatement a s m (out-S x) b

@@ -7,7 +7,7 @@ use Rattle.lucid_core.specs.declared.body.Expr.TheVariants as expr
 use Rattle.lucid_core.specs.declared.body.Stmt.{Stmt}
 use Rattle.lucid_core.specs.declared.body.Stmt.TheVariants as core
 use Rattle.lucid_core.specs.declared.body.Touch.{Touch}
-use Rattle.lucid_core.specs.Numbers.{are_distinct}
+use Rattle.lucid_base.specs.Numbers.{all_differ}
 use Rattle.lucid_core.specs.Texts.{holes_of}
 use Rattle.lucid_core.specs.declared.ending.Ending.{Ending}
 use Rattle.lucid_core.specs.declared.ending.Ending.TheVariants.{Never, Always}
@@ -90,7 +90,7 @@ mutual
         Statement a s m (if_of x ys other) (one (core.If c b.steps d.steps) (of_either b.ending d.ending)) k
     -- the test is assigned to a local of its own, which has no name
     matched : (s : Names) (m : Numbered) (x : E) (w : ℕ) (c : Expr) (y : ℕ × List S) (ys : List (ℕ × List S)) (last : Option (List S))
-        (b : Body) (k : Numbered) → Free s x w c → are_distinct (map (λ z. z.0) (y ∷ ys)) ≡ true →
+        (b : Body) (k : Numbered) → Free s x w c → all_differ (map (λ z. z.0) (y ∷ ys)) ≡ true →
         Cases a s (one_local w m) (length m.locals) w (y ∷ ys) last b k →
         Statement a s m (statement.Match x (y ∷ ys) last) (before (core.Assign (length m.locals) c ∷ []) b) k
 

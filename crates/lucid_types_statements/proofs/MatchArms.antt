@@ -2,7 +2,7 @@
 use Rattle.std.proofs.Common.{◌≡◌, ℕ, ◌^◌, List, [], ◌∷◌, Option, None, Some, Bool, option_map, ◌&&◌, not, map, length, nat_lt, refl, ap, ◌∙◌}
 use Rattle.lucid_core.specs.declared.body.Expr.{Expr}
 use Rattle.lucid_core.specs.declared.body.Stmt.TheVariants.{Assign, If}
-use Rattle.lucid_core.specs.Numbers.{are_distinct}
+use Rattle.lucid_base.specs.Numbers.{all_differ}
 use Rattle.lucid_core.specs.Typing.{◌>>=◌}
 use Rattle.lucid_core.specs.Endings.{of_either}
 use Rattle.lucid_parse_tree.specs.declared.tree.E.{E}
@@ -74,10 +74,10 @@ there_stay [] = refl
 there_stay (c ∷ cs) = refl
 
 tested_is : (x : E) (cs : List (ℕ × List S)) (s : Names) →
-    when (not (is_empty (cases_taken cs)) && are_distinct (map (λ z. z.0) (cases_taken cs))) (free (reading x) s) ≡ value_tested x (map (λ z. z.0) cs) s
+    when (not (is_empty (cases_taken cs)) && all_differ (map (λ z. z.0) (cases_taken cs))) (free (reading x) s) ≡ value_tested x (map (λ z. z.0) cs) s
 tested_is x cs s =
-    ap (λ (b : Bool). when (not b && are_distinct (map (λ z. z.0) (cases_taken cs))) (free (reading x) s)) (there_stay cs)
-    ∙ ap (λ (ns : List ℕ). when (not (is_empty (map (λ z. z.0) cs)) && are_distinct ns) (free (reading x) s)) (numbers_stay cs)
+    ap (λ (b : Bool). when (not b && all_differ (map (λ z. z.0) (cases_taken cs))) (free (reading x) s)) (there_stay cs)
+    ∙ ap (λ (ns : List ℕ). when (not (is_empty (map (λ z. z.0) cs)) && all_differ ns) (free (reading x) s)) (numbers_stay cs)
 
 -- The choices of a `match` behind its value.
 abbrev pub valued : ℕ → Expr → Body × Numbered → Option (Body × Numbered)

@@ -1,7 +1,7 @@
 -- The value that a `match` tests.
 use Rattle.std.specs.Prelude.{◌≡◌, ℕ, List, Option, Some, Result, Ok, Err, ◌&&◌, not, length}
 use Rattle.lucid_core.specs.declared.body.Expr.{Expr}
-use Rattle.lucid_core.specs.Numbers.{are_distinct}
+use Rattle.lucid_base.specs.Numbers.{all_differ}
 use Rattle.lucid_parse_tree.specs.declared.tree.E.{E}
 use Rattle.lucid_types_spec.specs.Block.{Numbered, one_local}
 use Rattle.lucid_types_spec.specs.Names.{Names}
@@ -15,7 +15,7 @@ use Rattle.lucid_types_statements.specs.declared.arms.Tested.{Tested}
 
 -- The value that is tested, where there is a case and no number twice.
 abbrev pub value_tested : E → List ℕ → Names → Option Expr
-value_tested x numbers s = when (not (is_empty numbers) && are_distinct numbers) (free (reading x) s)
+value_tested x numbers s = when (not (is_empty numbers) && all_differ numbers) (free (reading x) s)
 
 -- The value is put into a local of its width.
 abbrev pub Begins : Result Tested Fault → E → List ℕ → Names → Numbered → Numbered → Type 0
