@@ -12,7 +12,7 @@ use Rattle.lucid_pipe_laws.specs.Places as places
 use Rattle.lucid_pipe_laws.specs.Rows.{Row, Steps, row, whole}
 use Rattle.lucid_pipe_laws.proofs.LooksLaw.{enters_picture, keeps_picture, leaves_picture, looks}
 use Rattle.lucid_pipe_laws.proofs.PlacesLaw as laws
-use Rattle.lucid_drive.specs.Drive.{Drive, Progress, came, entries, is_taken, moved}
+use Rattle.lucid_drive.specs.Drive.{Drive, Progress, entries, is_taken, moved}
 use Rattle.lucid_drive.specs.Driven.{DoSteps, Gone, IsDriven}
 
 module _ {A B : Type 0} where
@@ -75,10 +75,6 @@ both_true a b is = ap (λ (c : Bool). c && b) is
 pub below : (a b : ℕ) → a < b → nat_lt a b ≡ true
 below a b lt = grind (arith, nat_tests)
 
-came_is : (p : Progress) (k : ℕ) → places.came p.entered p.passed k ≡ came p k
-came_is p zero = refl
-came_is p (suc k) = refl
-
 module _ {C P : Type 0} where
   -- the cells after passes of the first entries are those after the program's steps
   folded : (parts : CoreParts) (step : Steps C P) (cells : List C) (view : List C → List (List ℕ)) (packet : Entry → P) (sent : P → Gone) (Good : List C → Type 0) (Fits : Entry → Type 0) → DoSteps parts step cells view packet sent Good Fits →
@@ -101,8 +97,7 @@ module _ {C P : Type 0} where
       let count : length (map packet (take p.entered (entries d.scene))) ≡ p.entered = length-map (take p.entered (entries d.scene)) packet ∙ length_take p.entered (entries d.scene) is.within in
       laws.places step cells (map packet (take p.entered (entries d.scene))) p.passed rows k e is.picture lt
       ∙ ap (λ (n : ℕ). nat_lt (get_or p.passed k 0) (places.came n p.passed k)) count
-      ∙ ap (λ (n : ℕ). nat_lt (get_or p.passed k 0) n) (came_is p k)
-      ∙ sym (both_true (nat_lt k (length p.passed)) (nat_lt (slice_index p.passed k) (came p k)) (below k (length p.passed) (subst (λ (n : ℕ). k < n) is.long lt)))
+      ∙ sym (both_true (nat_lt k (length p.passed)) (nat_lt (slice_index p.passed k) (places.came p.entered p.passed k)) (below k (length p.passed) (subst (λ (n : ℕ). k < n) is.long lt)))
 
   -- one goes on, one leaves, one enters
   pub goes_driven : (d : Drive) (step : Steps C P) (cells : List C) (packet : Entry → P) (p : Progress) (rows : List (Row C P)) (k : ℕ) (a b : C) (x : P) → IsDriven d step cells packet p rows →

@@ -10,23 +10,17 @@ use Rattle.lucid_pipe.specs.Packets.{Packet, left_by}
 use Rattle.lucid_pipe.specs.Pipe.{PipeParts, executed}
 use Rattle.lucid_pipe.proofs.Settles.{there_full}
 use Rattle.lucid_drive.specs.Changes.{Moved}
-use Rattle.lucid_drive.specs.Drive.{Drive, Progress, block_of, came, flight_text, is_taken, left, left_text, moved, pieces}
+use Rattle.lucid_drive.specs.Drive.{Drive, Progress, block_of, flight_text, is_taken, left, left_text, moved}
+use Rattle.lucid_log.proofs.PiecesLemmas.{pieces-next, pieces-none}
+use Rattle.lucid_log.specs.Pieces.{pieces}
+use Rattle.lucid_pipe_laws.specs.Places.{came}
 use Rattle.lucid_drive.specs.Standing.{IsAt, drive_of}
 use Rattle.lucid_drive.proofs.Standing.{one_more_came}
 
 -- ---- the remaining text
 
-piece_first : (piece : ℕ → List ℕ) (i n : ℕ) → i < n → pieces piece i (n - i) ≡ piece i ++ pieces piece (i + 1) (n - (i + 1))
-piece_first piece i n lt = ap (pieces piece i) more
-  where
-    more : n - i ≡ suc (n - (i + 1))
-    more = omega (arith, lt)
-
 pub no_flight : (d : Drive) (p : Progress) → p.entered ≤ left p → flight_text d p ≡ []
-no_flight d p le = ap (pieces (block_of d) (left p)) none
-  where
-    none : p.entered - left p ≡ 0
-    none = omega (arith, le)
+no_flight d p le = pieces-none (block_of d) (left p) p.entered le
 
 below : (a b : ℕ) → nat_lt a b ≡ true → a < b
 below a b is = grind (arith, nat_tests)
@@ -40,7 +34,7 @@ flight_next parts scene p pipe is k taken = ⊎_elim on last (cases_lt (k + 1) (
     d = drive_of parts pipe scene
 
     within : k < length p.passed
-    within = below k (length p.passed) (and_parts (nat_lt k (length p.passed)) (nat_lt (slice_index p.passed k) (came p k)) taken).0
+    within = below k (length p.passed) (and_parts (nat_lt k (length p.passed)) (nat_lt (slice_index p.passed k) (came p.entered p.passed k)) taken).0
 
     long : length (moved p k).passed ≡ length p.passed
     long = length-set p.passed k (slice_index p.passed k + 1)
@@ -64,7 +58,7 @@ flight_next parts scene p pipe is k taken = ⊎_elim on last (cases_lt (k + 1) (
         let is_left : left_text (drive_of parts pipe scene) p k ≡ block_of (drive_of parts pipe scene) (slice_index p.passed k)
         = ap (λ (b : Bool). if b then block_of (drive_of parts pipe scene) (slice_index p.passed k) else []) (eq-eqb (k + 1) (length p.passed) (omega (arith, le, within))) in
         ap (λ (n : ℕ). pieces (block_of (drive_of parts pipe scene)) n (p.entered - n)) here
-        ∙ piece_first (block_of (drive_of parts pipe scene)) (slice_index p.passed k) p.entered (one_more_came parts scene p pipe is k taken)
+        ∙ pieces-next (block_of (drive_of parts pipe scene)) (slice_index p.passed k) p.entered (one_more_came parts scene p pipe is k taken)
         ∙ ap (λ (n : ℕ). block_of (drive_of parts pipe scene) (slice_index p.passed k) ++ pieces (block_of (drive_of parts pipe scene)) n (p.entered - n)) (sym next)
         ∙ ap (λ (l : List ℕ). l ++ flight_text (drive_of parts pipe scene) (moved p k)) (sym is_left)
 

@@ -13,7 +13,7 @@ use Rattle.lucid_core.specs.Step as core
 use Rattle.lucid_core.specs.Step.{Entry}
 use Rattle.lucid_pipe.specs.Packets.{Packet, left_by, told}
 use Rattle.lucid_pipe.specs.Pipe.{PipeParts, comes_out, empty_pipe, entered, executed, gone, packet_at}
-use Rattle.lucid_pipe.specs.Rows.{own, owns, pipe_rows, rows_of, steps_of}
+use Rattle.lucid_pipe.specs.Rows.{AreOwned, Cells, first_cells, own, owns, pipe_rows, rows_of, steps_of}
 use Rattle.lucid_pipe_laws.specs.Moves.{entered_by, goes, through}
 use Rattle.lucid_pipe_laws.specs.Rows.{Row, Steps, after_first, row}
 use Rattle.lucid_pipe.specs.declared.passed.Passed.{Passed}
@@ -24,7 +24,7 @@ use Rattle.lucid_normal_spec.specs.Stands.{StandsFor}
 use Rattle.lucid_drive.specs.Drive.{Progress, begun, entries, moved}
 use Rattle.lucid_drive.specs.Driven.{Gone, IsDriven}
 use Rattle.lucid_pipe_laws.specs.Picture.{IsPicture}
-use Rattle.lucid_drive.specs.Standing.{Cells, Fits, IsAt, IsGood, drive_of, first_cells, gone_of, packet_of}
+use Rattle.lucid_drive.specs.Standing.{Fits, IsAt, drive_of, gone_of, packet_of}
 use Rattle.lucid_drive.proofs.Driving.{all_at, enters_driven, goes_driven, leaves_driven, left_sends, length_take, take_at, take_more}
 use Rattle.lucid_drive.proofs.Standing.{Laws, do_steps, one_more_came, row_at, rows_many, stages, step, taken}
 
@@ -130,7 +130,7 @@ module _ (parts : CoreParts) (scene : Scene) (p : Progress) (pipe : PipeParts) (
       let within : j < length es = omega (arith, lt, is.driven.within) in
       let e = get_or es j none_entry in
       let own_is : e ≡ get_or es j e = get_or_same es j none_entry e within in
-      let sends = left_sends (drive_of parts pipe scene) st (first_cells pipe.placed) _ (packet_of pipe.placed) gone_of (IsGood pipe.placed parts) (Fits parts) (do_steps parts pipe stay laws is.stands_for is.arrays)
+      let sends = left_sends (drive_of parts pipe scene) st (first_cells pipe.placed) _ (packet_of pipe.placed) gone_of (AreOwned pipe.placed parts.arrays) (Fits parts) (do_steps parts pipe stay laws is.stands_for is.arrays)
       p rows k (mine k) x e is.fit is.driven (here_row k (Some x) full).1 end lt own_is in
       record {
         entry = e;
@@ -175,6 +175,7 @@ rows_empty (s ∷ stages) cells = ap suc (rows_empty stages cells)
 
 pub begins_at : (parts : CoreParts) (scene : Scene) (placed : PlacedParts) → StandsFor placed.code parts → placed.code.arrays ≡ parts.arrays →
     IsAt parts scene (begun (drive_of parts (empty_pipe placed) scene)) (empty_pipe placed)
+unfolding first_cells
 begins_at parts scene placed stands_for arrays = record {
   stands_for = stands_for;
   arrays = arrays;

@@ -21,7 +21,7 @@ use Rattle.lucid_core.specs.Step.{Entry}
 use Rattle.lucid_pipe.specs.Laws.{MovesAsRows}
 use Rattle.lucid_pipe.specs.Packets.{Packet, left_by, meets, sent_by}
 use Rattle.lucid_pipe.specs.Pipe.{PipeParts, packet_at, sizes}
-use Rattle.lucid_pipe.specs.Rows.{by_array, own, owns, pipe_rows, rows_of, steps_of}
+use Rattle.lucid_pipe.specs.Rows.{AreOwned, Cells, by_array, first_cells, own, owns, pipe_rows, rows_of, steps_of}
 use Rattle.lucid_pipe_laws.specs.Rows.{Row, Steps, row, whole}
 use Rattle.lucid_code.specs.Inputs.{IsInput}
 use Rattle.lucid_tables.specs.Numbers.{is_in}
@@ -29,10 +29,11 @@ use Rattle.lucid_tables.specs.Placed.{PlacedParts, stage_of}
 use Rattle.lucid_tables.specs.Stages.{pass, pass_from}
 use Rattle.lucid_tables.specs.declared.stage.StageCode.{StageCode}
 use Rattle.lucid_normal_spec.specs.Stands.{Happens, StandsFor}
-use Rattle.lucid_drive.specs.Drive.{Drive, Progress, came, entries, is_taken}
+use Rattle.lucid_drive.specs.Drive.{Drive, Progress, entries, is_taken}
+use Rattle.lucid_pipe_laws.specs.Places.{came}
 use Rattle.lucid_drive.specs.Driven.{DoSteps}
 use Rattle.lucid_pipe_laws.specs.Picture as picture
-use Rattle.lucid_drive.specs.Standing.{Cells, Fits, IsAt, IsGood, drive_of, first_cells, gone_of, packet_of}
+use Rattle.lucid_drive.specs.Standing.{Fits, IsAt, drive_of, gone_of, packet_of}
 use Rattle.lucid_drive.proofs.Driving.{after_is, all_take, length_take, look_is, take_take, taken_is}
 use Rattle.lucid_pipe_laws.proofs.LooksLaw.{no_more}
 use Rattle.lucid_pipe.proofs.Beside.{same_cells}
@@ -68,7 +69,8 @@ fit_long (a ∷ arrays) [] is = absurd (false_true is)
 fit_long (a ∷ arrays) (r ∷ cells) is = ap suc (fit_long arrays cells (and_parts (Rattle.lucid_base.specs.Cells.row_fits a r) (Rattle.lucid_base.specs.Cells.rows_fit arrays cells) is).1)
 
 pub do_steps : (parts : CoreParts) (pipe : PipeParts) → CellsStayFit parts → Laws pipe → StandsFor pipe.placed.code parts → pipe.placed.code.arrays ≡ parts.arrays →
-    DoSteps parts (steps_of pipe.placed.code pipe.placed.stages) (first_cells pipe.placed) (by_array pipe.placed.code.arrays pipe.placed.stages) (packet_of pipe.placed) gone_of (IsGood pipe.placed parts) (Fits parts)
+    DoSteps parts (steps_of pipe.placed.code pipe.placed.stages) (first_cells pipe.placed) (by_array pipe.placed.code.arrays pipe.placed.stages) (packet_of pipe.placed) gone_of (AreOwned pipe.placed parts.arrays) (Fits parts)
+unfolding first_cells
 do_steps parts pipe stay laws stands_for arrays = record {
   start = laws.rows.view zeros zeros_long (λ g is. refl) ∙ ap zero_cells arrays;
   good = record { all = zeros; fit = subst (λ (a : List ArrayDef). IsTrue (cells_fit parts (zero_cells a))) (sym arrays) stay.zero; parted = refl; long = zeros_long; rest = λ g is. refl };
@@ -84,9 +86,9 @@ do_steps parts pipe stay laws stands_for arrays = record {
     zeros_long : length zeros ≡ length placed.code.arrays
     zeros_long = length-map placed.code.arrays (λ (a : ArrayDef). replicate a.size 0)
 
-    passed : (cs : List Cells) (e : Entry) → IsGood placed parts cs → Fits parts e →
+    passed : (cs : List Cells) (e : Entry) → AreOwned placed parts.arrays cs → Fits parts e →
         (let w = whole (steps_of placed.code placed.stages) cs (packet_of placed e) in let s = core.step parts (by_array placed.code.arrays placed.stages cs) e.now e.me e.event in
-        (by_array placed.code.arrays placed.stages w.0 ≡ s.cells) × (gone_of w.1 ≡ record { entry = e; outs = s.outs }) × IsGood placed parts w.0)
+        (by_array placed.code.arrays placed.stages w.0 ≡ s.cells) × (gone_of w.1 ≡ record { entry = e; outs = s.outs }) × AreOwned placed parts.arrays w.0)
     passed cs e good fits =
         subst (Goal cs) (sym made) (
           subst (λ (c : Cells). by_array placed.code.arrays placed.stages (owns placed.stages m.cells) ≡ (core.step parts c e.now e.me e.event).cells) (sym now_is) (laws.rows.view m.cells long rest ∙ cells),
@@ -97,7 +99,7 @@ do_steps parts pipe stay laws stands_for arrays = record {
       where
         Goal : List Cells → List Cells × Packet → Type 0
         Goal l w = (let s = core.step parts (by_array placed.code.arrays placed.stages l) e.now e.me e.event in
-            (by_array placed.code.arrays placed.stages w.0 ≡ s.cells) × (gone_of w.1 ≡ record { entry = e; outs = s.outs }) × IsGood placed parts w.0)
+            (by_array placed.code.arrays placed.stages w.0 ≡ s.cells) × (gone_of w.1 ≡ record { entry = e; outs = s.outs }) × AreOwned placed parts.arrays w.0)
 
         m : Machine
         m = pass_from placed.code placed.stages (meets good.all (packet_of placed e))
@@ -189,7 +191,7 @@ module _ (parts : CoreParts) (scene : Scene) (p : Progress) (pipe : PipeParts) (
       past : length stages ≤ k → is_some (packet_at pipe k) ≡ is_taken p k
       past le =
           ap (λ (o : Option (Option Packet)). is_some (option_and_then (λ slot. slot) o)) (beyond pipe.slots k (subst (λ (n : ℕ). n ≤ k) (sym is.long) le))
-          ∙ sym (ap (λ (b : Bool). b && nat_lt (slice_index p.passed k) (came p k)) (le-ltb k (length p.passed) (subst (λ (n : ℕ). n ≤ k) (sym passed_many) le)))
+          ∙ sym (ap (λ (b : Bool). b && nat_lt (slice_index p.passed k) (came p.entered p.passed k)) (le-ltb k (length p.passed) (subst (λ (n : ℕ). n ≤ k) (sym passed_many) le)))
 
   -- no more passed than entered
   pub few_passed : (k : ℕ) → slice_index p.passed k ≤ p.entered
@@ -197,19 +199,19 @@ module _ (parts : CoreParts) (scene : Scene) (p : Progress) (pipe : PipeParts) (
       subst (λ (n : ℕ). slice_index p.passed k ≤ n) (length-map (take p.entered (entries scene)) (packet_of pipe.placed) ∙ length_take p.entered (entries scene) is.driven.within)
       (no_more step (first_cells pipe.placed) (map (packet_of pipe.placed) (take p.entered (entries scene))) p.passed (pipe_rows pipe) k is.driven.picture)
 
-  few_came : (k : ℕ) → came p k ≤ p.entered
+  few_came : (k : ℕ) → came p.entered p.passed k ≤ p.entered
   few_came zero = omega arith
   few_came (suc k) = few_passed k
 
   -- if a packet is there, fewer passed than entered
   pub one_more_came : (k : ℕ) → is_taken p k ≡ true → slice_index p.passed k < p.entered
-  one_more_came k is = omega (arith, few_came k, below_true (slice_index p.passed k) (came p k) (and_parts (nat_lt k (length p.passed)) (nat_lt (slice_index p.passed k) (came p k)) is).1)
+  one_more_came k is = omega (arith, few_came k, below_true (slice_index p.passed k) (came p.entered p.passed k) (and_parts (nat_lt k (length p.passed)) (nat_lt (slice_index p.passed k) (came p.entered p.passed k)) is).1)
 
   -- the cells of an array are those after as many whole steps as packets passed its stage
   module _ (stay : CellsStayFit parts) (laws : Laws pipe) where
     so_far : (n : ℕ) → n ≤ p.entered → (core.after parts (entries scene) n ≡ by_array pipe.placed.code.arrays stages (picture.after step (first_cells pipe.placed) (map (packet_of pipe.placed) (take n (entries scene)))))
-        × IsGood pipe.placed parts (picture.after step (first_cells pipe.placed) (map (packet_of pipe.placed) (take n (entries scene))))
-    so_far n le = after_is parts step (first_cells pipe.placed) (by_array pipe.placed.code.arrays stages) (packet_of pipe.placed) gone_of (IsGood pipe.placed parts) (Fits parts) (do_steps parts pipe stay laws is.stands_for is.arrays)
+        × AreOwned pipe.placed parts.arrays (picture.after step (first_cells pipe.placed) (map (packet_of pipe.placed) (take n (entries scene))))
+    so_far n le = after_is parts step (first_cells pipe.placed) (by_array pipe.placed.code.arrays stages) (packet_of pipe.placed) gone_of (AreOwned pipe.placed parts.arrays) (Fits parts) (do_steps parts pipe stay laws is.stands_for is.arrays)
         (entries scene) n (subst (AllByRecursion (Fits parts)) (take_take n p.entered (entries scene) le) (all_take (Fits parts) n (take p.entered (entries scene)) is.fit))
 
     -- cells that are `all` after this many, by stage and by array

@@ -11,8 +11,9 @@ use Rattle.lucid_core.specs.Laws.{CellsStayFit}
 use Rattle.lucid_core.specs.Step as core
 use Rattle.lucid_pipe.specs.Packets.{Packet}
 use Rattle.lucid_pipe.specs.Pipe.{PipeParts, packet_at}
+use Rattle.lucid_pipe_laws.specs.Places.{came}
 use Rattle.lucid_tables.specs.Placed.{PlacedParts}
-use Rattle.lucid_drive.specs.Drive.{Done, Drive, Progress, begun, came, does, entries, goes, is_taken, left_text, line, moved, progress_from, stays}
+use Rattle.lucid_drive.specs.Drive.{Done, Drive, Progress, begun, does, entries, goes, is_taken, left_text, line, moved, progress_from, stays}
 use Rattle.lucid_drive.specs.Flush.{flushes, flushes_at, last_below, oldest}
 use Rattle.lucid_drive.specs.Happened.{Did, entered_after, happened_block}
 use Rattle.lucid_drive.specs.Standing.{IsAt, drive_of}
@@ -165,7 +166,7 @@ module _ (parts : CoreParts) (scene : Scene) (p : Progress) (pipe : PipeParts) (
   free_behind k found =
       let f = last_found (is_taken p) (length p.passed) k found in
       ⊎_elim (λ (lt : k + 1 < length p.passed). f.behind (k + 1) (omega arith) lt)
-      (λ (le : length p.passed ≤ k + 1). ap (λ (b : Bool). b && nat_lt (slice_index p.passed (k + 1)) (came p (k + 1))) (le-ltb (k + 1) (length p.passed) le))
+      (λ (le : length p.passed ≤ k + 1). ap (λ (b : Bool). b && nat_lt (slice_index p.passed (k + 1)) (came p.entered p.passed (k + 1))) (le-ltb (k + 1) (length p.passed) le))
       (cases_lt (k + 1) (length p.passed))
 
   -- The oldest can move.
@@ -178,10 +179,10 @@ module _ (parts : CoreParts) (scene : Scene) (p : Progress) (pipe : PipeParts) (
     reverse : (a b : ℕ) → nat_lt a b ≡ false → b ≤ a
     reverse a b f = grind (arith, nat_tests)
 
-    all_came : (k : ℕ) → k < length p.passed → came p k ≤ slice_index p.passed k
+    all_came : (k : ℕ) → k < length p.passed → came p.entered p.passed k ≤ slice_index p.passed k
     all_came k lt =
-        reverse (slice_index p.passed k) (came p k)
-        (sym (both_true (nat_lt k (length p.passed)) (nat_lt (slice_index p.passed k) (came p k)) (below k (length p.passed) lt)) ∙ sym (taken parts scene p pipe is k) ∙ ap (λ (o : Option Packet). is_some o) (empty k))
+        reverse (slice_index p.passed k) (came p.entered p.passed k)
+        (sym (both_true (nat_lt k (length p.passed)) (nat_lt (slice_index p.passed k) (came p.entered p.passed k)) (below k (length p.passed) lt)) ∙ sym (taken parts scene p pipe is k) ∙ ap (λ (o : Option Packet). is_some o) (empty k))
 
     least : (k : ℕ) → k < length p.passed → p.entered ≤ slice_index p.passed k
     least zero lt = all_came zero lt

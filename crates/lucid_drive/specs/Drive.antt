@@ -1,5 +1,5 @@
 -- The log of a drive: one pipeline, moved by the steps of a scenario. Handlers run whole; of packets only their places are counted.
-use Rattle.std.specs.Prelude.{ℕ, zero, suc, ◌+◌, ◌-◌, ◌%◌, List, [], ◌∷◌, ◌++◌, Option, None, Some, Bool, not, ◌&&◌, if◌then◌else◌, codes, decimal, length, map, nat_eq, nat_le, nat_lt, replicate, slice_get, slice_index, slice_set}
+use Rattle.std.specs.Prelude.{ℕ, ◌+◌, ◌-◌, ◌%◌, List, [], ◌∷◌, ◌++◌, Option, None, Some, Bool, not, ◌&&◌, if◌then◌else◌, codes, decimal, length, map, nat_eq, nat_le, nat_lt, replicate, slice_get, slice_index, slice_set}
 use Rattle.std.specs.Option.{option_map_or}
 use Rattle.lucid_base.specs.Cells.{cell_at}
 use Rattle.lucid_base.specs.declared.array.ArrayDef.{ArrayDef}
@@ -10,6 +10,8 @@ use Rattle.lucid_core.specs.Parts.{CoreParts}
 use Rattle.lucid_core.specs.Step.{Entry, after, outs}
 use Rattle.lucid_log.specs.Block.{block_text}
 use Rattle.lucid_log.specs.Cells.{cells_text}
+use Rattle.lucid_log.specs.Pieces.{pieces}
+use Rattle.lucid_pipe_laws.specs.Places.{came}
 use Rattle.lucid_tables.specs.Placed.{stage_of}
 use Rattle.lucid_tables.specs.declared.stage.StageCode.{StageCode}
 
@@ -27,14 +29,9 @@ pub record Progress : Type 0 where
 abbrev pub begun : Drive → Progress
 begun d = record { entered = 0; passed = replicate (length d.stages) 0 }
 
--- How many came before stage k.
-abbrev pub came : Progress → ℕ → ℕ
-came p zero = p.entered
-came p (suc k) = slice_index p.passed k
-
 -- A packet is in front of stage k exactly if one more came than passed.
 abbrev pub is_taken : Progress → ℕ → Bool
-is_taken p k = nat_lt k (length p.passed) && nat_lt (slice_index p.passed k) (came p k)
+is_taken p k = nat_lt k (length p.passed) && nat_lt (slice_index p.passed k) (came p.entered p.passed k)
 
 -- The events of the file, as they enter.
 abbrev pub entries : Scene → List Entry
@@ -101,11 +98,6 @@ text_from d p (s ∷ steps) = (does d p s).text ++ text_from d (does d p s).prog
 -- How many left.
 abbrev pub left : Progress → ℕ
 left p = slice_index p.passed (length p.passed - 1)
-
--- `count` pieces from this number on.
-abbrev pub pieces : (ℕ → List ℕ) → ℕ → ℕ → List ℕ
-pieces piece from zero = []
-pieces piece from (suc count) = piece from ++ pieces piece (from + 1) count
 
 -- How many events entered, and how many of the file are left.
 abbrev pub ending_text : ℕ → ℕ → List ℕ

@@ -1,39 +1,24 @@
 -- A pipe at the state of a drive: its rows are those of an empty one after the events that entered and the packets that passed each
 -- stage.
-use Rattle.std.specs.Prelude.{◌≡◌, ℕ, ◌<◌, ◌^◌, List, None, IsTrue, length, take}
+use Rattle.std.specs.Prelude.{◌≡◌, ◌<◌, ◌^◌, IsTrue, length, take}
 use Rattle.std.specs.List.{AllByRecursion}
-use Rattle.lucid_base.specs.Cells.{row_of, zero_cells}
 use Rattle.lucid_conf.specs.declared.scene.Scene.{Scene}
-use Rattle.lucid_core.specs.Fits.{cells_fit, event_fits}
+use Rattle.lucid_core.specs.Fits.{event_fits}
 use Rattle.lucid_core.specs.Parts.{CoreParts}
 use Rattle.lucid_core.specs.Step.{Entry}
 use Rattle.lucid_pipe.specs.Packets.{Packet, entering, sent_by}
 use Rattle.lucid_pipe.specs.Pipe.{PipeParts}
-use Rattle.lucid_pipe.specs.Rows.{owns, pipe_rows, steps_of}
-use Rattle.lucid_tables.specs.Placed.{PlacedParts, stage_of}
+use Rattle.lucid_pipe.specs.Rows.{first_cells, pipe_rows, steps_of}
+use Rattle.lucid_tables.specs.Placed.{PlacedParts}
 use Rattle.lucid_normal_spec.specs.Stands.{StandsFor}
 use Rattle.lucid_drive.specs.Drive.{Drive, Progress, entries}
 use Rattle.lucid_drive.specs.Driven.{Gone, IsDriven}
-
-abbrev pub Cells : Type 0
-Cells = List (List ℕ)
-
-abbrev pub first_cells : PlacedParts → List Cells
-first_cells placed = owns placed.stages (zero_cells placed.code.arrays)
 
 abbrev pub packet_of : PlacedParts → Entry → Packet
 packet_of placed e = entering placed.code e.event e.now e.me
 
 abbrev pub gone_of : Packet → Gone
 gone_of p = record { entry = record { now = p.now; me = p.me; event = p.event }; outs = sent_by p.outs }
-
--- The cells by stage are those of cells that fit the program, and an array that is in no stage holds 0.
-pub record IsGood (placed : PlacedParts) (parts : CoreParts) (cs : List Cells) : Type 0 where
-  pub all : Cells
-  pub fit : IsTrue (cells_fit parts all)
-  pub parted : cs ≡ owns placed.stages all
-  pub long : length all ≡ length placed.code.arrays
-  pub rest : (g : ℕ) → stage_of placed.stages g ≡ None → row_of all g ≡ row_of (zero_cells placed.code.arrays) g
 
 -- The condition on an event that enters.
 pub record Fits (parts : CoreParts) (e : Entry) : Type 0 where

@@ -2,3 +2,4 @@ pub mod Holes
 pub mod Lines
 pub mod Numbers
 pub mod Outs
+pub mod PiecesLemmas

@@ -1,5 +1,5 @@
 -- The texts of pieces.
-use Rattle.std.specs.Prelude.{ℕ, ◌+◌, ◌*◌, ◌-◌, ◌/◌, ◌%◌, ◌^◌, List, [], ◌++◌, map, decimal, if◌then◌else◌, nat_lt}
+use Rattle.std.specs.Prelude.{ℕ, zero, suc, ◌+◌, ◌*◌, ◌-◌, ◌/◌, ◌%◌, ◌^◌, List, [], ◌++◌, map, decimal, if◌then◌else◌, nat_lt}
 use Rattle.std.specs.List.{fold, join_with_byte, range_with_len}
 use Rattle.lucid_log.specs.declared.pieces.Piece.{Piece}
 use Rattle.lucid_log.specs.declared.pieces.Piece.TheVariants.{Text, Number, Numbers, Hex}
@@ -25,3 +25,8 @@ piece_text (Hex n) = hex_text n
 -- The pieces, one after another.
 abbrev pub text_of : List Piece → List ℕ
 text_of pieces = fold (λ text piece. text ++ piece_text piece) [] pieces
+
+-- `count` pieces from this number on.
+abbrev pub pieces : (ℕ → List ℕ) → ℕ → ℕ → List ℕ
+pieces piece from zero = []
+pieces piece from (suc count) = piece from ++ pieces piece (from + 1) count

@@ -1,11 +1,10 @@
 -- A pass through the stages of placed code has the effect of the program's step.
-use Rattle.std.specs.Prelude.{◌≡◌, ℕ, ◌<◌, ◌≤◌, ◌^◌, List, None, IsTrue, length}
-use Rattle.lucid_base.specs.Cells.{row_of, zero_cells}
+use Rattle.std.specs.Prelude.{◌≡◌, ℕ, ◌<◌, ◌≤◌, ◌^◌, List, length}
+use Rattle.lucid_base.specs.Cells.{zero_cells}
 use Rattle.lucid_base.specs.declared.event.Event.{Event}
 use Rattle.lucid_code.specs.Inputs.{IsInput}
 use Rattle.lucid_conf.specs.declared.limits.Limits.{Limits}
 use Rattle.lucid_conf.specs.declared.scene.Scene.{Scene}
-use Rattle.lucid_core.specs.Fits.{cells_fit}
 use Rattle.lucid_core.specs.Parts.{CoreParts}
 use Rattle.lucid_core.specs.Step.{step}
 use Rattle.lucid_net_laws.specs.Fitting.{fits}
@@ -13,19 +12,15 @@ use Rattle.lucid_net_laws.specs.Stages.{DoAs}
 use Rattle.lucid_net_spec.specs.Log as network
 use Rattle.lucid_normal_spec.specs.Stands.{StandsFor}
 use Rattle.lucid_pipe.specs.Packets.{entering}
-use Rattle.lucid_pipe.specs.Rows.{owns}
+use Rattle.lucid_pipe.specs.Rows.{AreOwned}
 use Rattle.lucid_pipe_laws.specs.Rows.{whole}
-use Rattle.lucid_tables.specs.Placed.{PlacedParts, stage_of}
+use Rattle.lucid_tables.specs.Placed.{PlacedParts}
 use Rattle.lucid_net_laws.specs.Rows.{Cells, step_of, first_cells, cells_of}
 use Rattle.lucid_net_laws.specs.PipeStages.{run_of_packet, stages_of}
 
--- The cells of stages are those of cells that fit the program, and an array that is in no stage holds 0.
-pub record IsGood (placed : PlacedParts) (parts : CoreParts) (cs : List Cells) : Type 0 where
-  pub all : Cells
-  pub fit : IsTrue (cells_fit parts all)
-  pub parted : cs ≡ owns placed.stages all
-  pub long : length all ≡ length placed.code.arrays
-  pub rest : (g : ℕ) → stage_of placed.stages g ≡ None → row_of all g ≡ row_of (zero_cells placed.code.arrays) g
+-- The cells of stages are those of cells that fit the program.
+abbrev pub IsGood : PlacedParts → CoreParts → List Cells → Type 0
+IsGood placed parts = AreOwned placed parts.arrays
 
 -- A pass through the stages has the effect of the program's step.
 pub record StepsAs (parts : CoreParts) (placed : PlacedParts) : Type 0 where

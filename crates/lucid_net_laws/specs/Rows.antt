@@ -1,25 +1,18 @@
 -- A pipe by its rows: at each stage the cells of the stage, and the packet that is there.
-use Rattle.std.specs.Prelude.{ℕ, List, map}
-use Rattle.lucid_base.specs.Cells.{zero_cells}
+use Rattle.std.specs.Prelude.{List, map}
 use Rattle.lucid_pipe.specs.Packets.{Packet}
 use Rattle.lucid_pipe.specs.Pipe.{PipeParts}
-use Rattle.lucid_pipe.specs.Rows.{by_array, owns, pipe_rows, steps_of}
+use Rattle.lucid_pipe.specs.Rows.{by_array, pipe_rows, steps_of}
+pub use Rattle.lucid_pipe.specs.Rows.{Cells, first_cells}
 use Rattle.lucid_pipe_laws.specs.Rows.{Row, Steps}
 use Rattle.lucid_tables.specs.Placed.{PlacedParts}
-
-abbrev pub Cells : Type 0
-Cells = List (List ℕ)
 
 abbrev pub Rows : Type 0
 Rows = List (Row Cells Packet)
 
--- The effect of a stage of the code on its cells and a packet; the cells of each stage, all 0; the cells by array, from those by stage;
--- and the rows of a pipe. They don't unfold, so that statements about networks stay as short as they are.
+-- The effect of a stage of the code on its cells and a packet; the cells by array, from those by stage; and the rows of a pipe. They don't unfold, so that statements about networks stay as short as they are.
 unfoldable pub step_of : PlacedParts → Steps Cells Packet
 step_of placed = steps_of placed.code placed.stages
-
-unfoldable pub first_cells : PlacedParts → List Cells
-first_cells placed = owns placed.stages (zero_cells placed.code.arrays)
 
 unfoldable pub cells_of : PlacedParts → List Cells → Cells
 cells_of placed cs = by_array placed.code.arrays placed.stages cs

@@ -1,8 +1,10 @@
 -- The text of turns and ticks, piece after piece.
-use Rattle.std.proofs.Common.{◌≡◌, ℕ, zero, suc, ◌+◌, ◌-◌, ◌<◌, ◌≤◌, List, [], ◌++◌, Option, None, Some, refl, sym, ◌∙◌, ap, append_assoc, append-nil, arith}
+use Rattle.std.proofs.Common.{◌≡◌, ℕ, zero, suc, ◌+◌, ◌-◌, List, ◌++◌, Option, None, Some, refl, sym, ◌∙◌, ap, append_assoc, append-nil, arith}
 use Rattle.std.specs.List.{find}
+pub use Rattle.lucid_log.proofs.PiecesLemmas.{pieces-all, pieces-next, pieces-none, pieces-push}
+use Rattle.lucid_log.specs.Pieces.{pieces}
 use Rattle.lucid_net_spec.specs.Log.{State, enters, ticks, turn, turns}
-use Rattle.lucid_net_spec.specs.Pieces.{pieces, tick_text, turn_text, untold}
+use Rattle.lucid_net_spec.specs.Pieces.{tick_text, turn_text, untold}
 use Rattle.lucid_net_spec.specs.Ways.{Network}
 use Rattle.lucid_queue.specs.Waiting.{is_ready}
 use Rattle.lucid_queue.specs.declared.pending.Pending.{Pending}
@@ -38,12 +40,6 @@ turns_told net tick (suc n) now =
     ∙ append_assoc now.text (turns net tick n (untold now)).text (turn net tick n (untold (turns net tick n (untold now)))).text
     ∙ sym (ap (λ (l : List ℕ). now.text ++ l) (turn_told net tick n (turns net tick n (untold now))))
 
-pub pieces-push : (piece : ℕ → List ℕ) (from n at : ℕ) → from + n ≡ at → pieces piece from (suc n) ≡ pieces piece from n ++ piece at
-pieces-push piece from zero at is = append-nil (piece from) ∙ ap piece (omega (arith, is))
-pieces-push piece from (suc n) at is =
-    ap (λ (l : List ℕ). piece from ++ l) (pieces-push piece (from + 1) n at (omega (arith, is)))
-    ∙ sym (append_assoc (piece from) (pieces piece (from + 1) n) (piece at))
-
 pub turns_pieces : (net : Network) (tick n : ℕ) (now : State) → (turns net tick n now).text ≡ now.text ++ pieces (turn_text net tick now) 0 n
 turns_pieces net tick zero now = sym (append-nil now.text)
 turns_pieces net tick (suc n) now =
@@ -71,21 +67,3 @@ ticks_pieces net (suc n) =
     turns_told net n net.scene.switches (ticks net n)
     ∙ ap (λ (l : List ℕ). l ++ tick_text net n) (ticks_pieces net n)
     ∙ sym (pieces-push (tick_text net) 0 n n (omega arith))
-
-pub pieces-next : (piece : ℕ → List ℕ) (i n : ℕ) → i < n → pieces piece i (n - i) ≡ piece i ++ pieces piece (i + 1) (n - (i + 1))
-pieces-next piece i n lt = ap (pieces piece i) more
-  where
-    more : n - i ≡ suc (n - (i + 1))
-    more = omega (arith, lt)
-
-pub pieces-none : (piece : ℕ → List ℕ) (i n : ℕ) → n ≤ i → pieces piece i (n - i) ≡ []
-pieces-none piece i n le = ap (pieces piece i) none
-  where
-    none : n - i ≡ zero
-    none = omega (arith, le)
-
-pub pieces-all : (piece : ℕ → List ℕ) (n : ℕ) → pieces piece 0 n ≡ pieces piece 0 (n - 0)
-pieces-all piece n = ap (pieces piece 0) all
-  where
-    all : n ≡ n - 0
-    all = omega arith

@@ -1,12 +1,8 @@
--- Texts, piece after piece.
-use Rattle.std.specs.Prelude.{ℕ, zero, suc, ◌+◌, List, [], ◌++◌}
+-- The text of a turn, and of a tick.
+use Rattle.std.specs.Prelude.{ℕ, List, []}
+pub use Rattle.lucid_log.specs.Pieces.{pieces}
 use Rattle.lucid_net_spec.specs.Log.{State, ticks, turn, turns}
 use Rattle.lucid_net_spec.specs.Ways.{Network}
-
--- `count` pieces from this number on.
-abbrev pub pieces : (ℕ → List ℕ) → ℕ → ℕ → List ℕ
-pieces piece from zero = []
-pieces piece from (suc count) = piece from ++ pieces piece (from + 1) count
 
 -- The state with nothing written.
 abbrev pub untold : State → State

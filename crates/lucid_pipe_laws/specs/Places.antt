@@ -1,13 +1,13 @@
 -- The places and the leaving packets of a picture.
-use Rattle.std.specs.Prelude.{◌≡◌, ℕ, ◌<◌, List, length, take, None, Some, is_some, nat_lt}
-use Rattle.std.proofs.Common.{zero, suc, get_or}
+use Rattle.std.specs.Prelude.{◌≡◌, ℕ, zero, suc, ◌<◌, List, length, take, None, Some, is_some, nat_lt, slice_index}
+use Rattle.std.proofs.Common.{get_or}
 use Rattle.lucid_pipe_laws.specs.Rows.{Row, row, Steps, whole}
 use Rattle.lucid_pipe_laws.specs.Picture.{IsPicture, after}
 
--- how many came to stage k: all at the first, else those that passed the one before it
+-- The number of packets that came to stage k: all that entered at the first, else those that passed the stage before it.
 abbrev pub came : ℕ → List ℕ → ℕ → ℕ
-came entered ms zero = entered
-came entered ms (suc k) = get_or ms k 0
+came entered passed zero = entered
+came entered passed (suc k) = slice_index passed k
 
 -- A packet is in front of stage k if one more came than passed.
 abbrev pub Places : {C P : Type 0} → Steps C P → Type 0

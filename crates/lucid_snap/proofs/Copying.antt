@@ -6,6 +6,7 @@ use Rattle.std.proofs.lemmas.Bool.{eq-eqb, eqb-true, true≢false}
 use Rattle.std.specs.Option.{option_and_then}
 use Rattle.lucid_base.specs.Cells.{cell_at, place_of, row_of}
 use Rattle.lucid_pipe.specs.Pipe.{PipeParts, sizes}
+use Rattle.lucid_pipe.specs.Rows.{Cells}
 use Rattle.lucid_tables.specs.Numbers.{is_in}
 use Rattle.lucid_tables.specs.declared.stage.StageCode.{StageCode}
 use Rattle.lucid_snap.specs.Snap.{Follows, SnapParts, arrays_of, free_first}
@@ -73,9 +74,6 @@ fill_all (r ∷ row) (w ∷ want) (suc at) le long so =
     ap₂ (λ (x : ℕ) (l : List ℕ). x ∷ l) head (fill_all row want at (omega (arith, le)) (omega (arith, long)) tail)
 
 -- ---- rows
-
-abbrev Cells : Type 0
-Cells = List (List ℕ)
 
 pub set_none : (copies : Cells) (a : ℕ) (row : List ℕ) → length copies ≤ a → copies ≡ slice_set copies a row
 set_none copies a row le = sym (set_past copies a row le)
