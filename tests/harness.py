@@ -6,9 +6,9 @@ A group is a module of tests/groups with a function `run(group)`. It calls the p
 from __future__ import annotations
 
 import os
-import re
 import shutil
 import subprocess
+import sys
 import tempfile
 import threading
 from concurrent.futures import ThreadPoolExecutor
@@ -20,6 +20,7 @@ TOP = Path(__file__).resolve().parent.parent
 TESTS = TOP / "tests"
 EXAMPLES = TOP / "examples"
 PROGRAM = TOP / "crates/lucid_main/out/lucid_main"
+sys.path.insert(0, str(TOP / "tools"))  # for lucid_model, lucid_explain and lucid_tools
 FIRST = EXAMPLES / "first.luc"
 FIRST_LOG = b"[0] s0 pkt(5)\n  generate seen(5,7) delay 0 here\ns0 last[1] = 7\n"
 Word = Union[str, bytes, Path]
@@ -95,6 +96,10 @@ class Group:
     def call(self, *words: Word, **how: Any) -> Ended:
         return call([self.options.program, *words], **how)
 
+    def tool(self, name: str, *words: Word, **how: Any) -> Ended:
+        """Calls a tool of tools/, in the group's folder."""
+        return call([sys.executable, "-B", TOP / "tools" / name, *words], cwd=self.room, **how)
+
     def expect(self, name: str, ended: Ended, status: int, out: bytes = b"", err: bytes = b"") -> bool:
         """Checks that a call ended with exactly this status, output and error stream."""
         return self.check(name, ended == Ended(status, out, err), ended)
@@ -119,15 +124,16 @@ def call(
     words: Sequence[Word],
     cwd: Union[Path, str, None] = None,
     env: Optional[dict] = None,
-    stdin: Any = subprocess.DEVNULL,
+    given: Optional[bytes] = None,
     stdout: Any = subprocess.PIPE,
-    stderr: Any = subprocess.PIPE,
     timeout: float = 600,
 ) -> Ended:
-    """Runs a command. One that takes longer than `timeout` seconds is killed, and so ends by a signal."""
-    child = subprocess.Popen([os.fspath(word) for word in words], cwd=cwd, env=env, stdin=stdin, stdout=stdout, stderr=stderr)
+    """Runs a command, with this input if any. One that takes longer than `timeout` seconds is killed, and so ends by a signal."""
+    stdin = subprocess.DEVNULL if given is None else subprocess.PIPE
+    words = [os.fspath(word) for word in words]
+    child = subprocess.Popen(words, cwd=cwd, env=env, stdin=stdin, stdout=stdout, stderr=subprocess.PIPE)
     try:
-        out, err = child.communicate(timeout=timeout)
+        out, err = child.communicate(given, timeout=timeout)
     except subprocess.TimeoutExpired:
         child.kill()
         out, err = child.communicate()
@@ -172,14 +178,6 @@ def table(group: Group, titles: Sequence[str], rows: Iterable[Sequence[object]])
         group.note("|" + "|".join(str(cell) if cell == "---" else f" {cell} " for cell in cells) + "|")
 
 
-def fnv(data: bytes) -> int:
-    """FNV-1a of 64 bits."""
-    number = 14695981039346656037
-    for byte in data:
-        number = ((number ^ byte) * 1099511628211) & (2**64 - 1)
-    return number
-
-
 def run_group(name: str, work: Callable[[Group], None], options: Options) -> Group:
     """Runs a group in a temporary folder of its own."""
     room = Path(tempfile.mkdtemp(prefix=f"lucid-{name}-"))
@@ -189,30 +187,3 @@ def run_group(name: str, work: Callable[[Group], None], options: Options) -> Gro
     finally:
         shutil.rmtree(room, ignore_errors=True)
     return group
-
-
-NUMBER = r"\d+"
-LISTED = {
-    1: "usage",
-    2: "read fault: .*",
-    3: "too long: .+",
-    4: rf"syntax: (byte|token|nesting at token) {NUMBER}",
-    5: rf"types: declaration {NUMBER} line {NUMBER}( limit (arrays|array parameters|value parameters|arguments|outs|cases))?",
-    6: rf"order: declaration {NUMBER} line {NUMBER} cycle .+",
-    7: rf"nofit: ((ops|size|bits|node) {NUMBER}|arms .+)",
-    8: "limits: (not JSON|file|other|stages|tables|rows|arrays|arms|bits|recirc)",
-    9: rf"scene: (not JSON|file|other|version|switches|stop|links|down|events|steps|(links|down|events|steps) {NUMBER})",
-    10: "write fault",
-    11: "memory",
-    12: rf"placement: (not JSON|file|other|nodes|nodes {NUMBER}|node {NUMBER} (range|early)"
-    rf"|stage {NUMBER} (table {NUMBER} rows|arrays))",
-    13: rf"sizes: (too long|.+ twice|broken at token {NUMBER})",
-}
-
-
-def is_listed(ended: Ended) -> bool:
-    """Whether docs/ERRORS.md lists this status with this error stream: nothing for 0, otherwise one line of that status."""
-    if ended.status == 0:
-        return ended.err == b""
-    line = LISTED.get(ended.status)
-    return line is not None and re.fullmatch(line + "\n", ended.err.decode("utf-8", "replace")) is not None

@@ -6,7 +6,8 @@ from dataclasses import dataclass, field
 from pathlib import Path
 from typing import Dict, List, Optional, Tuple
 
-from harness import TESTS, Ended, fnv
+from harness import TESTS, Ended
+from lucid_model.values import fnv
 
 ROWS = TESTS / "rows"
 Sum = Tuple[int, int]

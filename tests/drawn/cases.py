@@ -14,9 +14,7 @@ from random import Random
 from typing import Any, Dict, List, Optional
 
 from harness import Ended, call
-from model import judge
-
-from lucid_model import Answer
+from lucid_model import Answer, judge
 from lucid_model.json_files import Limits, read_limits
 from lucid_model.layout import Layout
 from lucid_model.passes import compose

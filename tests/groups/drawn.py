@@ -21,10 +21,9 @@ from typing import List, Tuple
 
 from drawn.cases import COMMANDS, Case, draw_case
 from harness import Ended, Group
-from model import agrees, deeply
-
-from lucid_model import Answer
-from lucid_model.code import Literal
+from lucid_model import Answer, agrees
+from lucid_model.nodes import Literal
+from lucid_tools.stack import deeply
 
 RUNS, STEP, SHOWN, MOST_TRIES = 3000, 50, 3, 1500
 # What is left out of a file that is made smaller: lines, brackets with what is before and within them, statements, and tokens.

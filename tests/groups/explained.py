@@ -15,11 +15,11 @@ import sys
 from typing import Dict
 
 from harness import EXAMPLES, TOP, Ended, Group, call
-from model import agrees, deeply
-from rowfile import Row, all_rows
-
 from lucid_explain import Report, explain
+from lucid_model import agrees
 from lucid_model.lexer import lex
+from lucid_tools.stack import deeply
+from rowfile import Row, all_rows
 
 PLACED = {4, 5, 6, 7, 8, 9, 12, 13}
 # Words of rows, and the words of tools/explain for the same refusal.

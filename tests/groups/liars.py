@@ -11,7 +11,7 @@ from typing import Callable, Dict, List, Tuple
 
 from drawn.cases import draw_case
 from harness import TESTS, Group, Stopped, compile_c
-from model import deeply
+from lucid_tools.stack import deeply
 
 from . import drawn, generated, refused, rows, streams, words
 
@@ -95,7 +95,11 @@ SCRIPT_70 = "#!/bin/sh\nexit 70\n"
 
 
 def of_rows(name: str) -> Callable[[Group], None]:
-    return lambda group: rows.run_files(group, [f"{name}.rows"])
+    def check(group: Group) -> None:
+        for row in rows.read_all(group, [rows.ROWS / f"{name}.rows"]):
+            rows.check_row(group, row)
+
+    return check
 
 
 def drawn_calls(group: Group) -> None:

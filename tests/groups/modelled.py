@@ -9,7 +9,8 @@ from concurrent.futures import ProcessPoolExecutor
 from typing import List, Tuple
 
 from harness import Ended, Group
-from model import agrees, deeply, judge
+from lucid_model import agrees, judge
+from lucid_tools.stack import deeply
 from rowfile import Row, all_rows
 
 PIECES = 16

@@ -9,52 +9,44 @@ import shutil
 from pathlib import Path
 from typing import Dict, Iterable, List
 
-from harness import Ended, Group
-from model import deeply, judge
+from harness import Ended, Group, call
+from lucid_model import judge
+from lucid_tools.stack import deeply
 from rowfile import ROWS, Row, read_rows, sum_of, write_sums
 
 
-def make(group: Group, row: Row) -> Ended:
-    """Makes the call of a row, in a folder that holds its files."""
+def make(group: Group, row: Row, links: Dict[str, Path] = {}) -> Ended:
+    """Makes the call of a row, in a folder that holds its files; with links its first word is the command, below one of them."""
     folder = group.room / row.name.replace(":", ".")
     folder.mkdir()
     for name, text in row.files.items():
         (folder / name).write_bytes(text)
-    ended = group.call(*row.words, cwd=folder)
+    for name, target in links.items():
+        (folder / name).symlink_to(target)
+    ended = call(row.words, cwd=folder) if links else group.call(*row.words, cwd=folder)
     shutil.rmtree(folder)
     return ended
 
 
-def check_row(group: Group, row: Row) -> None:
-    ended = make(group, row)
-    group.check(f"tests/rows/{row.name}: {row.title}", row.holds(ended), ended)
-
-
-def files(group: Group) -> List[str]:
-    """The files of this run: all, or those that the options name."""
-    return list(group.options.only) or sorted(path.name for path in ROWS.glob("*.rows"))
+def check_row(group: Group, row: Row, links: Dict[str, Path] = {}) -> None:
+    ended = make(group, row, links)
+    group.check(f"{row.name}: {row.title}", row.holds(ended), ended)
 
 
 def run(group: Group) -> None:
-    rows = read_all(group, files(group))
+    rows = read_all(group, [ROWS / name for name in group.options.only] or sorted(ROWS.glob("*.rows")))
     if group.options.fill:
         fill(group, [row for row in rows if row.accepts and row.sum is None])
     else:
         group.side_by_side(lambda row: check_row(group, row), rows)
 
 
-def run_files(group: Group, names: Iterable[str]) -> None:
-    """Makes the calls of these files alone, one by one."""
-    for row in read_all(group, names):
-        check_row(group, row)
-
-
-def read_all(group: Group, names: Iterable[str]) -> List[Row]:
+def read_all(group: Group, paths: Iterable[Path]) -> List[Row]:
+    """The rows of these files, which have calls and no other lines."""
     rows: List[Row] = []
-    for name in names:
-        found, unread = read_rows(ROWS / name)
-        group.check(f"tests/rows/{name} has calls", bool(found))
-        group.check(f"tests/rows/{name} has no other lines", not unread, unread)
+    for path in paths:
+        found, unread = read_rows(path)
+        group.check(f"{path.name} has calls and no other lines", bool(found) and not unread, unread)
         rows += found
     return rows
 

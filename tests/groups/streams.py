@@ -14,7 +14,7 @@ import time
 from pathlib import Path
 from typing import List, Sequence
 
-from harness import FIRST, FIRST_LOG, TOP, Ended, Group, Word, call, is_listed, shell
+from harness import FIRST, FIRST_LOG, TOP, Ended, Group, Word, call, shell
 
 FAULT = b"write fault\n"
 # A line that begins with a bracket and the lines below it that begin with two blanks; and the begin of any such line.
@@ -198,22 +198,20 @@ def pipes_as_files(group: Group) -> None:
     os.mkfifo(pipe)
     text = FIRST.read_bytes()
     empty = b"ok arrays 0 memops 0 events 0 handlers 0 functions 0\n"
-    for name, feeder, words, status, out, err in (
-        ("that gives its text in pieces", fed(pipe, [text[:60], text[60:]]), ["once", pipe, "pkt", "5"], 0, FIRST_LOG, b""),
+    for name, pieces, endless, words, status, out, err in (
+        ("that gives its text in pieces", [text[:60], text[60:]], False, ["once", pipe, "pkt", "5"], 0, FIRST_LOG, b""),
+        ("that gives nothing", [], False, ["check", pipe], 0, empty, b""),
+        ("without an end", [], True, ["check", pipe], 3, b"", f"too long: {pipe}\n".encode()),
     ):
+        feeder = fed(pipe, pieces, endless)
         group.expect(f"a pipe {name}", group.call(*words), status, out, err)
         feeder.join()
-    feeder = fed(pipe, [])
-    group.expect("a pipe that gives nothing", group.call("check", pipe), 0, empty)
-    feeder.join()
-    feeder = fed(pipe, [], endless=True)
-    group.expect("a pipe without an end", group.call("check", pipe), 3, err=f"too long: {pipe}\n".encode())
-    feeder.join()
 
 
 def may_end_so(ended: Ended) -> bool:
     """Whether a `check` of a file that changes meanwhile ended as it may for some text."""
-    return ended.status in (0, 3, 4) and is_listed(ended) and (ended.status == 0 or not ended.out)
+    errors = {0: b"", 3: b"too long: .+\n", 4: rb"syntax: (byte|token|nesting at token) \d+\n"}
+    return re.fullmatch(errors.get(ended.status, b"x"), ended.err) is not None and (ended.status == 0 or not ended.out)
 
 
 def while_changed(group: Group, path: Path, change: str, turns: int) -> bool:

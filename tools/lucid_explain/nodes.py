@@ -2,10 +2,9 @@
 from dataclasses import replace
 from typing import Any, Dict, List, Optional
 
-from lucid_model.code import Code, Literal, Op, Operand
+from lucid_model.nodes import Code, Literal, Node, Op, Operand, nodes_of
 from lucid_model.json_files import Limits
 from lucid_model.layout import Layout, product
-from lucid_model.nodes import Node, nodes_of
 from lucid_model.refusals import Refused
 from lucid_model.values import COMPARE
 

@@ -2,7 +2,7 @@
 from dataclasses import dataclass
 from typing import Any, Callable, Dict, List, Optional, Tuple
 
-from lucid_model.code import Code
+from lucid_model.nodes import Code
 from lucid_model.core import ArrayName
 from lucid_model.json_files import Limits
 from lucid_model.layout import Layout

@@ -5,9 +5,9 @@ crates/*/specs, and not from the sources in crates/*/src. Its purpose is to disa
 answers with those of the built program, byte for byte. tools/lucid_explain has the words for its refusals.
 
 `judge(words, read_file)` returns the exit code and the bytes of both streams, and the refusal itself. The head of a module names the
-page that it follows, and the comment of a function the section. The modules in reading order: lexer, expand, tree, reader, parser,
-values, core, types, statements, memops, declarations, order, code, normal, inline, passes, nodes, layout, audit, json_files, scenes,
-interpret, pipe, log, network, drive, gen, answers.
+page that it follows, and the comment of a function the section. The modules in reading order: lexer, expand, tree, parser,
+values, core, types, statements, declarations, order, nodes, normal, inline, passes, json_files, layout, audit, interpret, drive,
+network, gen, answers.
 """
 from .answers import Answer, agrees, judge
 

@@ -2,23 +2,22 @@
 from dataclasses import dataclass, field
 from typing import Callable, Dict, List, Optional, Sequence, Union
 
-from . import gen, interpret
+from . import gen
 from .audit import audit
-from .code import Code
 from .core import Core
 from .declarations import elaborate
 from .drive import drive
 from .expand import Expanded, expand
-from .json_files import read_limits
+from .interpret import block_text, cells_text, empty_cells, run_whole
+from .json_files import read_limits, read_scene
 from .layout import Layout
 from .lexer import Token, lex
-from .log import block_text, cells_text
 from .network import Network
+from .nodes import Code
 from .order import check_order
 from .parser import parse
 from .passes import compose
 from .refusals import Fault, Refused
-from .scenes import read_scene
 from .values import fnv
 
 Word = Union[str, bytes]
@@ -49,7 +48,6 @@ def number_of(word: str) -> int:
 @dataclass
 class Call:
     """The words of a call: its command, the files that it names, the event of `once`, and its numbers."""
-
     command: str
     files: Dict[str, str]
     event: str
@@ -91,7 +89,6 @@ def read_files(call: Call, read: ReadFile) -> Dict[str, bytes]:
 @dataclass
 class Program:
     """A program that is accepted, or so much of it as was read before it was refused."""
-
     text: str
     tokens: Sequence[Token] = ()
     expanded: Optional[Expanded] = None
@@ -105,11 +102,9 @@ class Program:
         return self.expanded.text
 
     def check(self) -> Core:
-        """Reads, types and orders the program; a text without functions over a width is its own expansion."""
+        """Expands, reads, types and orders the program."""
         source = self.expand()
-        if source != self.text:
-            self.tokens = lex(source)
-        core = elaborate(parse(source, self.tokens))
+        core = elaborate(parse(source, self.tokens if source == self.text else lex(source)))
         check_order(core)
         self.core = core
         return core
@@ -118,7 +113,6 @@ class Program:
 @dataclass
 class Answer:
     """An answer: the exit code, both streams, and what it was made from."""
-
     status: int = 0
     out: bytes = b''
     err: bytes = b''
@@ -133,8 +127,8 @@ def once(core: Core, name: str, args: List[int]) -> str:
     event = core.event_named(name)
     if event is None or not core.fits(event, args):
         raise usage(f'the program has no event {name!r} with these arguments')
-    cells = interpret.empty_cells(core)
-    outs = interpret.run_whole(core, cells, 0, 0, event, args)
+    cells = empty_cells(core)
+    outs = run_whole(core, cells, 0, 0, event, args)
     return block_text(core, 0, 0, event, args, [(out, False) for out in outs]) + cells_text(core, 0, cells)
 
 

@@ -7,7 +7,6 @@ from .tree import form
 
 class ArrayName(NamedTuple):
     """A declared array, or an array parameter, by its number; declared arrays come first."""
-
     is_param: bool
     number: int
 
@@ -71,7 +70,6 @@ def walk(nodes: List[Node]) -> Iterator[Node]:
 @dataclass
 class ArrayDef:
     """A declared array."""
-
     name: str
     width: int
     size: int
@@ -81,7 +79,6 @@ class ArrayDef:
 @dataclass
 class EventDef:
     """A declared event: the widths of its parameters, and its handler."""
-
     name: str
     params: List[int]
     handler: Optional[int] = None
@@ -90,7 +87,6 @@ class EventDef:
 @dataclass
 class Body:
     """A function or a handler; value parameters are the first locals. `long_matches` are the places of matches with too many cases."""
-
     name: str
     decl: int
     line: int
@@ -108,7 +104,6 @@ class Body:
 @dataclass
 class Core:
     """A typed program."""
-
     arrays: List[ArrayDef] = field(default_factory=list)
     memops: int = 0
     events: List[EventDef] = field(default_factory=list)

@@ -12,7 +12,6 @@ MOST_BYTES = 8388608
 @dataclass
 class Template:
     """A function over a width: the tokens of its `fun`, of its name and behind it, its name for the width, and the used widths."""
-
     first: int
     name: int
     end: int
@@ -23,7 +22,6 @@ class Template:
 @dataclass
 class Expanded:
     """An expanded text, and for each piece of it where the piece begins in it and in the file."""
-
     text: str
     pieces: List[Tuple[int, int]]
 

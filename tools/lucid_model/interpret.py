@@ -1,4 +1,4 @@
-"""The whole step: one event runs its handler to its end (docs/LANGUAGE.md, What a program means)."""
+"""The whole step: one event runs its handler to its end (docs/LANGUAGE.md, What a program means); and the lines of a log."""
 from dataclasses import dataclass
 from typing import Dict, List, Optional, Tuple
 
@@ -11,7 +11,6 @@ Cells = List[List[int]]
 @dataclass
 class Out:
     """An event that is sent, with its delay and its target, or a text that is said, which has none of these."""
-
     number: int
     args: List[int]
     delay: Optional[int] = None
@@ -82,3 +81,27 @@ def run_whole(c: core.Core, cells: Cells, now: int, me: int, event: int, args: L
     if c.events[event].handler is not None:
         run.block(c.handlers[c.events[event].handler].body, [], dict(enumerate(args)))
     return run.outs
+
+
+def call_text(c: core.Core, event: int, args: List[int]) -> str:
+    """Returns `NAME(ARGS)`."""
+    return f'{c.events[event].name}({",".join(map(str, args))})'
+
+
+def out_text(c: core.Core, out: Out, lost: bool) -> str:
+    """Returns the line of an event that is sent, or of a text with its numbers put for each `%d`."""
+    if out.delay is None:
+        pieces = c.forms[out.number].split('%d')
+        return '  say ' + pieces[0] + ''.join(str(n) + piece for n, piece in zip(out.args, pieces[1:])) + '\n'
+    to = 'here' if out.to is None else f'to {out.to}'
+    return f'  generate {call_text(c, out.number, out.args)} delay {out.delay} {to}{" lost" if lost else ""}\n'
+
+
+def block_text(c: core.Core, tick: int, switch: int, event: int, args: List[int], outs: List[Tuple[Out, bool]]) -> str:
+    """Returns the block of an event: its line, and a line for each out, which may be lost."""
+    return f'[{tick}] s{switch} {call_text(c, event, args)}\n' + ''.join(out_text(c, out, lost) for out, lost in outs)
+
+
+def cells_text(c: core.Core, switch: int, cells: Cells) -> str:
+    """Returns a line for each cell that is not 0, by array and cell."""
+    return ''.join(f's{switch} {a.name}[{i}] = {value}\n' for a, row in zip(c.arrays, cells) for i, value in enumerate(row) if value)

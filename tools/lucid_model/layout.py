@@ -2,9 +2,8 @@
 from itertools import accumulate
 from typing import FrozenSet, List, NamedTuple, Tuple
 
-from .code import Code, Literal
 from .json_files import Limits
-from .nodes import Node, nodes_of
+from .nodes import Code, Literal, Node, nodes_of
 from .passes import PASSES
 from .refusals import Fault, Refused
 
@@ -13,7 +12,6 @@ Pattern = FrozenSet[Tuple[int, int]]  # fields and the values that they must hav
 
 class Row(NamedTuple):
     """A row: its operations act if its pattern matches and no earlier row's does."""
-
     pattern: Pattern
     ops: Tuple[int, ...]
 

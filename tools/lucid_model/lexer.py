@@ -4,6 +4,7 @@ from typing import List, NamedTuple
 
 from .refusals import Fault, Refused
 
+MOST_NESTING = {'open brackets': 64, 'tokens since the last `;`, `{` or `}`': 256, '`else` in a declaration': 256}
 WORDS = frozenset('const global memop event handle fun if else return generate printf int bool void true false hash SELF '
                   'Array Event Sys match with group'.split())
 # Each piece is the longest at its place; signs are tried longest first.
@@ -16,7 +17,6 @@ PIECE = re.compile(r'''(?P<blank>[ \t\n\r]+|//[^\n]*|/\*.*?\*/)
 
 class Token(NamedTuple):
     """A token: its kind ('name', 'number', 'text', 'word', 'sign' or 'end'), its bytes, where it and the blanks before it begin."""
-
     kind: str
     text: str
     at: int
@@ -53,3 +53,19 @@ def depth_behind(depth: int, token: Token) -> int:
     if token.kind != 'sign':
         return depth
     return max(0, depth + (token.text in '({') - (token.text in ')}'))
+
+
+def check_nesting(tokens: List[Token]) -> None:
+    """The tree: refuses the first token at which one of the three limits on tokens is exceeded."""
+    brackets = since = elses = 0
+    for number, token in enumerate(tokens[:-1]):
+        sign = token.text if token.kind == 'sign' else ''
+        brackets = depth_behind(brackets, token)
+        since = 0 if sign in (';', '{', '}') else since + 1
+        elses += token.text == 'else'
+        for count, (what, most) in zip((brackets, since, elses), MOST_NESTING.items()):
+            if count > most:
+                raise Refused(4, f'syntax: nesting at token {number + 1}', Fault('nesting', token.at, most, what))
+        goes_on = sign == '}' and tokens[number + 1].text == 'else'
+        if sign in ('}', ';') and brackets == 0 and not goes_on:
+            elses = 0

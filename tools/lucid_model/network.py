@@ -3,12 +3,10 @@ import heapq
 from typing import List, Optional, Tuple
 
 from .core import Core
-from .interpret import Cells, Out, empty_cells, run_whole
-from .json_files import Limits
+from .drive import Packet, Pipe
+from .interpret import Cells, Out, block_text, cells_text, empty_cells, run_whole
+from .json_files import Limits, Scene
 from .layout import Layout
-from .log import block_text, cells_text
-from .pipe import Packet, Pipe
-from .scenes import Scene
 
 LAST = 2 ** 64 - 1
 # What waits at a switch, by the order in which it enters: ready time, events of the file before sent ones, tick and switch of the

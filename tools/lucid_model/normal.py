@@ -6,14 +6,13 @@ from dataclasses import dataclass
 from typing import Any, Dict, List, Optional, Tuple
 
 from . import core
-from .code import Code, Literal, Op, Operand
+from .nodes import Code, Literal, Op, Operand
 from .values import COMPARE
 
 
 @dataclass(frozen=True)
 class Held:
     """What holds a value: an operand, and the value's width."""
-
     operand: Operand
     width: int
 
@@ -21,7 +20,6 @@ class Held:
 @dataclass
 class Frame:
     """A body that is translated: the arrays of its array parameters, what holds its locals, and what it answers."""
-
     arrays: List[core.ArrayName]
     held: Optional[Dict[int, Held]]  # None behind a return
     answer: Optional[Held] = None

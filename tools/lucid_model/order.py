@@ -14,7 +14,6 @@ Places = Dict[Atom, int]  # the positions of a walk, each with the place of the 
 @dataclass
 class Scheme:
     """What a body needs: pairs of an atom and the array that must not come before it, each with the places of both calls."""
-
     ends: Places
     needs: Dict[Tuple[Atom, ArrayName], Tuple[int, int]] = field(default_factory=dict)
 
@@ -60,7 +59,6 @@ class Walk:
 @dataclass
 class Order:
     """Which arrays must come before which, for one body: by its pairs, and by their declarations."""
-
     scheme: Scheme
     names: Dict[ArrayName, str]
 

@@ -4,8 +4,8 @@ from dataclasses import replace
 from typing import Callable, Dict, List, Optional, Set, Tuple
 
 from . import core
-from .code import Code, Literal, Op, Operand
 from .inline import check_counts
+from .nodes import Code, Literal, Op, Operand
 from .normal import normal
 from .values import low
 

@@ -17,7 +17,6 @@ class Fault(Exception):
 @dataclass(eq=False)
 class Refused(Exception):
     """A refusal of the whole call: exit code, line without its line feed, and the fault in one of the files."""
-
     status: int
     line: str
     fault: Optional[Fault] = None

@@ -48,7 +48,6 @@ Printf = form('Printf', 'text', 'args')
 @dataclass
 class Decl:
     """A declaration: `kind` is its first word, and the rest is what that kind has."""
-
     kind: str
     at: int
     line: int

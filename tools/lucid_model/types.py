@@ -15,7 +15,6 @@ LOGIC = {'&&': '&', '||': '|'}
 @dataclass
 class Entry:
     """The meaning of a visible name, by its kind: constant, array, memop, event, fun, group or local."""
-
     kind: str
     type: Optional[Type] = None
     number: int = 0

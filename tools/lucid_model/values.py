@@ -52,7 +52,6 @@ Test = Tuple[str, MemArg, MemArg]
 @dataclass
 class MemAlu:
     """A memop as values: an argument is 'stored', 'arg' or a number; a side is one, or an operator between two."""
-
     width: int
     test: Optional[Test]
     yes: Tuple
