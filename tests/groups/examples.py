@@ -10,16 +10,31 @@ writes the pictures.
 """
 from __future__ import annotations
 
+import json
 import re
+from dataclasses import dataclass
 from pathlib import Path
 from typing import List, Sequence, Union
 
-from applications import APPLICATIONS, Application
-from harness import EXAMPLES, TOP, Ended, Group, call
+from harness import EXAMPLES, TESTS, TOP, Ended, Group, call
 
 ENDINGS = ("check", "refused", "once", "run", "layout")
 # The cells of a row of the table that a measurement or the paper fills.
 FILLED = 3
+
+
+@dataclass(frozen=True)
+class Application:
+    """One of the ten applications: pairs of a line of its log and another, and of a text of its program and another, which break its
+    property; and the answer that docs/NAME.svg shows, `log` or `layout`."""
+
+    name: str
+    picture: str
+    wrong: List[str]
+    lines: List[List[str]]
+
+
+APPLICATIONS = [Application(**it) for it in json.loads((TESTS / "applications.json").read_text())]
 
 
 def run(group: Group) -> None:
@@ -29,7 +44,7 @@ def run(group: Group) -> None:
     shown_lines(group)
     group.side_by_side(lambda it: try_application(group, it), APPLICATIONS)
     table_of_the_page(group)
-    refusals(group)
+    other_texts(group)
 
 
 def check_example(group: Group, path: Path) -> None:
@@ -99,9 +114,9 @@ def changed_logs(group: Group, it: Application) -> None:
     ended = judge(group, it, log, "own")
     group.check(f"{it.name}.check holds", ended.status == 0 and ended.out.startswith(b"holds: "), ended)
     wrong = {"an empty log": "", "a log that is cut off": log[: log.rindex("entered")], "a text that is no log": "event e();\n"}
-    for change in it.lines:
-        group.check(f"{it.name}.run has the line{change.old}", f"\n{change.old}\n" in log)
-        wrong[f"{change.old} -> {change.new}"] = f"\n{log}".replace(f"\n{change.old}\n", f"\n{change.new}\n", 1)[1:]
+    for old, new in it.lines:
+        group.check(f"{it.name}.run has the line {old}", f"\n{old}\n" in log)
+        wrong[f"{old} -> {new}"] = f"\n{log}".replace(f"\n{old}\n", f"\n{new}\n", 1)[1:]
     for number, (name, text) in enumerate(wrong.items()):
         ended = judge(group, it, text, f"changed-{number}")
         group.check(f"{it.name}.check refuses {name}", is_broken(ended), ended)
@@ -125,12 +140,12 @@ def drawn_network(group: Group, it: Application) -> None:
     group.check(f"{it.name}, {events} events placed", placed == whole, placed)
     if group.options.large:
         group.note(f"{it.name}: {entered[1].decode() if entered else 'none'} events entered; {ended.out.decode().strip()}")
-    text = program.read_text()
-    group.check(f"examples/README.md says {it.wrong.new}", f"`{it.wrong.new}` for `{it.wrong.old}`" in (EXAMPLES / "README.md").read_text())
-    wrong = group.file(f"{it.name}.wrong.luc", text.replace(it.wrong.old, it.wrong.new))
+    text, (old, new) = program.read_text(), it.wrong
+    group.check(f"examples/README.md says {new}", f"`{new}` for `{old}`" in (EXAMPLES / "README.md").read_text())
+    wrong = group.file(f"{it.name}.wrong.luc", text.replace(old, new))
     ended = judge(group, it, group.call("run", "whole", wrong, limits, scenario).out, "wrong")
     # The reason is an event or a cell, so the log itself was read.
-    group.check(f"{it.name}.check refuses {it.wrong.new}", it.wrong.old in text and re.match(rb"broken: (\[|s\d)", ended.out) is not None, ended)
+    group.check(f"{it.name}.check refuses {new}", old in text and re.match(rb"broken: (\[|s\d)", ended.out) is not None, ended)
 
 
 def picture(group: Group, it: Application) -> None:
@@ -167,20 +182,13 @@ def table_of_the_page(group: Group) -> None:
         group.check(f"a row of examples/README.md: {row[0]}", good, found or sizes)
 
 
-def refusals(group: Group) -> None:
-    """The two tools refuse other words, and a property other words and files."""
-    for words in ([], ["nat", "20000"], ["nat", "20001", "1"], ["nat", "9", "1"], ["tree", "20", "1"], ["nat", "20", "x"], ["nat", "²0", "1"]):
-        ended = call([TOP / "tools/scenario", *words])
-        group.check(f"tools/scenario {' '.join(words)}", ended.status == 2 and not ended.out and ended.err.startswith(b"usage: "), ended)
-    for words in (["a", "b"], ["a", "1", "2"], ["a", "9"], ["a", "20001"]):
-        ended = call([TOP / "tools/examples-table", *words])
-        group.check(f"tools/examples-table {' '.join(words)}", ended.status == 2 and not ended.out, ended)
-    check = EXAMPLES / "nat.check"
+def other_texts(group: Group) -> None:
+    """A property takes one file, and refuses one that is no log of its program."""
+    check, end = EXAMPLES / "nat.check", "entered 1 lost 0 pending 0\n"
     group.check("a property of two files", call([check, "a", "b"]).status == 2)
-    end = "entered 1 lost 0 pending 0\n"
-    texts = {"no text": b"\377\n", "fewer arguments": f"[0] s0 out(1)\n{end}", "a number of 5,000 digits": f"[{'9' * 5000}] s0 out(1,1)\n{end}", "a log twice": f"[0] s0 dropped(6)\n{end}" * 2}
-    for name, text in texts.items():
-        ended = call([check, group.file("nat.texts", text)])
+    texts = {"no text": b"\377\n", "fewer arguments": f"[0] s0 out(1)\n{end}", "a number of 5,000 digits": f"[{'9' * 5000}] s0 out(1,1)\n{end}",
+             "a log twice": f"[0] s0 dropped(6)\n{end}" * 2}
+    files = {**{name: group.file(f"nat.{name}", text) for name, text in texts.items()}, "no file": group.room / "none", "a folder": group.room}
+    for name, path in files.items():
+        ended = call([check, path])
         group.check(f"a property of {name}", is_broken(ended), ended)
-    group.check("a property of no file", is_broken(call([check, group.room / "none"])))
-    group.check("a property of a folder", is_broken(call([check, group.room])))

@@ -1,22 +1,33 @@
-"""The tools beside the program: runs tests/tools.py, whose head says what breaks each of its groups.
+"""The tools of tools/: the calls of tests/tools.rows, byte by byte, and refusals that a tool is given as one word.
 
-Fails if that script counts a failed check, or none that passed.
+Fails on another output, error line or status of a tool; on a place of a byte, a token or a declaration that is off by one; on an input
+without an end that is read; and on a time that is quadratic in the text. The groups printed, pictures, page, schemas, editors, script and
+builds test what the tools show. Sees no tool that has no row.
 """
 from __future__ import annotations
 
-import re
-import sys
+from harness import EXAMPLES, TESTS, TOP, Group
 
-from harness import TESTS, Group, call
+from .rows import check_row, read_all
+
+LINKS = ("docs", "examples", "tools")
 
 
 def run(group: Group) -> None:
-    ended = call([sys.executable, "-B", TESTS / "tools.py", group.options.program])
-    lines = ended.out.decode(errors="replace").splitlines() or [""]
-    numbers = re.fullmatch(r"(\d+) passed, (\d+) failed", lines[-1])
-    for line in lines[:-1]:
-        group.note(line)
-    group.check("tests/tools.py ends with its sums", numbers is not None, ended)
-    if numbers:
-        group.passed += int(numbers.group(1))
-        group.failed += int(numbers.group(2))
+    links = {"lucid": group.options.program, **{name: TOP / name for name in LINKS}}
+    group.side_by_side(lambda row: check_row(group, row, links), read_all(group, [TESTS / "tools.rows"]))
+    one_word(group)
+
+
+def one_word(group: Group) -> None:
+    """`where` takes a refusal as one word, below the line of an unproved build, too; and shows all places of a cycle."""
+    path = group.file("a file", '// \\ "\n  event\t$ e();')
+    mark = f"{path}:2:9\n  event\t$ e();\n       \t^\n".encode()
+    group.expect("where a byte is, in one word", group.tool("where", path, "syntax: byte 15"), 0, mark)
+    group.expect("where a byte is, below another line", group.tool("where", path, "lucid: unproved: x\nsyntax: byte 15\n"), 0, mark)
+    empty = group.tool("where", path, "")
+    group.check("where, with an empty word", empty.status == 2 and empty.err.startswith(b"usage: tools/where "), empty)
+    crossed = EXAMPLES / "crossed.luc"
+    cycle = group.tool("where", crossed, group.call("check", crossed).err.decode())
+    lines = [f"{crossed}:5:1", "5 | handle pkt", "x is declared at", f"{crossed}:2:22", "y is named at", f"{crossed}:5:31"]
+    group.check("where a cycle is", cycle.status == 0 and all(line in cycle.out.decode() for line in lines), cycle)

@@ -1,0 +1,89 @@
+"""The JSON Schemas of tools/schema: the files of the examples and those below fit as the program accepts them.
+
+Fails on a schema that refuses a file that the program accepts, or that accepts one of those below that it refuses for its form. Sees no
+other files; a schema says less than the program.
+"""
+from __future__ import annotations
+
+import json
+import re
+from typing import Any, List, Tuple
+
+from harness import EXAMPLES, TOP, Group
+from samples import HITS
+
+from lucid_tools.files import LIMITS
+from lucid_tools.printed import read_layout
+
+KEYWORDS = set("$schema title description default type enum const minimum maximum pattern properties required additionalProperties items"
+               " prefixItems minItems maxItems anyOf if then".split())
+SCENE = {"stop": 3, "switches": 3, "events": [{"at": 0, "switch": 0, "name": "hit", "args": [1]}]}
+EVENT = SCENE["events"][0]
+# Keys in place of those of the scenario above, and what is in place of all of it.
+GOOD = """{} {"version":1} {"version":2,"links":[[0,1,5]],"down":[[1,0,2,3]]} {"steps":[["enter"],["go",31],["look","x",99]]}"""
+BAD = """{"link":[]} {"stop":-1} {"stop":"3"} {"version":3} {"switches":0} {"switches":65} {"switches":true} {"links":{}} {"events":null}
+{"links":[[0,1]]} {"links":[[0,1,0]]} {"links":[[0,1,5,1]]} {"links":[[0,64,5]]} {"links":[[0,1,5]],"down":[]}
+{"version":2,"down":[[0,1,2]]} {"version":2,"down":[[0,1,2,3,4]]} {"steps":["enter"]} {"steps":[[]]} {"steps":[["stop"]]}
+{"steps":[["enter",1]]} {"steps":[["go",32]]} {"steps":[["go"]]} {"steps":[["go",1,2]]} {"steps":[["look","x"]]} {"steps":[["look","x",1,2]]}"""
+BAD_EVENTS: List[Any] = [{"args": [-1]}, {"x": 1}, {"at": 2**64}, {"args": [0] * 9}, {"name": 1}]
+
+
+def run(group: Group) -> None:
+    schema = {name: json.loads((TOP / f"tools/schema/{name}.schema.json").read_text()) for name in ("limits", "scenario", "placement")}
+    for path in sorted(EXAMPLES.glob("*.json")):
+        kind = "scenario" if ".scenario." in path.name else "limits"
+        group.check(f"schema of {path.name}", fits(schema[kind], json.loads(path.read_text())))
+    program, limits = group.file("p.luc", HITS), group.file("l.json", "{}")
+    for scene, holds in scenes():
+        ended = group.call("run", "whole", program, limits, group.file("t.json", json.dumps(scene)))
+        group.check(f"scenario {json.dumps(scene)[:120]}", fits(schema["scenario"], scene) == holds == (ended.status == 0), ended)
+    for key, bounds in LIMITS.items():
+        own = schema["limits"]["properties"][key]
+        group.check(f"schema of {key}", (own["minimum"], own["maximum"], own["default"]) == tuple(bounds))
+        for value in (*bounds[:2], bounds[0] - 1, bounds[1] + 1, str(bounds[0]), None, 1.5):
+            ended = group.call("layout", program, group.file("l2.json", json.dumps({key: value})))
+            group.check(f"limits {key} {value!r}", fits(schema["limits"], {key: value}) == (ended.status in (0, 7)), ended)
+    group.check("limits other", not fits(schema["limits"], {"stage": 3}) and not fits(schema["limits"], []))
+    count = read_layout(group.call("layout", program, limits).out).nodes
+    pairs = lambda pair: {"nodes": [pair] * count}
+    bad = [{}, [], {"nodes": {}}, pairs([0]), pairs([0, 0, 0]), pairs([0, 2**32]), pairs([0, -1]), {"nodes": [], "more": 1}]
+    for place in [{"nodes": [[number, 0] for number in range(count)]}, *bad]:
+        line = group.call("audit", program, limits, group.file("q.json", json.dumps(place))).err.decode()
+        refused = re.match(r"placement: (file|other|nodes)", line) is not None
+        group.check(f"placement {json.dumps(place)[:80]}", fits(schema["placement"], place) == (place not in bad) != refused, line)
+
+
+def scenes() -> List[Tuple[Any, bool]]:
+    """Scenarios, each with whether it is accepted."""
+    found: List[Tuple[Any, bool]] = [({"stop": 0}, True), ([], False), ({}, False)]
+    for text, holds in ((GOOD, True), (BAD, False)):
+        found += [({**SCENE, **json.loads(change)}, holds) for change in text.split()]
+    found += [({**SCENE, "events": [{**EVENT, **change}]}, False) for change in BAD_EVENTS]
+    return found + [({**SCENE, "events": [{key: EVENT[key] for key in ("at", "switch", "name")}]}, False)]
+
+
+def fits(schema: Any, value: Any) -> bool:
+    """Whether a value fits a schema, by the keywords that the schemas of tools/schema use; another keyword is a failure."""
+    assert set(schema) <= KEYWORDS, set(schema) - KEYWORDS
+    is_number = isinstance(value, int) and not isinstance(value, bool)
+    kinds = {"object": isinstance(value, dict), "array": isinstance(value, list), "string": isinstance(value, str), "integer": is_number}
+    same = lambda one: type(one) is type(value) and one == value
+    holds = [kinds[schema["type"]] if "type" in schema else True]
+    holds += ["enum" not in schema or any(map(same, schema["enum"])), "const" not in schema or same(schema["const"])]
+    if is_number:
+        holds.append(schema.get("minimum", value) <= value <= schema.get("maximum", value))
+    if isinstance(value, str) and "pattern" in schema:
+        holds.append(re.search(schema["pattern"], value) is not None)
+    if isinstance(value, list):
+        heads = schema.get("prefixItems", [])
+        holds.append(schema.get("minItems", 0) <= len(value) <= schema.get("maxItems", len(value)))
+        holds += [fits(*it) for it in zip(heads, value)] + [fits(schema.get("items", {}), it) for it in value[len(heads):]]
+    if isinstance(value, dict):
+        own = schema.get("properties", {})
+        holds.append(set(schema.get("required", [])) <= set(value) and (schema.get("additionalProperties", True) or set(value) <= set(own)))
+        holds += [fits(own[key], it) for key, it in value.items() if key in own]
+    if "anyOf" in schema:
+        holds.append(any(fits(it, value) for it in schema["anyOf"]))
+    if "if" in schema and fits(schema["if"], value):
+        holds.append(fits(schema["then"], value))
+    return all(holds)
