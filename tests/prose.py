@@ -1,22 +1,18 @@
-#!/usr/bin/env python3
 """Measures how plain the English of the repository is: pages, and the comments of .rt and .antt files.
 
-    tests/prose.py [--worst N] [--kind docs|src|specs|proofs|readmes] [--words]
-
-Prints the worst files, with words of the private dialect in each 1,000 words, words, mean words in a sentence, and the share of sentences
-over 30 words; then the same by kind. `--words` counts each word of the dialect. The group `house` holds the kinds to their bounds.
+The measures are words of the private dialect in each 1,000 words, and the share of sentences over 30 words. The group `house` holds each
+kind of file to its bounds, and names the worst files of a kind that exceeds them.
 """
 from __future__ import annotations
 
-import argparse
 import os
 import re
-from collections import Counter
-from dataclasses import dataclass, field
+from dataclasses import dataclass
 from pathlib import Path
 from typing import Dict, Iterator, List, Tuple
 
-TOP = Path(__file__).resolve().parent.parent
+from harness import TOP
+
 KINDS = ("docs", "readmes", "src", "specs", "proofs")
 LONG = 30
 # Patterns of the dialect, and the words to write in their place.
@@ -47,14 +43,10 @@ class Measure:
     words: int = 0
     dialect: int = 0
     sentences: int = 0
-    in_sentences: int = 0
     long: int = 0
-    seen: Counter = field(default_factory=Counter)
 
-    def add(self, other: "Measure") -> None:
-        for name in "words dialect sentences in_sentences long".split():
-            setattr(self, name, getattr(self, name) + getattr(other, name))
-        self.seen.update(other.seen)
+    def plus(self, other: "Measure") -> "Measure":
+        return Measure(*(a + b for a, b in zip(vars(self).values(), vars(other).values())))
 
     @property
     def rate(self) -> float:
@@ -65,10 +57,6 @@ class Measure:
     def long_share(self) -> float:
         """The percentage of sentences over 30 words."""
         return self.long * 100 / max(1, self.sentences)
-
-    @property
-    def mean(self) -> float:
-        return self.in_sentences / max(1, self.sentences)
 
 
 def prose(text: str, path: str) -> str:
@@ -96,9 +84,9 @@ def lengths(text: str) -> Iterator[int]:
 
 def measure(text: str) -> Measure:
     counts = list(lengths(text))
-    seen = Counter({pattern: len(re.findall(pattern, text, re.I)) for pattern in DIALECT})
+    dialect = sum(len(re.findall(pattern, text, re.I)) for pattern in DIALECT)
     words = len(re.findall(r"[A-Za-z']+", text))
-    return Measure(words, sum(seen.values()), len(counts), sum(counts), sum(count > LONG for count in counts), seen)
+    return Measure(words, dialect, len(counts), sum(count > LONG for count in counts))
 
 
 def kind_of(path: str) -> str:
@@ -124,27 +112,5 @@ def measured(top: Path = TOP) -> List[Tuple[str, str, Measure]]:
 def sums(found: List[Tuple[str, str, Measure]]) -> Dict[str, Measure]:
     by_kind: Dict[str, Measure] = {}
     for _, kind, it in found:
-        by_kind.setdefault(kind, Measure()).add(it)
+        by_kind[kind] = by_kind.get(kind, Measure()).plus(it)
     return by_kind
-
-
-def main() -> None:
-    parser = argparse.ArgumentParser(description=__doc__, formatter_class=argparse.RawDescriptionHelpFormatter)
-    parser.add_argument("--worst", type=int, default=25)
-    parser.add_argument("--kind", choices=KINDS)
-    parser.add_argument("--words", action="store_true")
-    given = parser.parse_args()
-    found = [it for it in measured() if given.kind in (None, it[1])]
-    print("dialect/1000  words  mean  >30  file")
-    for path, _, it in sorted(found, key=lambda it: -it[2].dialect)[: given.worst]:
-        print(f"{it.rate:12.0f} {it.words:6} {it.mean:5.1f} {it.long_share:3.0f}%  {path}")
-    print()
-    for kind, it in sums(found).items():
-        print(f"{kind:8} {it.words:7} words, {it.rate:5.1f} dialect words in 1,000, {it.long_share:4.1f} % of sentences over {LONG} words")
-    if given.words:
-        for pattern, count in sum((it.seen for it in sums(found).values()), Counter()).most_common():
-            print(f"{count:6}  {pattern}   -> {DIALECT[pattern]}")
-
-
-if __name__ == "__main__":
-    main()

@@ -154,10 +154,13 @@ def tables(group: Group) -> None:
 
 
 def english(group: Group) -> None:
-    for kind, it in prose.sums(prose.measured()).items():
+    found = prose.measured()
+    for kind, it in prose.sums(found).items():
         rate, share = ENGLISH[kind]
-        group.check(f"{kind}: at most {rate} dialect words in 1,000", it.rate <= rate, f"{it.rate:.1f}")
-        group.check(f"{kind}: at most {share} % of sentences over {prose.LONG} words", it.long_share <= share, f"{it.long_share:.1f}")
+        own = [(measure, path) for path, its, measure in found if its == kind]
+        worst = lambda key: [path for _, path in sorted(own, key=lambda pair: -key(pair[0]))[:5]]
+        group.check(f"{kind}: at most {rate} dialect words in 1,000", it.rate <= rate, (it.rate, worst(lambda m: m.dialect)))
+        group.check(f"{kind}: at most {share} % of sentences over {prose.LONG} words", it.long_share <= share, (it.long_share, worst(lambda m: m.long)))
 
 
 def commits(group: Group) -> None:

@@ -6,126 +6,86 @@ Prints a line of a table for each shape. Fails on a shape whose time grows by mo
 from __future__ import annotations
 
 from pathlib import Path
-from typing import Callable, Dict, List
+from typing import Dict, List
 
 from harness import Group, Spent, best, compile_c, table
+from rowfile import spelled_out
 
 MOST = 1048576
 GROWTH = 2.7
 TURNS = 3
 
 
-def function(parts: str, name: str = "f") -> str:
-    """A function over a width with this body."""
-    return f"fun <<w>> int<<w>> {name}(int<<w>> x) {{ {parts}return x; }}\n"
-
-
-def uses(first: int, last: int, name: str = "f") -> str:
+def uses(last: int, name: str = "f", first: int = 1) -> str:
     """An event whose handler calls the function at each width from one to another."""
     calls = " else ".join(f"if (w == {w}) {{ {name}<<{w}>>(1); }}" for w in range(first, last + 1))
     return f"event go(int w);\nhandle go(int w) {{ {calls} }}\n"
 
 
-def repeated(part: str, last: int = 8) -> Callable[[int], str]:
-    """One function whose body repeats a part, with its number for `#`, used at all widths up to the last."""
-
-    def text(count: int) -> str:
-        body = "".join(part.replace("#", str(k)) for k in range(1, count + 1)) if "#" in part else part * count
-        return function(body) + uses(1, last)
-
-    return text
+def used(body: str, last: int = 8, first: int = 1) -> str:
+    """A function over a width with this body, and its uses."""
+    return f"fun <<w>> int<<w>> f(int<<w>> x) {{ {body}return x; }}\n" + uses(last, first=first)
 
 
-def calling(part: str) -> Callable[[int], str]:
-    """One function that calls another, at 16 widths."""
-    return lambda count: "fun <<w>> int<<w>> g(int<<w>> x) { return x + 1; }\n" + repeated(part, 16)(count)
-
-
-def cases(count: int) -> str:
-    arms = "".join(f"| {k} -> {{ }} " for k in range(1, count + 1))
-    return function(f"match x with {arms}") + uses(57, 64)
-
-
-def functions(count: int) -> str:
-    small = "".join(f"fun <<w>> int<<w>> f{k}(int<<w>> x) {{ return x + 1; }}\n" for k in range(1, count + 1))
-    return small + function("".join(f"f{k}<<w>>(x); " for k in range(1, count + 1))) + uses(1, 16)
-
-
-def chain(count: int) -> str:
-    steps = "".join(f"fun <<w>> int<<w>> f{k}(int<<w>> x) {{ return f{k - 1}<<w>>(x); }}\n" for k in range(1, count + 1))
-    return "fun <<w>> int<<w>> f0(int<<w>> x) { return x + 1; }\n" + steps + uses(1, 16, f"f{count}")
-
-
-def declarations(count: int) -> str:
-    arrays = "".join(f"global Array.t<<{k}>> array{k} = Array.create({k});\n" for k in range(1, 65))
-    each = "const int constant{0} = {0};\nevent event{0}(int n);\nhandle event{0}(int n) {{ generate event{0}(n); }}\n"
-    return arrays + "".join(each.format(k) for k in range(1, count + 1)) + repeated("x = x + 1; ", 64)(count)
-
-
-def arrays(count: int) -> str:
-    """A chain of functions with 8 arrays, of which the first calls these and all that are declared: each asks 2,628 pairs."""
-    letters = "pqrstuvx"
-    params = lambda width: "".join(f"Array.t<<{width}>> {letter}, " for letter in letters)
-    given = "".join(f"{letter}, " for letter in letters)
-    sets = "".join(f" if (i == 0) {{ Array.set({name}, i, 1); }}" for name in [*letters, *(f"a{k}" for k in range(1, 65))])
-    lines = [f"global Array.t<<{k}>> a{k} = Array.create(4);" for k in range(1, 65)]
-    lines.append(f"fun <<w>> void f0({params('w')}int i) {{{sets} }}")
-    lines += [f"fun <<w>> void f{k}({params('w')}int i) {{ f{k - 1}<<w>>({given}i); }}" for k in range(1, count + 1)]
-    lines += [f"fun void at{k}({params(k)}int i) {{ f{count}<<{k}>>({given}i); }}" for k in range(1, 65)]
-    return "\n".join([*lines, "event go(int w);", "handle go(int w) { }", ""])
-
-
-def unused(count: int) -> str:
-    return "".join(f"fun <<w>> int f{k}() {{ return 0; }}\n" for k in range(1, count + 1)) + "event go(int w);\nhandle go(int w) { }\n"
-
-
-def small_functions(count: int) -> str:
-    bodies = ["0", *(f"f{k}<<w>>()" for k in range(49))]
-    text = "".join(f"fun <<w>> int f{k}() {{ return {body}; }}\n" for k, body in enumerate(bodies))
-    return text + "event go(int w);\nhandle go(int w) {" + "".join(f" f49<<{k}>>();" for k in range(1, count + 1)) + " }\n"
-
-
-def underscores(count: int) -> str:
-    return f"event {'_' * count}();\n" + "fun <<w>> int<<w>> f(int<<w>> x) { return x + 1; }\n" + uses(1, 64)
-
-
-def plain(count: int) -> str:
-    each = "event event{0}(int n, int m);\nhandle event{0}(int n, int m) {{ if (n < m) {{ generate event{0}(m, n + 1); }} }}\n"
-    return "".join(each.format(k) for k in range(1, count + 1)) + "event go(int w);\nhandle go(int w) { }\n"
-
-
-MATCH = "match g<<w>>(x) with | 0 -> { x = 1; } | 1 -> { x = 0; } | _ -> { x = g<<w>>(x); } "
-SHAPES: Dict[str, Callable[[int], str]] = {
-    "assignments": repeated("x = x + 1; "),
-    "many widths": repeated("x = x + 1; ", 64),
-    "ifs": repeated("if (x == 1) { " * 60 + "x = x + 1; " + "} " * 60),
-    "locals": repeated("int<<w>> local# = x; "),
-    "hidden locals": repeated("int<<w>> y = x; "),
-    "long names": repeated("int<<w>> " + "long_name_" * 20 + "# = x; "),
-    "underscores": underscores,
-    "comments": repeated("/* none */ "),
-    "returns": repeated("if (x == 1) { return x; } "),
-    "prints": repeated('if (x == 1) { printf("port %d", x); return x; } '),
-    "cases": cases,
-    "calls": calling("x = g<<w>>(x); "),
-    "nested calls": calling("x = " + "g<<w>>(" * 30 + "x" + ")" * 30 + "; "),
-    "conditions": calling("if (g<<w>>(x) < x) { x = g<<w>>(x); } "),
-    "matches": calling(MATCH),
-    "functions": functions,
-    "chain": chain,
-    "declarations": declarations,
-    "arrays": arrays,
-    "unused": unused,
-    "small functions": small_functions,
-    "too long": repeated("x = x + 1; ", 64),
-    "plain": plain,
+NO_HANDLER = "event go(int w);\nhandle go(int w) { }\n"
+ADDS = "(int<<w>> x) { return x + 1; }\n"
+G = f"fun <<w>> int<<w>> g{ADDS}"
+# The parameters and the arguments of functions with 8 arrays, with the width of the cells to be put in.
+ARRAYS = "".join(f"Array.t<<W>> {letter}, " for letter in "pqrstuvx") + "int i"
+GIVEN = "p, q, r, s, t, u, v, x, i"
+SETS = "".join(f" if (i == 0) {{ Array.set({letter}, i, 1); }}" for letter in "pqrstuvx") + "«64: if (i == 0) { Array.set(a##, i, 1); }»"
+# Texts in the form of tests/rows; `@` is the number of their parts.
+SHAPES: Dict[str, str] = {
+    "assignments": used("«@:x = x + 1; »"),
+    "many widths": used("«@:x = x + 1; »", 64),
+    "ifs": used("«@:«60:if (x == 1) { »x = x + 1; «60:} »»"),
+    "locals": used("«@:int<<w>> local## = x; »"),
+    "hidden locals": used("«@:int<<w>> y = x; »"),
+    "long names": used("«@:int<<w>> «20:long_name_»## = x; »"),
+    "underscores": f"event «@:_»();\nfun <<w>> int<<w>> f{ADDS}" + uses(64),
+    "comments": used("«@:/* none */ »"),
+    "returns": used("«@:if (x == 1) { return x; } »"),
+    "prints": used('«@:if (x == 1) { printf("port %d", x); return x; } »'),
+    "cases": used("match x with «@:| ## -> { } »", 64, first=57),
+    "calls": G + used("«@:x = g<<w>>(x); »", 16),
+    "nested calls": G + used("«@:x = «30:g<<w>>(»x«30:)»; »", 16),
+    "conditions": G + used("«@:if (g<<w>>(x) < x) { x = g<<w>>(x); } »", 16),
+    "matches": G + used("«@:match g<<w>>(x) with | 0 -> { x = 1; } | 1 -> { x = 0; } | _ -> { x = g<<w>>(x); } »", 16),
+    "functions": f"«@:fun <<w>> int<<w>> f##{ADDS}»" + used("«@:f##<<w>>(x); »", 16),
+    "chain": f"fun <<w>> int<<w>> f0{ADDS}«@:fun <<w>> int<<w>> f##(int<<w>> x) {{ return f#<<w>>(x); }}\n»" + uses(16, "f@"),
+    "declarations": """«64:global Array.t<<##>> array## = Array.create(##);
+»«@:const int constant## = ##;
+event event##(int n);
+handle event##(int n) { generate event##(n); }
+»""" + used("«@:x = x + 1; »", 64),
+    # A chain of functions with 8 arrays, of which the first calls these and all that are declared: each asks 2,628 pairs.
+    "arrays": f"""«64:global Array.t<<##>> a## = Array.create(4);
+»fun <<w>> void f0({ARRAYS.replace('W', 'w')}) {{{SETS} }}
+«@:fun <<w>> void f##({ARRAYS.replace('W', 'w')}) {{ f#<<w>>({GIVEN}); }}
+»«64:fun void at##({ARRAYS.replace('W', '##')}) {{ f@<<##>>({GIVEN}); }}
+»""" + NO_HANDLER,
+    "unused": "«@:fun <<w>> int f##() { return 0; }\n»" + NO_HANDLER,
+    "small functions": """fun <<w>> int f0() { return 0; }
+«49:fun <<w>> int f##() { return f#<<w>>(); }
+»event go(int w);
+handle go(int w) {«@: f49<<##>>();» }
+""",
+    "too long": used("«@:x = x + 1; »", 64),
+    "plain": "«@:event event##(int n, int m);\nhandle event##(int n, int m) { if (n < m) { generate event##(m, n + 1); } }\n»" + NO_HANDLER,
 }
+
+
+def text_of(shape: str, count: int) -> str:
+    """The text of a shape with this many parts."""
+    return spelled_out(SHAPES[shape].replace("@", str(count)))
+
+
 CALLS = {"expand": ["expand", "p"], "check": ["check", "p"], "once": ["once", "p", "go", "7"], "run whole": ["run", "whole", "p", "l", "s"]}
 
 
 def is_short(group: Group, shape: str, count: int) -> bool:
     """Whether the text of so many parts may be read and expanded, except the one shape that is too long."""
-    text = SHAPES[shape](count)
+    text = text_of(shape, count)
     group.file("p", text)
     return len(text) <= MOST and (shape == "too long" or group.call("expand", "p", cwd=group.room).status == 0)
 
@@ -159,7 +119,7 @@ def line_of(group: Group, program: Path, shape: str) -> List[object]:
     spent: Dict[str, Dict[int, Spent]] = {name: {} for name in CALLS}
     sizes: List[int] = []
     for part in 1, 2, 4:
-        text = SHAPES[shape](count // part)
+        text = text_of(shape, count // part)
         group.file("p", text)
         sizes += [len(text), len(group.call("expand", "p", cwd=group.room).out)] if part == 1 else []
         for name, words in CALLS.items():
