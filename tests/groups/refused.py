@@ -10,7 +10,6 @@ from __future__ import annotations
 import shutil
 from collections import Counter
 from dataclasses import dataclass, field
-from pathlib import Path
 from typing import Dict, List, Sequence
 
 from harness import EXAMPLES, Ended, Group, call, compile_c, table, with_variables

@@ -14,7 +14,7 @@ import time
 from pathlib import Path
 from typing import List, Sequence
 
-from harness import FIRST, FIRST_LOG, TOP, Ended, Group, Word, call, shell
+from harness import FIRST, FIRST_LOG, Ended, Group, Word, call, shell
 
 FAULT = b"write fault\n"
 # A line that begins with a bracket and the lines below it that begin with two blanks; and the begin of any such line.
