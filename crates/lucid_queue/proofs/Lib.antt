@@ -4,3 +4,4 @@ mod Lists
 mod Putting
 mod Reaching
 mod Seeking
+mod TurnsLemmas

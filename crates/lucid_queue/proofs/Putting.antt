@@ -1,31 +1,16 @@
 -- An event that is inserted at its place at its switch is at its place among all.
-use Rattle.std.proofs.Common.{◌≡◌, ℕ, zero, suc, ◌+◌, ◌<◌, ◌≤◌, ◌⊎◌, inl, inr, List, [], ◌∷◌, ◌++◌, map, length, slice_index_or, slice_set, Option, Some, is_some, Bool, true, false, ◌||◌, if◌then◌else◌, cond, is_eq, refl, sym, ◌∙◌, ap, subst, arith}
+use Rattle.std.proofs.Common.{◌≡◌, ℕ, zero, suc, ◌+◌, ◌<◌, ◌≤◌, ◌⊎◌, inl, inr, List, [], ◌∷◌, ◌++◌, map, length, slice_index_or, slice_set, Bool, true, false, ◌||◌, if◌then◌else◌, is_eq, refl, sym, ◌∙◌, ap, subst, arith}
 use Rattle.std.specs.BTreeMap.{insert_entry}
 use Rattle.std.specs.List.{list_any}
-use Rattle.std.specs.Map.{lookup}
 use Rattle.std.specs.Ordering.{is_lt, match_ordering, nat_cmp, ordering_then}
 use Rattle.std.specs.declared.cmp.Ordering.{Ordering}
 use Rattle.std.specs.declared.cmp.Ordering.TheVariants.{Less, Equal, Greater}
 use Rattle.std.proofs.lemmas.Bool.Decides.{nat_tests}
-use Rattle.lucid_base.specs.declared.event.Event.{Event}
 use Rattle.lucid_queue.specs.Kept.{Entries, all_from, has_key, pending_at}
 use Rattle.lucid_queue.specs.Order.{key_cmp, is_before, has_place}
 use Rattle.lucid_queue.specs.Waiting.{put_in}
-use Rattle.lucid_queue.specs.declared.pending.PendKey.{PendKey}
 use Rattle.lucid_queue.specs.declared.pending.Pending.{Pending}
 use Rattle.lucid_queue.proofs.Lists.{any_behind, none_within}
-
--- the answer of the map for a key
-pub taken : (key : PendKey) (es : Entries) → is_some (lookup (λ q. is_eq (key_cmp key q)) es) ≡ list_any (has_key key) es
-taken key [] = refl
-taken key (e ∷ es) = at (is_eq (key_cmp key e.0)) (taken key es)
-  where
-    rest : Option Event
-    rest = lookup (λ q. is_eq (key_cmp key q)) es
-
-    at : (b : Bool) → is_some rest ≡ list_any (has_key key) es → is_some (cond b (Some e.1) rest) ≡ (b || list_any (has_key key) es)
-    at true is = refl
-    at false is = is
 
 differs : (s k : ℕ) (o : Ordering) → s < k ⊎ k < s → is_eq (ordering_then (nat_cmp s k) o) ≡ false
 differs s k o is = grind (arith, nat_tests)

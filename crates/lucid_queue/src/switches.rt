@@ -62,7 +62,7 @@ impl Switches {
     {
         let switch = p.switch as usize;
         reach(&mut self.turns, self.alloc, switch)?;
-        self.turns[switch].push(self.alloc, p.key, p.event)
+        self.turns[switch].push(p.key, p.event)
     }
 
     /// Removes and returns the first event of the switch, if it is ready at the tick.

@@ -7,26 +7,31 @@ ghost use Rattle.lucid_queue.specs.Order.{key_cmp};
 ghost use Rattle.lucid_queue.specs.Kept.{IsByKey, has_key, pending_at, front, behind_front};
 
 use crate::pending::{PendKey, Pending};
-use lucid_base::{Boxed, Event, Memory};
+use lucid_base::{Event, Memory};
+use slab::Slab;
 use std::alloc::Global;
 use std::collections::BTreeMap;
 use std::marker::Model;
 
-/// The pending events of one switch. Contracts see them as the list of keys and events in the order of keys. An event has memory of its
-/// own, so that spare capacity in a node of the map is small: at most some 190 bytes each.
+/// The pending events of one switch. Contracts see them as the list of keys and events in the order of keys. The map has the slot of each
+/// key's event, and the events are in one block of memory, of which a slot that gets free is used again.
 #[derive(Drop)]
 pub(crate) struct Turns {
-    events: BTreeMap<PendKey, Boxed<Event>>,
+    slots: BTreeMap<PendKey, usize>,
+    events: Slab<Event>,
 }
 
 impl Model for Turns {
     ghost use Rattle.std.specs.Prelude.{List};
     ghost use Rattle.lucid_base.specs.declared.event.Event.{Event};
     ghost use Rattle.lucid_queue.specs.declared.pending.PendKey.{PendKey};
+    ghost use Rattle.lucid_queue.specs.Turns.{AreKept, with_events};
 
     ghost Value = { List (PendKey × Event) };
 
-    ghost view = { λ t. t.events.entries };
+    ghost view = { λ t. with_events t.events t.slots.entries };
+
+    ghost invariant = { λ t. AreKept t.events t.slots.entries };
 }
 
 impl Turns {
@@ -35,7 +40,8 @@ impl Turns {
         ensures { result ≡ [] }
     {
         Turns {
-            events: BTreeMap::new(alloc),
+            slots: BTreeMap::new(alloc),
+            events: Slab::new(alloc),
         }
     }
 
@@ -43,18 +49,20 @@ impl Turns {
     pub(crate) fn has(&self, key: &PendKey) -> bool
         ensures { result ≡ list_any (has_key key.now) self.now }
     {
-        self.events.contains_key(key)
+        self.slots.contains_key(key)
     }
 
     /// Adds an event whose key no other has.
-    pub(crate) fn push(&mut self, alloc: Global, key: PendKey, event: Event) -> Result<(), Memory>
+    pub(crate) fn push(&mut self, key: PendKey, event: Event) -> Result<(), Memory>
         requires { list_any (has_key key) self.old ≡ false }
         ensures waits { OnOk result (self.new ≡ insert_entry key_cmp self.old key event) }
         ensures unchanged { OnErr result (self.new ≡ self.old) }
         ensures by_key { IsByKey self.old → IsByKey self.new }
     {
-        let event = Boxed::new(alloc, event)?;
-        self.events.insert(key, event)?;
+        self.events.reserve(1)?;
+        let slot = self.events.vacant_key();
+        self.slots.insert(key, slot)?;
+        self.events.insert_reserved(event);
         Ok(())
     }
 
@@ -63,15 +71,12 @@ impl Turns {
         ensures first { result ≡ option_map (pending_at switch) (front tick self.old) }
         ensures others { self.new ≡ behind_front tick self.old }
     {
-        let (key, _) = self.events.first_key_value()?;
+        let (key, _) = self.slots.first_key_value()?;
         if key.ready > tick {
             return None;
         }
-        let (key, event) = self.events.pop_first()?;
-        Some(Pending {
-            key,
-            switch,
-            event: event.into_inner(),
-        })
+        let (key, slot) = self.slots.pop_first()?;
+        let event = self.events.remove(slot);
+        Some(Pending { key, switch, event })
     }
 }
