@@ -1,10 +1,12 @@
-// Drawn code in stages: packets that move in any order beside packets that go through alone, in the order in which they entered.
+// Drawn code in stages: packets that move in any order beside the interpreter, which runs them in the order in which they entered. A move that
+// mixes packets, and a refusal that changes the pipe, fail here.
 ghost use Rattle.std.specs.Prelude.{◌≡◌};
 
 use crate::codes::code;
-use crate::drawn_whole::{drawn_input, pass, placed, same_rows};
+use crate::drawn_whole::{drawn_input, placed, same_rows};
 use crate::draws::Draws;
-use lucid_base::Memory;
+use crate::interpreted::interpret;
+use lucid_base::{Cells, Memory};
 use lucid_code::Code;
 use lucid_pipe::{Passed, Pipe, Stuck};
 use lucid_tables::Placed;
@@ -27,28 +29,27 @@ fn add_one(count: &mut u32) {
     *count = count.saturating_add(1);
 }
 
-/// Enters a drawn event, if it can, and runs it alone through the other pipe; keeps the output of that run.
+/// Enters a drawn event, if it can, and interprets it; returns the output of that run.
 fn enter(
+    alloc: Global,
     draws: &mut Draws,
     code: &Code,
     pipe: &mut Pipe,
-    alone: &mut Pipe,
+    cells: &mut Cells,
     tally: &mut Tally,
-) -> Option<Passed>
-    requires pipe { pipe.old.placed.code ≡ code.now }
-    requires alone { alone.old.placed.code ≡ code.now }
-    ensures pipe { pipe.new.placed ≡ pipe.old.placed }
-    ensures alone { alone.new.placed ≡ alone.old.placed }
+) -> Result<Option<Passed>, Memory>
+    requires { pipe.old.placed.code ≡ code.now }
+    ensures { pipe.new.placed ≡ pipe.old.placed }
 {
     let Some(input) = drawn_input(draws, code) else {
-        return None;
+        return Ok(None);
     };
     if pipe.enter(input.event, input.now, input.me).is_err() {
         add_one(&mut tally.busy);
-        return None;
+        return Ok(None);
     }
     add_one(&mut tally.entered);
-    pass(alone, &input)
+    Ok(Some(interpret(alloc, code, &input, cells)?))
 }
 
 /// Moves the packet of a slot, if it can. A leaving packet must have the output of the next run in the list, which is removed.
@@ -75,31 +76,46 @@ fn drain(pipe: &mut Pipe, told: &mut VecDeque<Passed>, tally: &mut Tally) {
     }
 }
 
-/// Drawn moves through the stages until no packet is left. All that entered must have come out, and the cells must be those of packets
-/// that went alone.
-fn fly(alloc: Global, draws: &mut Draws, code: &Placed, tally: &mut Tally) -> Result<(), Memory> {
-    let mut told = VecDeque::new(alloc);
-    let mut alone = Pipe::new(alloc, code)?;
-    let mut pipe = Pipe::new(alloc, code)?;
+/// Does two hundred drawn moves. Each packet that entered and did not leave has its output in the list.
+fn fly(
+    alloc: Global,
+    draws: &mut Draws,
+    code: &Placed,
+    pipe: &mut Pipe,
+    cells: &mut Cells,
+    told: &mut VecDeque<Passed>,
+    tally: &mut Tally,
+) -> Result<(), Memory>
+    requires { pipe.old.placed ≡ code.now }
+{
     let places = (code.stages().len() as u64).saturating_add(1);
     for _turn in 0..200 {
         if draws.below(4) != 0 {
-            go(&mut pipe, draws.below(places) as usize, &mut told, tally);
-        } else if let Some(passed) = enter(draws, code.code(), &mut pipe, &mut alone, tally) {
+            go(pipe, draws.below(places) as usize, told, tally);
+        } else if let Some(passed) = enter(alloc, draws, code.code(), pipe, cells, tally)? {
             told.push_back(passed)?;
         }
     }
+    Ok(())
+}
+
+/// Flies until no packet is left. All that entered must have come out, and the cells must be those of the interpreter.
+fn land(alloc: Global, draws: &mut Draws, code: &Placed, tally: &mut Tally) -> Result<(), Memory> {
+    let mut told = VecDeque::new(alloc);
+    let mut cells = Cells::zeros(alloc, code.code().arrays())?;
+    let mut pipe = Pipe::new(alloc, code)?;
+    fly(alloc, draws, code, &mut pipe, &mut cells, &mut told, tally)?;
     drain(&mut pipe, &mut told, tally);
     let rows = pipe.rows(alloc)?;
-    let cells = alone.rows(alloc)?;
-    if !told.is_empty() || !same_rows(rows.as_slice(), cells.as_slice()) {
+    let held = cells.rows(alloc)?;
+    if !told.is_empty() || !same_rows(rows.as_slice(), held.as_slice()) {
         add_one(&mut tally.wrong);
     }
     Ok(())
 }
 
 /// Flies through this many drawn codes.
-fn fly_all(alloc: Global, codes: u32) -> Result<Tally, Memory> {
+fn land_all(alloc: Global, codes: u32) -> Result<Tally, Memory> {
     let mut draws = Draws { state: 29 };
     let mut tally = Tally {
         entered: 0,
@@ -113,9 +129,9 @@ fn fly_all(alloc: Global, codes: u32) -> Result<Tally, Memory> {
         let Some(code) = code(alloc, &mut draws)? else {
             return Err(Memory);
         };
-        match placed(alloc, &code)? {
+        match placed(alloc, &code) {
             None => add_one(&mut tally.wrong),
-            Some(placed) => fly(alloc, &mut draws, &placed, &mut tally)?,
+            Some(placed) => land(alloc, &mut draws, &placed, &mut tally)?,
         }
     }
     Ok(tally)
@@ -123,7 +139,7 @@ fn fly_all(alloc: Global, codes: u32) -> Result<Tally, Memory> {
 
 #[test]
 fn moves_in_any_order_are_whole_passes(rt: HostRuntime) -> Result<(), Fail> {
-    let tally = fly_all(rt.alloc(), 200)?;
+    let tally = land_all(rt.alloc(), 200)?;
     assert_eq!(rt; tally.wrong, 0);
     for count in [
         tally.entered,

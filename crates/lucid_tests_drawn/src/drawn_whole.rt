@@ -3,16 +3,24 @@ ghost use Rattle.std.specs.Prelude.{◌≡◌, IfSome};
 ghost use Rattle.lucid_code.specs.Inputs.{IsInput};
 
 use crate::draws::Draws;
-use lucid_base::{Args, Bits, Event, Items, Memory};
+use lucid_base::{Args, Bits, Event, Items};
 use lucid_code::Code;
-use lucid_conf::limits_of;
+use lucid_conf::Limits;
 use lucid_layout::place;
 use lucid_pipe::{Passed, Pipe};
 use lucid_tables::Placed;
 use std::alloc::Global;
 
 /// Room for all drawn code, in stages that are soon full.
-const LIMITS: &[u8] = b"{\"stages\":12,\"tables\":2}";
+const LIMITS: Limits = Limits {
+    stages: 12,
+    tables: 2,
+    rows: 64,
+    arrays: 4,
+    arms: 8,
+    bits: 16384,
+    recirc: 0,
+};
 
 /// An event that comes at a tick and a switch.
 #[derive(Clone, Copy)]
@@ -22,10 +30,10 @@ pub(crate) struct Input {
     pub(crate) me: u32,
 }
 
-pub(crate) fn placed(alloc: Global, code: &Code) -> Result<Option<Placed>, Memory> {
-    match limits_of(alloc, LIMITS) {
-        Err(_) => Err(Memory),
-        Ok(limits) => Ok(place(alloc, code, &limits).ok()),
+pub(crate) fn placed(alloc: Global, code: &Code) -> Option<Placed> {
+    match place(alloc, code, &LIMITS) {
+        Ok(placed) => Some(placed),
+        Err(_) => None,
     }
 }
 

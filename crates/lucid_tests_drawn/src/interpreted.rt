@@ -1,16 +1,10 @@
-// Drawn code beside an interpreter, which runs the operations in the order of the list, each on the fields that the ones before it wrote.
-// It has no table, stage or register. A stage that matches, computes or stores wrongly fails here, also where it does so for all packets.
-ghost use Rattle.std.specs.Prelude.{◌≡◌};
-
-use crate::codes::code;
-use crate::drawn_whole::{Input, drawn_input, pass, placed, same_rows};
-use crate::draws::Draws;
+// An interpreter of code, which runs the operations in the order of the list, each on the fields that the ones before it wrote. It has no
+// table, stage or register.
+use crate::drawn_whole::Input;
 use lucid_base::{Args, Bits, Cells, Event, Memory, Out, Outs, Target};
 use lucid_code::{Act, Code, Literal, Operand};
-use lucid_pipe::{Passed, Pipe};
-use lucid_tables::Placed;
+use lucid_pipe::Passed;
 use std::alloc::Global;
-use std::test::Fail;
 
 fn value(fields: &[u64], operand: Operand) -> u64 {
     match operand {
@@ -136,7 +130,7 @@ fn outs_of(sent: &[(u32, Out)]) -> Outs {
 }
 
 /// Runs the operations on an input, one after another.
-fn interpret(
+pub(crate) fn interpret(
     alloc: Global,
     code: &Code,
     input: &Input,
@@ -155,53 +149,4 @@ fn interpret(
         me: input.me,
         outs: outs_of(sent.as_slice()),
     })
-}
-
-/// Whether a drawn event leaves the pipe with the outs that the interpreter gives. Adds their number to `sent`.
-fn agrees(
-    alloc: Global,
-    draws: &mut Draws,
-    code: &Code,
-    pipe: &mut Pipe,
-    cells: &mut Cells,
-    sent: &mut usize,
-) -> Result<bool, Memory>
-    requires { pipe.old.placed.code ≡ code.now }
-    ensures { pipe.new.placed ≡ pipe.old.placed }
-{
-    let Some(input) = drawn_input(draws, code) else {
-        return Ok(false);
-    };
-    let passed = pass(pipe, &input);
-    let wanted = interpret(alloc, code, &input, cells)?;
-    *sent = sent.saturating_add(wanted.outs.as_slice().len());
-    Ok(passed == Some(wanted))
-}
-
-/// Whether twenty drawn events in a row agree, and then all cells.
-fn run(alloc: Global, draws: &mut Draws, code: &Placed, sent: &mut usize) -> Result<bool, Memory> {
-    let mut pipe = Pipe::new(alloc, code)?;
-    let mut cells = Cells::zeros(alloc, code.code().arrays())?;
-    let mut same = true;
-    for _turn in 0..20 {
-        let agreed = agrees(alloc, draws, code.code(), &mut pipe, &mut cells, sent)?;
-        same = same && agreed;
-    }
-    let rows = pipe.rows(alloc)?;
-    let held = cells.rows(alloc)?;
-    Ok(same && same_rows(rows.as_slice(), held.as_slice()))
-}
-
-#[test]
-fn stages_do_what_the_operations_do_in_order(rt: HostRuntime) -> Result<(), Fail> {
-    let alloc = rt.alloc();
-    let mut draws = Draws { state: 41 };
-    let mut sent = 0;
-    for _turn in 0..200 {
-        let code = code(alloc, &mut draws)?.expect(&rt, "valid code");
-        let placed = placed(alloc, &code)?.expect(&rt, "room for the code");
-        assert!(rt; run(alloc, &mut draws, &placed, &mut sent)?);
-    }
-    assert!(rt; 1_000 <= sent, "{sent}");
-    Ok(())
 }

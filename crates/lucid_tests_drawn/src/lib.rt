@@ -1,6 +1,5 @@
 // Tests of passes and of the pipe on drawn code, from fixed seeds.
-// Each pass's result is compared with its input, packets that move in any order with packets that traverse the stages alone, and these
-// with an interpreter that runs the operations in order.
+// Each pass's result in stages, and packets that move in any order, are compared with an interpreter that runs the operations in order.
 // Nothing depends on this crate.
 #![tactic(auto)]
 
