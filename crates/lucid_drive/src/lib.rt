@@ -7,8 +7,8 @@
 // at the beginning and a drive worked by hand.
 // Definitions: Flush (how the packets in flight finish), Changes (the effect of a call on the pipe), Happened (the outcome of a step),
 // Driven and Standing (a pipe at the state of a drive), Examples (the drive worked by hand).
-// Used by lucid_snap, lucid_top and lucid_top_laws. Promises of the program rest on its definitions (docs/TRUSTED.md). Bodies and proofs
-// may change; a public clause may only get stronger.
+// Used by lucid_snap, lucid_top_pipes, lucid_top and lucid_top_laws. Promises of the program rest on its definitions (docs/TRUSTED.md).
+// Bodies and proofs may change; a public clause may only get stronger.
 #![tactic(auto)]
 
 mod calls;

@@ -8,8 +8,8 @@
 // Read in specs/: Seen (the model of a network), Holds (the pipeline of a switch), Rows (its stages, each with its cells and its packet),
 // Sights (what a watch is shown), Writes (the written text), Wanting (when memory may run out). The others describe functions within the
 // crate.
-// Used by lucid_top. Promises of the program rest on its definitions (docs/TRUSTED.md). Bodies and proofs may change; a public clause may
-// only get stronger.
+// Used by lucid_top_pipes and lucid_top. Promises of the program rest on its definitions (docs/TRUSTED.md). Bodies and proofs may change; a
+// public clause may only get stronger.
 #![tactic(auto)]
 
 mod ending;

@@ -22,7 +22,7 @@ use Rattle.lucid_pipe.specs.declared.sight.Sight.{Sight}
 use Rattle.lucid_top.specs.Headline.{Accepted, AuditAccepts, FirstFitPlaces, Hold, Holds, NoneFailed, Three, bench_texts, drive, network_log, network_sights, placed_by, run_pipe, run_placed, run_whole, snap, snapshot_log, steps_log, steps_sights, whole_network}
 use Rattle.lucid_top.specs.Passes.{SamePasses}
 use Rattle.lucid_top.specs.Pipes.{Ready, network_of}
-use Rattle.lucid_top.specs.Watching.{Seen, Shown, ToldBefore}
+use Rattle.lucid_top_pipes.specs.Watching.{Seen, Shown, ToldBefore}
 use Rattle.lucid_top_fit.specs.Passes.{PassView, PassesRun}
 use Rattle.lucid_top.proofs.Headlines.{MakeSame, Makes, Quiet, asks-drive, asks-pipe, asks-placed, asks-snap, asks-whole, audited_of, is-placed, is-ready, quiet-drive, quiet-pipe, quiet-placed, quiet-snap, quiet-whole, ready_of, shows-drive, shows-pipe, shows-placed, texts-drive, texts-pipe, texts-placed}
 use Rattle.lucid_top_words.specs.Command.{command_of}

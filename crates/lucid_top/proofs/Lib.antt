@@ -1,8 +1,6 @@
-pub mod Drives
 pub mod Headlines
 pub mod Laws
 pub mod Names
-pub mod Networks
 pub mod PremisesLemmas
 pub mod Runs
 pub mod Stopping

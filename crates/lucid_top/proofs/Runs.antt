@@ -10,7 +10,7 @@ use Rattle.lucid_pipe.specs.declared.sight.Sight.{Sight}
 use Rattle.lucid_code.specs.Parts as code
 use Rattle.lucid_top.specs.Pipes.{IsTarget, RunsCode, Target}
 use Rattle.lucid_top_fit.specs.Fit.{RunsOn}
-use Rattle.lucid_top.specs.Watching.{Seen, Shown, ShowsSome}
+use Rattle.lucid_top_pipes.specs.Watching.{Seen, Shown, ShowsSome}
 use Rattle.lucid_top_words.specs.Writing.{Performs, Refuses, Untouched}
 use Rattle.lucid_top_words.specs.declared.status.Status.{Status}
 use Rattle.lucid_top_words.specs.declared.status.Status.TheVariants as status
@@ -116,11 +116,6 @@ shown-cut {P} shows old new x r end shown is = subst (Shown shows old new) (sym 
   | inl none ↦ inl none.1
   | inr all ↦ inr (all.0, all.1, record { first = all.0; rest = []; parts = sym (append-nil all.0); shows = all.2 })
 ])
-
--- a part of it was shown, and with it the call was refused
-pub shown-stopped : {P : Type 0} (shows : Result (List Sight) Refusal → Type 0) (old new : Seen) (sights : List Sight) (r : Refusal) (end : Result P Refusal) → IsTheAnswer shows (Ok sights) →
-    ShowsSome old new sights → end ≡ Err r → Shown shows old new end
-shown-stopped shows old new sights r end answer some is = subst (Shown shows old new) (sym is) (inr (sights, answer, some))
 
 -- what was shown by a part that was refused was shown by all of it
 pub shown-refused : {Q : Type 0} (shows : Result (List Sight) Refusal → Type 0) (old new : Seen) (r : Refusal) (end : Result Q Refusal) →

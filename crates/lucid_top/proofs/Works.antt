@@ -11,7 +11,7 @@ use Rattle.lucid_top_words.specs.Command.{command_of, files_of}
 use Rattle.lucid_top_words.specs.Files.{FilesRead, texts_in}
 use Rattle.lucid_top_words.specs.Outcome.{End}
 use Rattle.lucid_top_fit.specs.Passes.{PassesRun}
-use Rattle.lucid_top.specs.Watching.{Shown}
+use Rattle.lucid_top_pipes.specs.Watching.{Shown}
 use Rattle.lucid_top_words.proofs.Seen.{Nothing}
 
 -- the words are no command

@@ -10,7 +10,7 @@ use Rattle.lucid_top_words.specs.declared.refusal.Refusal.{Refusal}
 use Rattle.lucid_top_words.specs.declared.refusal.Refusal.TheVariants as refusal
 use Rattle.lucid_top_words.specs.declared.status.Status.{Status}
 use Rattle.lucid_top.specs.Answer.{Given, Question, CommandAnswers, CommandRuns, CommandShows, MayStop, command_files, given}
-use Rattle.lucid_top.specs.Watching.{Seen, Shown}
+use Rattle.lucid_top_pipes.specs.Watching.{Seen, Shown}
 use Rattle.lucid_top_fit.specs.Passes.{PassView, PassesRun}
 use Rattle.lucid_top_words.specs.Command.{command_of}
 use Rattle.lucid_top_words.specs.Files.{Texts, FilesRead, IsOneOf, texts_in}

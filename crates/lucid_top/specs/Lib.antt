@@ -17,4 +17,3 @@ pub mod PremisesLaws
 pub mod RunPipe
 pub mod RunWhole
 pub mod Snap
-pub mod Watching

@@ -1,20 +1,9 @@
-// Errors of a run, as refusals of a call.
+// Errors of a drive with a snapshot, as refusals of a call.
 ghost use Rattle.std.specs.Prelude.{◌≡◌};
 ghost use Rattle.lucid_top.specs.Causes as causes;
 
-use lucid_net::NetError;
 use lucid_snap::SnapError;
 use lucid_top_words::Refusal;
-
-/// Why a network stops.
-pub(crate) fn of_net(error: NetError) -> Refusal
-    ensures { result ≡ causes.of_net error }
-{
-    match error {
-        NetError::WriteFault => Refusal::WriteFault,
-        NetError::Memory => Refusal::Memory,
-    }
-}
 
 /// Why a drive with a snapshot stops.
 pub(crate) fn of_snap(error: SnapError) -> Refusal

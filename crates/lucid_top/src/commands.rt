@@ -7,7 +7,7 @@ ghost use Rattle.lucid_top_words.specs.Words.{word_at};
 ghost use Rattle.lucid_top_words.specs.Writing.{Performs};
 ghost use Rattle.lucid_top.specs.Answer.{CommandAnswers, CommandRuns, CommandShows, MayStop};
 ghost use Rattle.lucid_top.specs.Call.{given'};
-ghost use Rattle.lucid_top.specs.Watching.{Shown};
+ghost use Rattle.lucid_top_pipes.specs.Watching.{Shown};
 
 mod audit;
 mod check;

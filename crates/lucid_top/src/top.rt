@@ -9,7 +9,7 @@ ghost use Rattle.lucid_top.specs.Call.{Done, Ended, IsNamed, Names, Unfailed, as
 ghost use Rattle.lucid_pipe.specs.Sights.{ShowsAll};
 ghost use Rattle.lucid_top.specs.Headline.{Accepted, AuditAccepts, FirstFitPlaces, Hold, Holds, NoneFailed, OutOfMemory, Three, Wrote, drive, network_log};
 ghost use Rattle.lucid_top.specs.Headline.{bench_texts, network_sights, placed_by, run_pipe, run_placed, run_whole, snap, snapshot_log, steps_log, steps_sights, whole_network};
-ghost use Rattle.lucid_top.specs.Watching.{ToldBefore};
+ghost use Rattle.lucid_top_pipes.specs.Watching.{ToldBefore};
 ghost use Rattle.lucid_top.specs.Passes.{SamePasses};
 ghost use Rattle.lucid_top_fit.specs.Passes.{passes_view};
 ghost use Rattle.lucid_top_words.specs.Command.{command_of};

@@ -2,8 +2,8 @@
 // with its status and its line. A part of the work `Prepares` something or refuses, and one part follows another (specs/Outcome). The words
 // are read by place (specs/Command). The files are read as specs/Files defines, from which all claims about statuses 2 and 3 follow. The
 // line of a refusal is the one of specs/Refusal.
-// Used by lucid_top_program, lucid_top_fit, lucid_top, lucid_top_laws and lucid_main. Promises of the program rest on its definitions
-// (docs/TRUSTED.md). Bodies and proofs may change; a public clause may only get stronger.
+// Used by lucid_top_program, lucid_top_fit, lucid_top_pipes, lucid_top, lucid_top_laws and lucid_main. Promises of the program rest on its
+// definitions (docs/TRUSTED.md). Bodies and proofs may change; a public clause may only get stronger.
 #![tactic(auto)]
 
 mod command;

@@ -10,13 +10,13 @@ ghost use Rattle.lucid_top_words.specs.Writing.{Performs, nowhere};
 ghost use Rattle.lucid_top.specs.Drive.{DriveAnswers, DriveShows, driven};
 ghost use Rattle.lucid_top.specs.Held.{ReadyKeeps, ready_view};
 ghost use Rattle.lucid_top.specs.Pipes.{RunsCode};
-ghost use Rattle.lucid_top.specs.Watching.{Shown};
+ghost use Rattle.lucid_top_pipes.specs.Watching.{Shown};
 
 use crate::commands::setup::Ready;
-use lucid_drive::drive as drive_pipe;
 use lucid_io::Sink;
 use lucid_pass::Pass;
-use lucid_pipe::{Pipe, Watch};
+use lucid_pipe::Watch;
+use lucid_top_pipes::drive_on_pipe;
 use lucid_top_words::Refusal;
 use std::alloc::Global;
 
@@ -53,8 +53,7 @@ fn drive_ready<W: Sink, V: Watch>(
         Performs nowhere (λ o. o ≡ Ok text) W.written W.faults out.old out.new result }
     ensures shown { Shown (λ o. o ≡ Ok (sights (driven (ready_view ready.now)))) (V.seen watch.old) (V.seen watch.new) result }
 {
-    let mut pipe = Pipe::new(alloc, &ready.pipes.fitted.placed)?;
     let core = &ready.pipes.target.core;
-    drive_pipe(&mut pipe, core, &ready.scene, out, watch)?;
-    Ok(())
+    let placed = &ready.pipes.fitted.placed;
+    drive_on_pipe(alloc, core, placed, &ready.scene, out, watch)
 }

@@ -13,7 +13,7 @@ ghost use Rattle.lucid_top_words.specs.Writing.{Performs, nowhere};
 ghost use Rattle.lucid_top.specs.Generated.{BenchAnswers, BenchShows, GenAnswers, gen_text};
 ghost use Rattle.lucid_top.specs.Held.{ReadyKeeps, ready_view};
 ghost use Rattle.lucid_top.specs.Pipes.{RunsCode, network_of, sights_of};
-ghost use Rattle.lucid_top.specs.Watching.{Shown};
+ghost use Rattle.lucid_top_pipes.specs.Watching.{Shown};
 
 use crate::commands::network::run_network;
 use crate::commands::setup::Ready;

@@ -6,7 +6,7 @@ ghost use Rattle.lucid_top_words.specs.Words.{word_at};
 ghost use Rattle.lucid_top_words.specs.Writing.{Performs};
 ghost use Rattle.lucid_top.specs.Pipes.{RunsCode};
 ghost use Rattle.lucid_top.specs.RunPipe.{RunPipeAnswers, RunPipeShows, StopsPiped};
-ghost use Rattle.lucid_top.specs.Watching.{Shown};
+ghost use Rattle.lucid_top_pipes.specs.Watching.{Shown};
 
 use crate::commands::network::run_network;
 use crate::commands::setup::Ready;

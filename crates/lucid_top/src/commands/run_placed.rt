@@ -9,7 +9,7 @@ ghost use Rattle.lucid_top_words.specs.Writing.{Performs};
 ghost use Rattle.lucid_top.specs.Held.{MeasuredKeeps, ReadyKeeps, measured_view, ready_view};
 ghost use Rattle.lucid_top.specs.Pipes.{RunsCode};
 ghost use Rattle.lucid_top.specs.Placed.{IsPlacedOn, IsReadyOn, IsReadyPlaced, RunPlacedAnswers, RunPlacedShows, StopsPlaced};
-ghost use Rattle.lucid_top.specs.Watching.{Shown};
+ghost use Rattle.lucid_top_pipes.specs.Watching.{Shown};
 
 use crate::commands::network::run_network;
 use crate::commands::setup::{Measured, Ready};

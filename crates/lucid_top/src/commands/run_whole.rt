@@ -9,12 +9,12 @@ ghost use Rattle.lucid_top_words.specs.Writing.{Performs, anywhere};
 ghost use Rattle.lucid_top.specs.Held.{NetworkKeeps, target_view};
 ghost use Rattle.lucid_top.specs.RunWhole.{RunWholeAnswers, RunsUnder};
 
-use crate::causes::of_net;
 use crate::commands::setup::{Network, Target};
 use crate::commands::text_at;
 use lucid_io::Sink;
 use lucid_net::{Net, NetError};
 use lucid_pipe::NoWatch;
+use lucid_top_pipes::of_net;
 use lucid_top_program::scenario;
 use lucid_top_words::Refusal;
 use std::alloc::Global;

@@ -11,7 +11,7 @@ use Rattle.lucid_top_words.proofs.Parts.{one-text}
 use Rattle.lucid_top.specs.Held.{ready_view}
 use Rattle.lucid_top.specs.Pipes.{network_of, sights_of}
 use Rattle.lucid_top.proofs.Runs.{shown-cut, shown-refused}
-use Rattle.lucid_top.proofs.Stopping.{cut, ended-by-memory}
+use Rattle.lucid_top_pipes.proofs.CausesLemmas.{cut, ended-by-memory}
 use Rattle.lucid_top.proofs.commands.generated.bench_ready.Goals as goal
 
 pub returns-in_err-tally-clause-performs : goal.returns-in_err-tally-clause-performs

@@ -4,7 +4,7 @@ use Rattle.lucid_top_fit.specs.Fit.{fit_view}
 use Rattle.lucid_top_words.specs.Writing.{nowhere}
 use Rattle.lucid_top_words.proofs.Parts.{one-text}
 use Rattle.lucid_top.specs.Layout.{fit_text, passes_text}
-use Rattle.lucid_top.proofs.Stopping.{cut}
+use Rattle.lucid_top_pipes.proofs.CausesLemmas.{cut}
 use Rattle.lucid_top.proofs.commands.layout.put_fit.Goals as goal
 
 pub returns-in_err-put : goal.returns-in_err-put

@@ -4,7 +4,7 @@ use Rattle.lucid_top_words.specs.Files.{texts_in}
 use Rattle.lucid_top_words.specs.Outcome.{IsTheAnswer}
 use Rattle.lucid_top_words.specs.Words.{word_at}
 use Rattle.lucid_top.specs.RunWhole.{RunWholeAnswers}
-use Rattle.lucid_top.proofs.Stopping.{stopped-anywhere}
+use Rattle.lucid_top_pipes.proofs.CausesLemmas.{stopped-anywhere}
 use Rattle.lucid_top.proofs.commands.run_whole.run_whole.Goals as goal
 
 pub returns : goal.returns

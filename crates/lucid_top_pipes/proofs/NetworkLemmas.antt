@@ -1,4 +1,4 @@
--- A network that was set up for a command is the one that its answer speaks of.
+-- A network that was started is the one that the log speaks of, and what it showed are its sights.
 use Rattle.std.proofs.Common.{◌≡◌, ℕ, zero, suc, ◌≤◌, inl, inr, List, [], ◌++◌, Some, Err, Result, Ok, refl, sym, ◌∙◌, ap, subst, arith, append-nil, append_assoc}
 use Rattle.std.proofs.lemmas.Bool.{cases_order}
 use Rattle.lucid_conf.specs.declared.limits.Limits.{Limits}
@@ -14,8 +14,7 @@ use Rattle.lucid_net_spec.specs.Log.{whole}
 use Rattle.lucid_net_spec.specs.Ways.{Network}
 use Rattle.lucid_pipe.specs.declared.sight.Sight.{Sight}
 use Rattle.lucid_tables.specs.Placed.{PlacedParts}
-use Rattle.lucid_top.specs.Pipes.{Ready, network_of, sights_of}
-use Rattle.lucid_top.specs.Watching.{Seen, ShowsSome}
+use Rattle.lucid_top_pipes.specs.Watching.{Seen, ShowsSome}
 use Rattle.std.specs.Prelude.{Option}
 
 pub network-is : {core : CoreParts} {scene : Scene} {limits : Limits} {placed : Option PlacedParts} (n : net.Seen) → IsStart core scene limits placed n → network n ≡ whole core scene limits
@@ -38,33 +37,34 @@ sights-first n placed (suc tick) (suc stop) le = elim (cases_order tick stop) [
   ]
 ]
 
--- the network of these pipelines has begun
-abbrev pub Starts : Ready → net.Seen → Type 0
-Starts r n = IsStart r.pipes.under.core r.scene r.pipes.under.limits (Some r.pipes.fitted.placed) n
+module _ (core : CoreParts) (placed : PlacedParts) (scene : Scene) (limits : Limits) where
+  -- the network of these pipelines has begun
+  abbrev pub Starts : net.Seen → Type 0
+  Starts n = IsStart core scene limits (Some placed) n
 
--- what it showed is what the pipelines show
-shown-of : (r : Ready) (n : net.Seen) (old new : Seen) (result : Result (Unit {0}) NetError) → Starts r n → ShowsRun (network n) n.placed old new result →
-    ShowsRun (network_of r) (Some r.pipes.fitted.placed) old new result
-shown-of r n old new result is shows =
-    subst (λ (placed : Option PlacedParts). ShowsRun (network_of r) placed old new result) is.placed
-    (subst (λ (w : Network). ShowsRun w n.placed old new result) (network-is n is) shows)
+  -- what it showed is what the pipelines show
+  shown-of : (n : net.Seen) (old new : Seen) (result : Result (Unit {0}) NetError) → Starts n → ShowsRun (network n) n.placed old new result →
+      ShowsRun (whole core scene limits) (Some placed) old new result
+  shown-of n old new result is shows =
+      subst (λ (p : Option PlacedParts). ShowsRun (whole core scene limits) p old new result) is.placed
+      (subst (λ (w : Network). ShowsRun w n.placed old new result) (network-is n is) shows)
 
-pub all-shown : (r : Ready) (n : net.Seen) (old new : Seen) → Starts r n → ShowsRun (network n) n.placed old new (Ok tt) → ShowsAll old new (sights_of r)
-all-shown r n old new is shows = shown-of r n old new (Ok tt) is shows
+  pub all-shown : (n : net.Seen) (old new : Seen) → Starts n → ShowsRun (network n) n.placed old new (Ok tt) → ShowsAll old new (sights_to (whole core scene limits) (Some placed) scene.stop)
+  all-shown n old new is shows = shown-of n old new (Ok tt) is shows
 
-pub some-shown : (r : Ready) (n : net.Seen) (old new : Seen) (e : NetError) → Starts r n → ShowsRun (network n) n.placed old new (Err e) → ShowsSome old new (sights_of r)
-some-shown r n old new e is shows =
-    let some = shown-of r n old new (Err e) is shows in
-    let placed : Option PlacedParts = Some r.pipes.fitted.placed in
-    let all = sights-first (network_of r) placed some.0 r.scene.stop some.1 in
-    record {
-      first = sights_to (network_of r) placed some.0;
-      rest = all.0;
-      parts = all.1;
-      shows = some.2;
-    }
+  pub some-shown : (n : net.Seen) (old new : Seen) (e : NetError) → Starts n → ShowsRun (network n) n.placed old new (Err e) →
+      ShowsSome old new (sights_to (whole core scene limits) (Some placed) scene.stop)
+  some-shown n old new e is shows =
+      let some = shown-of n old new (Err e) is shows in
+      let all = sights-first (whole core scene limits) (Some placed) some.0 scene.stop some.1 in
+      record {
+        first = sights_to (whole core scene limits) (Some placed) some.0;
+        rest = all.0;
+        parts = all.1;
+        shows = some.2;
+      }
 
--- where it stopped, so may the network of handlers that run whole
-pub stops-is : {W : Type 0} (written : W → Option (List ℕ)) (faults : W → ℕ) (out out' : W) (r : Ready) (n : net.Seen) → Starts r n → Stopped written faults out out' (network n) →
-    Stopped written faults out out' (network_of r)
-stops-is written faults out out' r n is stops = subst (Stopped written faults out out') (network-is n is) stops
+  -- where it stopped, so may the network of handlers that run whole
+  pub stops-is : {W : Type 0} (written : W → Option (List ℕ)) (faults : W → ℕ) (out out' : W) (n : net.Seen) → Starts n → Stopped written faults out out' (network n) →
+      Stopped written faults out out' (whole core scene limits)
+  stops-is written faults out out' n is stops = subst (Stopped written faults out out') (network-is n is) stops

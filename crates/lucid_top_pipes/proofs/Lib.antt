@@ -1,0 +1,3 @@
+pub mod CausesLemmas
+mod DriveLemmas
+mod NetworkLemmas
