@@ -3,6 +3,7 @@ mod Declares
 mod Empty
 mod Entering
 mod FlightExamples
+mod GroupsLemmas
 mod HandlerExamples
 mod LawsLemmas
 pub mod Moving
@@ -13,6 +14,7 @@ pub mod Rooms
 mod SafeProgramsLemmas
 mod Settings
 mod TemplateExamples
+mod TemplatesLemmas
 mod ThereCyclesLemmas
 mod ThereFitLemmas
 mod ThereLemmas

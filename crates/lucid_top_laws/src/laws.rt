@@ -1,12 +1,17 @@
 // One packet through the stages, end to end. Nothing runs.
-ghost use Rattle.std.specs.Prelude.{◌≡◌, ◌<◌, ◌^◌, All};
+ghost use Rattle.std.specs.Prelude.{◌≡◌, ◌<◌, ◌≤◌, ◌^◌, [], All, Ok, length};
 ghost use Rattle.lucid_effects_spec.specs.Order.{IsAccepted};
 ghost use Rattle.lucid_normal_spec.specs.Stands.{StandsFor};
 ghost use Rattle.lucid_core.specs.Parts.{CoreParts};
+ghost use Rattle.lucid_lex.specs.Reading.{Reads};
+ghost use Rattle.lucid_size.specs.Expansion.{most};
+ghost use Rattle.lucid_size.specs.Templates.{templates};
+ghost use Rattle.lucid_top_laws.specs.Groups.{GroupsAreApart};
 ghost use Rattle.lucid_top_laws.specs.Laws.{AnswersAreOne, AnswersAreThere};
 ghost use Rattle.lucid_top_laws.specs.Moves.{MovesRunWhole};
 ghost use Rattle.lucid_top_laws.specs.Packet.{AuditsRunWhole, FitsRunWhole, RunsWhole};
 ghost use Rattle.lucid_top_laws.specs.Room.{NodesLackRoom, OursKeepNodes, RefusedForRoom};
+ghost use Rattle.lucid_top_laws.specs.Templates.{IsPlain};
 
 use lucid_audit::audits_are_one;
 use lucid_core::{Core, HandlerDef};
@@ -15,12 +20,14 @@ use lucid_effects_spec::paths_decide;
 use lucid_inline_spec::{flat_is_valid, keeps_order};
 use lucid_layout::{layouts_are_one, stuck_for_room};
 use lucid_layout_laws::layouts_are_there;
+use lucid_lex::Token;
 use lucid_merge::{guards_contradict, products_act, products_name};
 use lucid_parse_spec::declarations_are_read_as_spelled;
 use lucid_pass::lists_keep_the_laws;
 use lucid_pass_laws::code_stands;
 use lucid_pass_spec::passes_keep_nodes;
 use lucid_pipe::moves_are_passes;
+use lucid_size::plain_text_stays;
 use lucid_tables::Placed;
 use lucid_types_laws::{declarations_are_computed, programs_are_decided, typed_programs_are_valid};
 use lucid_types_spec::the_first_refusal_is_found;
@@ -118,6 +125,22 @@ pub fn answers_are_there()
     bodies_are_decided();
     paths_decide();
     layouts_are_there();
+}
+
+/// A law: if no statement of a program sends to a group, its step is that of the language without groups. It is the same whatever such a
+/// send means.
+pub fn groups_are_apart()
+    ensures { GroupsAreApart }
+{}
+
+/// A law: a text in which no template begins is read by the language without templates.
+pub fn plain_texts_are_read(text: &[u8], tokens: &[Token])
+    requires reads { Reads text.now tokens.now }
+    requires none { templates tokens.now ≡ Ok [] }
+    requires short { length text.now ≤ most }
+    ensures { IsPlain text.now }
+{
+    plain_text_stays(text, tokens);
 }
 
 fn events_have_32_bits(handlers: &[HandlerDef])

@@ -1,5 +1,6 @@
 // Calls that were worked by hand. Nothing runs.
-ghost use Rattle.std.specs.Prelude.{[], ◌∷◌, Ok, codes};
+ghost use Rattle.std.specs.Prelude.{◌≡◌, [], ◌∷◌, Ok, codes};
+ghost use Rattle.lucid_log_tally.specs.Bench.{bench_line};
 ghost use Rattle.lucid_top.specs.Answer.{Answers};
 ghost use Rattle.lucid_top_laws.specs.Calls.{expand, once, over_an_event, run_pipe, run_whole};
 
@@ -204,6 +205,12 @@ pub fn two_packets_are_answered()
         &HANDLER_TOKENS,
     );
 }
+
+/// The line of `bench` for the log of that run, as the log of 2 generated events of seed 1: its last line, its length and its hash.
+pub fn a_log_is_summarized()
+    ensures { bench_line 1 2 (codes "[0] s0 e()\n[1] s0 e()\nentered 2 lost 0 pending 0\n")
+        ≡ codes "bench seed 1 n 2 entered 2 lost 0 pending 0 bytes 49 fnv 95ea8024a5c4fc0e\n" }
+{}
 
 /// `expand` of a text with a template, which is used at width 8, is answered with the text of its instance.
 pub fn a_template_is_expanded()
