@@ -2,8 +2,8 @@
 // answer of its definition, and otherwise the first cause (specs/Fit, specs/Placing). The passes run exactly on the normal form
 // (specs/Passes). For any passes the placed code represents the program: every event through it has the effect of the program. If each pass
 // keeps nodes after their reads, a node has no place only because no stage has room for it.
-// Used by lucid_top and lucid_top_laws. Promises of the program rest on its definitions (docs/TRUSTED.md). Bodies and proofs may change; a
-// public clause may only get stronger.
+// Used by lucid_top, lucid_top_laws and lucid_main. Promises of the program rest on its definitions (docs/TRUSTED.md). Bodies and proofs
+// may change; a public clause may only get stronger.
 #![tactic(auto)]
 
 mod causes;
