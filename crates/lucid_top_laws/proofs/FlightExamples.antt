@@ -1,17 +1,10 @@
 -- A scenario in which an event comes at ticks 0 and 1, so that two packets are in flight when it stops; and the pipelines of a program
 -- with an array and a handler.
-use Rattle.std.proofs.Common.{◌≡◌, ◌∙◌, ◌∷◌, ℕ, IsUtf8, List, Ok, Some, [], ap, arith, codes, decimal, refl, sym}
+use Rattle.std.proofs.Common.{◌≡◌, ◌∷◌, ℕ, IsUtf8, Ok, Some, [], arith, codes, refl}
 use Rattle.std.specs.Char.{encode_utf8}
-use Rattle.json.specs.Json as json
-use Rattle.json.specs.Lex.{lex, punctuate, tokens}
-use Rattle.json.specs.Text.{content}
-use Rattle.json.specs.Token as token
-use Rattle.json.specs.Token.{Token}
-use Rattle.json.specs.Word.{after_number, word}
-use Rattle.serde_json.proofs.Numbers.{number_of-decimal}
+use Rattle.serde_json.proofs.OnLiterals.{serde_json_on_literals}
 use Rattle.serde_json.specs.Data.{Data, array, item, member, no_items, no_members, number, object, string, unsigned}
-use Rattle.serde_json.specs.Read.{number_of, read}
-use Rattle.std.specs.Fmt.{digits}
+use Rattle.serde_json.specs.Read.{read}
 use Rattle.lucid_conf.specs.declared.scene.Scene.{Scene}
 use Rattle.lucid_layout.specs.Layout.{IsLayout, stages_of}
 use Rattle.lucid_size.specs.Expansion.{ExpandsTo}
@@ -22,51 +15,15 @@ use Rattle.lucid_top_program.specs.Settings.{IsScenario}
 use Rattle.lucid_top_words.specs.Words.{Bytes}
 use Rattle.lucid_types_laws.specs.Laws.{DecidesPrograms}
 use Rattle.lucid_top_laws.specs.declared.worked.TheConstants.{HANDLER_TOKENS}
-use Rattle.lucid_top_laws.proofs.Entering.{zero_is}
 use Rattle.lucid_top_laws.proofs.HandlerExamples as handler
 use Rattle.lucid_top_laws.proofs.HandlerExamples.{core, tree, worked}
 use Rattle.lucid_top_laws.proofs.Programs.{is_program}
-use Rattle.lucid_top_laws.proofs.Settings.{are_limits, limits, one_is}
+use Rattle.lucid_top_laws.proofs.Settings.{are_limits, limits}
 
-two : decimal 2 ≡ codes "2"
-unfolding digits
-two = refl
-
-two_is : number_of (codes "2") ≡ Some (unsigned 2)
-two_is = ap number_of (sym two) ∙ number_of-decimal 2 (omega arith)
-
--- ---- the scenario, by its tokens and their tree
+-- ---- the scenario
 
 abbrev pub text : Bytes
 text = codes "{\"stop\":2,\"events\":[{\"at\":0,\"switch\":0,\"name\":\"e\",\"args\":[]},{\"at\":1,\"switch\":0,\"name\":\"e\",\"args\":[]}]}"
-
-abbrev written : List Token
-written = token.begin_object ∷ token.key (codes "stop") ∷ token.number (codes "2") ∷ token.key (codes "events") ∷ token.begin_array
-    ∷ token.begin_object ∷ token.key (codes "at") ∷ token.number (codes "0") ∷ token.key (codes "switch") ∷ token.number (codes "0")
-    ∷ token.key (codes "name") ∷ token.string (codes "e") ∷ token.key (codes "args") ∷ token.begin_array ∷ token.end_array ∷ token.end_object
-    ∷ token.begin_object ∷ token.key (codes "at") ∷ token.number (codes "1") ∷ token.key (codes "switch") ∷ token.number (codes "0")
-    ∷ token.key (codes "name") ∷ token.string (codes "e") ∷ token.key (codes "args") ∷ token.begin_array ∷ token.end_array ∷ token.end_object
-    ∷ token.end_array ∷ token.end_object ∷ []
-
-written_is : tokens text ≡ written
-unfolding lex punctuate content word after_number
-written_is = refl
-
-abbrev event_tree : Bytes → json.Json
-event_tree at = json.object
-    (json.member (codes "at") (json.number at)
-    (json.member (codes "switch") (json.number (codes "0"))
-    (json.member (codes "name") (json.string (codes "e"))
-    (json.member (codes "args") (json.array json.no_items) json.no_members))))
-
-abbrev tree_of : json.Json
-tree_of = json.object
-    (json.member (codes "stop") (json.number (codes "2"))
-    (json.member (codes "events") (json.array (json.item (event_tree (codes "0")) (json.item (event_tree (codes "1")) json.no_items))) json.no_members))
-
-tree_is : json.value 127 written ≡ Some (tree_of, [])
-unfolding json.value json.members json.items
-tree_is = refl
 
 -- the keys of an object stand in their order
 abbrev event_told : ℕ → Data
@@ -82,7 +39,8 @@ told = object
     (member (codes "stop") (number (unsigned 2)) no_members))
 
 told_is : read text ≡ Some told
-told_is = rw (written_is, tree_is, two_is, one_is, zero_is) refl
+unfolding serde_json_on_literals
+told_is = refl
 
 text_utf8 : IsUtf8 text
 unfolding encode_utf8

@@ -1,12 +1,7 @@
 -- A placement of no node, and the pipelines of the program `event e();` with it.
-use Rattle.std.proofs.Common.{◌≡◌, ◌∷◌, IsUtf8, List, Ok, Some, [], arith, codes, map, refl}
+use Rattle.std.proofs.Common.{◌≡◌, IsUtf8, Ok, Some, [], arith, codes, map, refl}
 use Rattle.std.specs.Char.{encode_utf8}
-use Rattle.json.specs.Json as json
-use Rattle.json.specs.Lex.{lex, punctuate, tokens}
-use Rattle.json.specs.Text.{content}
-use Rattle.json.specs.Token as token
-use Rattle.json.specs.Token.{Token}
-use Rattle.json.specs.Word.{after_number, word}
+use Rattle.serde_json.proofs.OnLiterals.{serde_json_on_literals}
 use Rattle.serde_json.specs.Data.{Data, array, member, no_items, no_members, object}
 use Rattle.serde_json.specs.Read.{read}
 use Rattle.lucid_audit.specs.Audit as audit
@@ -31,25 +26,12 @@ use Rattle.lucid_top_laws.specs.declared.worked.TheConstants.{TOKENS}
 abbrev pub text : Bytes
 text = codes "{\"nodes\":[]}"
 
-abbrev written : List Token
-written = token.begin_object ∷ token.key (codes "nodes") ∷ token.begin_array ∷ token.end_array ∷ token.end_object ∷ []
-
-written_is : tokens text ≡ written
-unfolding lex punctuate content word after_number
-written_is = refl
-
-abbrev tree : json.Json
-tree = json.object (json.member (codes "nodes") (json.array json.no_items) json.no_members)
-
-tree_is : json.value 127 written ≡ Some (tree, [])
-unfolding json.value json.members json.items
-tree_is = refl
-
 abbrev told : Data
 told = object (member (codes "nodes") (array no_items) no_members)
 
 told_is : read text ≡ Some told
-told_is = rw (written_is, tree_is) refl
+unfolding serde_json_on_literals
+told_is = refl
 
 text_utf8 : IsUtf8 text
 unfolding encode_utf8
