@@ -3,8 +3,6 @@ mod Firsts
 mod Growing
 pub mod Widths
 pub mod Places
-mod FitsKeep
-mod FitsAccepted
 mod AuditExamples
 mod Counted
 mod CountsRefuse

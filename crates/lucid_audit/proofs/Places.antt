@@ -15,16 +15,18 @@ use Rattle.lucid_merge.specs.Laws.{ProductsAct, ProductsName, GuardsContradict}
 use Rattle.lucid_conf.specs.declared.limits.Limits.{Limits}
 use Rattle.lucid_conf.specs.Kept.{AreLimits}
 use Rattle.lucid_code.specs.declared.node.Node.{Node}
-use Rattle.lucid_layout.specs.declared.node.Work.{Work}
-use Rattle.lucid_layout.specs.declared.stage.Pair.{Pair}
-use Rattle.lucid_layout.specs.declared.stage.Seat.{Seat}
-use Rattle.lucid_layout.specs.declared.stage.Stage.{Stage}
-use Rattle.lucid_layout.specs.Fit.{seats, is_at, Behind, feeds, merged, tables_of, no_table, no_tables}
-use Rattle.lucid_layout.specs.Layout.{stage_code}
-use Rattle.lucid_layout.specs.Nodes.{works, work_of}
-use Rattle.lucid_layout.proofs.Keeping.{keeps}
-use Rattle.lucid_layout.proofs.Made.{Made, made_none, made_product, made_merged}
-use Rattle.lucid_layout.proofs.Seating.{group, all_ops, stage_at as stage_of, table_at as table_of, Holds, all_of, seat_node}
+use Rattle.lucid_stages.specs.declared.node.Work.{Work}
+use Rattle.lucid_stages.specs.declared.stage.Pair.{Pair}
+use Rattle.lucid_stages.specs.declared.stage.Seat.{Seat}
+use Rattle.lucid_stages.specs.declared.stage.Stage.{Stage}
+use Rattle.lucid_stages.specs.Filling.{seats, is_at, no_table, no_tables}
+use Rattle.lucid_stages.specs.Marks.{Behind, feeds}
+use Rattle.lucid_stages.specs.NodeTables.{merged, tables_of}
+use Rattle.lucid_stages.specs.Placing.{stage_code}
+use Rattle.lucid_stages.specs.NodeWorks.{works, work_of}
+use Rattle.lucid_stages.proofs.PlacingLemmas.{keeps}
+use Rattle.lucid_stages.proofs.NodeTablesLemmas.{Made, made_none, made_product, made_merged}
+use Rattle.lucid_stages.proofs.StageLemmas.{group, all_ops, stage_at as stage_of, table_at as table_of, Holds, all_of, seat_node}
 use Rattle.lucid_audit.specs.Audit.{IsThere, KeepsRules, pairs_of, nodes_at, with_work, grown, tables_in, table_at, stage_at, stages}
 use Rattle.lucid_audit.proofs.Growing.{nodes_here, nodes_there}
 use Rattle.lucid_audit.proofs.Widths.{beyond, no_stage}

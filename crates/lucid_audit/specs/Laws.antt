@@ -1,21 +1,13 @@
 -- Laws of all placements.
-use Rattle.std.specs.Prelude.{◌≡◌, ◌≢◌, List, []}
+use Rattle.std.specs.Prelude.{◌≡◌, ◌≢◌, List}
 use Rattle.lucid_code.specs.Parts.{CodeParts}
 use Rattle.lucid_tables.specs.Placed.{PlacedParts}
 use Rattle.lucid_conf.specs.declared.limits.Limits.{Limits}
-use Rattle.lucid_layout.specs.declared.stage.Pair.{Pair}
-use Rattle.lucid_layout.specs.Fit.{IsFirstFit, seats}
-use Rattle.lucid_layout.specs.Layout.{IsLayout}
-use Rattle.lucid_layout.specs.Nodes.{works}
+use Rattle.lucid_stages.specs.declared.stage.Pair.{Pair}
 use Rattle.lucid_audit.specs.declared.error.AuditError.{AuditError}
 use Rattle.lucid_audit.specs.declared.error.AuditError.TheVariants.{Memory}
-use Rattle.lucid_audit.specs.Audit.{KeepsRules, IsAudited}
+use Rattle.lucid_audit.specs.Audit.{IsAudited}
 use Rattle.lucid_audit.specs.Refused.{IsRefused}
-
--- The places of every first fit keep the rules, and if code has a layout, its places give that layout.
-pub record FirstFitsAreAccepted : Type 0 where
-  pub rules : (code : CodeParts) (limits : Limits) (pairs : List Pair) → IsFirstFit code.ops limits [] (works code.ops) pairs → KeepsRules code.ops limits (seats (works code.ops) pairs)
-  pub placed : (code : CodeParts) (limits : Limits) (placed : PlacedParts) → IsLayout code limits placed → (pairs : List Pair) × IsFirstFit code.ops limits [] (works code.ops) pairs × IsAudited code limits pairs placed
 
 -- Places give one placed code, or one cause why they are refused.
 pub record AuditsAreOne : Type 0 where

@@ -2,10 +2,11 @@
 ghost use Rattle.std.specs.Prelude.{◌≡◌, ◌<◌, ◌^◌, [], length, map, IfOk, IfErr};
 ghost use Rattle.std.specs.List.{AllByRecursion};
 ghost use Rattle.lucid_conf.specs.Kept.{AreLimits};
-ghost use Rattle.lucid_layout.specs.Fit.{seats as seats_of};
-ghost use Rattle.lucid_layout.specs.Nodes.{nodes as nodes_of, works as works_of};
-ghost use Rattle.lucid_layout.specs.Search.{Within};
-ghost use Rattle.lucid_layout.specs.Layout.{stage_code};
+ghost use Rattle.lucid_stages.specs.Filling.{seats as seats_of};
+ghost use Rattle.lucid_code.specs.Nodes.{nodes as nodes_of};
+ghost use Rattle.lucid_stages.specs.NodeWorks.{works as works_of};
+ghost use Rattle.lucid_stages.specs.Marks.{Within};
+ghost use Rattle.lucid_stages.specs.Placing.{stage_code};
 ghost use Rattle.lucid_audit.specs.Audit.{IsAudited, KeepsRules, pairs_of, stages as stages_of};
 ghost use Rattle.lucid_audit.specs.Refused.{IsRefused, Breaks};
 
@@ -18,8 +19,8 @@ use crate::{AuditError, Plan};
 use lucid_base::Memory;
 use lucid_code::Code;
 use lucid_conf::Limits;
-use lucid_layout::{Seat, Stage, nodes, stage_codes, test_counts};
 use lucid_merge::{guards_contradict, products_act, products_name};
+use lucid_stages::{Seat, Stage, nodes, stage_codes, test_counts};
 use lucid_tables::Placed;
 use std::alloc::Global;
 

@@ -4,7 +4,7 @@ ghost use Rattle.lucid_audit.specs.Audit as spec;
 ghost use Rattle.lucid_audit.specs.Refused.{FirstFull};
 
 use lucid_conf::Limits;
-use lucid_layout::Seat;
+use lucid_stages::Seat;
 
 /// Counts those in stage `k`.
 pub(crate) fn arrays_at(seats: &[Seat], k: u32) -> u32

@@ -4,7 +4,7 @@ ghost use Rattle.lucid_audit.specs.declared.error.AuditError.TheVariants as erro
 ghost use Rattle.lucid_audit.specs.Refused.{audit_error};
 
 use lucid_base::Memory;
-use lucid_layout::CountError;
+use lucid_stages::CountError;
 use std::alloc::{AllocError, AllocFailed};
 
 /// Why a placement is refused (`IsRefused` of specs/Refused), in the order in which the causes are tried.

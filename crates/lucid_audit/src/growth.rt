@@ -3,14 +3,14 @@ ghost use Rattle.std.specs.Prelude.{◌≡◌, [], false, true, length, None, Ok
 ghost use Rattle.std.specs.List.{AllByRecursion};
 ghost use Rattle.lucid_tables.specs.Rows.{table as table_of_rows};
 ghost use Rattle.lucid_merge.specs.Product.{product};
-ghost use Rattle.lucid_layout.specs.Fit.{merged, tables_of};
-ghost use Rattle.lucid_layout.specs.Search.{Within};
+ghost use Rattle.lucid_stages.specs.NodeTables.{merged, tables_of};
+ghost use Rattle.lucid_stages.specs.Marks.{Within};
 ghost use Rattle.lucid_audit.specs.Audit.{takes, few_rows, nodes_at, table_at};
 
 use lucid_base::{Items, Memory};
 use lucid_code::Code;
-use lucid_layout::{Seat, Work, node_table};
 use lucid_merge::merge;
+use lucid_stages::{Seat, Work, node_table};
 use lucid_tables::Table;
 use std::alloc::Global;
 

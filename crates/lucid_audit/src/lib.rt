@@ -1,11 +1,10 @@
 // Placements by hand or by another tool: read from a file, and audited.
 // Promises: `plan_of` reads a placement file, or reports its first fault. `audit` returns a placed code exactly under two conditions, and
 // otherwise the first cause: the counts of the code keep their limits, and each node is in a later stage than those that it reads from, in
-// a table and a stage that keep theirs. Places determine one placed code or one cause. The places of first fit are accepted as that very
-// layout.
+// a table and a stage that keep theirs. Places determine one placed code or one cause.
 // Read specs/PlanFile, specs/Audit and specs/Refused.
-// Used by lucid_top_fit, lucid_top and lucid_top_laws. Promises of the program rest on its definitions (docs/TRUSTED.md). Bodies and proofs
-// may change; a public clause may only get stronger.
+// Used by lucid_layout_laws, lucid_top_fit, lucid_top and lucid_top_laws. Promises of the program rest on its definitions
+// (docs/TRUSTED.md). Bodies and proofs may change; a public clause may only get stronger.
 #![tactic(auto)]
 
 mod auditing;
@@ -23,6 +22,6 @@ mod staging;
 
 pub use auditing::audit;
 pub use error::AuditError;
-pub use laws::{audits_are_one, first_fits_are_accepted};
+pub use laws::audits_are_one;
 pub use plan::{Plan, PlanError, PlanKey};
 pub use plan_file::plan_of;

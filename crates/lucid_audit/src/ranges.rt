@@ -5,7 +5,7 @@ ghost use Rattle.lucid_audit.specs.Audit.{IsThere};
 ghost use Rattle.lucid_audit.specs.Refused.{FirstNot};
 
 use lucid_conf::Limits;
-use lucid_layout::{Pair, Seat};
+use lucid_stages::{Pair, Seat};
 
 /// Returns whether the target has such a stage and such a table.
 fn is_there(at: Pair, limits: &Limits) -> bool

@@ -2,7 +2,7 @@
 ghost use Rattle.std.specs.Prelude.{◌≡◌, ◌<◌, ◌^◌, ℕ, true, length, map, IfOk, IfErr};
 ghost use Rattle.std.specs.List.{AllByRecursion, range_with_len};
 ghost use Rattle.lucid_conf.specs.Kept.{AreLimits};
-ghost use Rattle.lucid_layout.specs.Search.{Within};
+ghost use Rattle.lucid_stages.specs.Marks.{Within};
 ghost use Rattle.lucid_audit.specs.Audit as spec;
 ghost use Rattle.lucid_audit.specs.Refused.{PassesIn, Passes};
 
@@ -12,7 +12,7 @@ use crate::growth::table_at;
 use lucid_base::{Items, Memory};
 use lucid_code::Code;
 use lucid_conf::Limits;
-use lucid_layout::{Seat, Stage};
+use lucid_stages::{Seat, Stage};
 use lucid_tables::Table;
 use std::alloc::Global;
 

@@ -2,10 +2,11 @@
 use Rattle.std.proofs.Common.{◌≡◌, ℕ, ◌<◌, ◌≤◌, inl, inr, [], true, false, refl, sym, ⊎_elim, arith}
 use Rattle.std.proofs.lemmas.Bool.{true≢false, cases_lt}
 use Rattle.lucid_merge.specs.Product.{product}
-use Rattle.lucid_layout.specs.declared.stage.Pair.{Pair}
-use Rattle.lucid_layout.specs.Examples.{LayoutExamples, NodeExamples, at, branching, plain, places}
+use Rattle.lucid_stages.specs.declared.stage.Pair.{Pair}
+use Rattle.lucid_layout.specs.Examples.{LayoutExamples}
+use Rattle.lucid_stages.specs.Examples.{at, branching, plain, places}
 use Rattle.lucid_layout.specs.Fit.{NotBefore, IsFirstFit, IsStuck}
-use Rattle.lucid_layout.specs.Nodes.{works}
+use Rattle.lucid_stages.specs.NodeWorks.{works}
 
 never : {A : Type 0} → false ≡ true → A
 never e = absurd (true≢false (sym e))
@@ -97,6 +98,3 @@ layout_examples = record {
   wide = (omega arith, refl, omega arith);
   no_row_left = stuck;
 }
-
-pub node_examples : NodeExamples
-node_examples = record { by_key = refl; by_place = refl; smaller_key_later = refl; same_key_later = refl; greater_key = refl; own_field = refl }

@@ -2,19 +2,20 @@
 ghost use Rattle.std.specs.Prelude.{◌≡◌, ◌<◌, ◌≤◌, ℕ, true, None, Ok, length, IfOk, IfSome, IsSome};
 ghost use Rattle.lucid_tables.specs.Rows.{table as table_of_rows};
 ghost use Rattle.lucid_merge.specs.Product.{product};
-ghost use Rattle.lucid_layout.specs.Fit.{rows_at, TableFits, StageFits, Least};
-ghost use Rattle.lucid_layout.specs.Search.{LeastTable, Fits, TableAt};
+ghost use Rattle.lucid_stages.specs.Filling.{rows_at};
+ghost use Rattle.lucid_layout.specs.Fit.{TableFits, StageFits, Least};
+ghost use Rattle.lucid_layout.specs.Find.{LeastTable, Fits, TableAt};
 
-use crate::growing::{Known, grown};
-use crate::stage::{Pair, Stage};
 use lucid_base::{Items, Memory};
 use lucid_conf::Limits;
 use lucid_merge::merge;
+use lucid_refusals::{Known, grow};
+use lucid_stages::{Pair, Stage};
 use lucid_tables::Table;
 use std::alloc::Global;
 
-/// A table of the stage, or the next new one, merged with this, and None if it then has more than `rows` rows.
-#[tactic(auto, using(crate::proofs::Searching::within_none, crate::proofs::Searching::within_some))]
+/// Merges a table of the stage, or the next new one, with this table. Returns None if it then has more than `rows` rows.
+#[tactic(auto, using(crate::proofs::FindLemmas::within_none, crate::proofs::FindLemmas::within_some))]
 fn merged_at(
     alloc: Global,
     known: &mut Known,
@@ -28,7 +29,7 @@ fn merged_at(
     ensures some { IfOk result (λ o. IfSome o (λ x. (x ≡ table_of_rows (product (rows_at stage.now t) more.now.rows)) × (length (product (rows_at stage.now t) more.now.rows) ≤ rows))) }
 {
     if (t as usize) < stage.tables.len() {
-        grown(
+        grow(
             alloc,
             known,
             k,
@@ -46,7 +47,7 @@ fn merged_at(
     }
 }
 
-/// The least table of the stage that fits, as it then is.
+/// Finds the least table of the stage that fits, and its content then.
 fn find_table(
     alloc: Global,
     known: &mut Known,
@@ -70,7 +71,7 @@ fn find_table(
     Ok(None)
 }
 
-/// The same, if the stage has room for the node if it calls an array.
+/// Like `find_table`, but None if the node calls an array and the stage has no room for one more.
 fn find_in(
     alloc: Global,
     known: &mut Known,
@@ -90,7 +91,7 @@ fn find_in(
     find_table(alloc, known, k, stage, more, limits)
 }
 
-/// The least place from stage `low` on, and its table then.
+/// Finds the least place from stage `low` on, and its table then.
 pub(crate) fn find(
     alloc: Global,
     known: &mut Known,

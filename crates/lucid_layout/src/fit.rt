@@ -2,20 +2,20 @@
 ghost use Rattle.std.specs.Prelude.{◌≡◌, ◌<◌, ◌^◌, None, Ok, [], length, IfOk, IfErr, IfSome};
 ghost use Rattle.std.specs.List.{AllByRecursion};
 ghost use Rattle.lucid_conf.specs.Kept.{AreLimits};
-ghost use Rattle.lucid_layout.specs.Fit.{IsFirstFit, laid, seats};
-ghost use Rattle.lucid_layout.specs.Search.{Within, Takes, TakesNone, Unplaced};
+ghost use Rattle.lucid_layout.specs.Fit.{IsFirstFit};
+ghost use Rattle.lucid_stages.specs.Filling.{laid, seats};
+ghost use Rattle.lucid_stages.specs.Marks.{Within};
+ghost use Rattle.lucid_layout.specs.Find.{Takes, TakesNone, Unplaced};
 
 use crate::FitError;
-use crate::filling::{empty_stages, sit};
 use crate::find::find;
-use crate::growing::Known;
-use crate::marks::{any_past, ends, floor_of, no_marks, raise};
-use crate::node::Work;
-use crate::node_tables::node_table;
-use crate::stage::{Pair, Stage};
 use lucid_base::{Items, Memory};
 use lucid_code::Code;
 use lucid_conf::Limits;
+use lucid_refusals::Known;
+use lucid_stages::{
+    Pair, Stage, Work, any_past, empty_stages, ends, floor_of, no_marks, node_table, raise, sit,
+};
 use lucid_tables::Table;
 use std::alloc::Global;
 
@@ -26,7 +26,7 @@ pub(crate) struct Layout {
     pub(crate) stages: Vec<Stage>,
 }
 
-/// The least place that node number `at` may have, and its table then. `ends` has for each field the number behind the last node that
+/// Finds the least place that node number `at` may have, and its table then. `ends` has for each field the number behind the last node that
 /// writes it, and `low` the first stage above all nodes that have their places and write it.
 fn next(
     alloc: Global,
@@ -56,7 +56,7 @@ fn next(
     }
 }
 
-/// The first fit of these nodes, or the first node that has no place.
+/// Returns the first fit of these nodes, or the first node that has no place.
 pub(crate) fn fit(
     alloc: Global,
     code: &Code,

@@ -1,27 +1,25 @@
 // The layout of code within limits.
 ghost use Rattle.std.specs.Prelude.{◌≡◌, [], IfOk, IfErr};
 ghost use Rattle.lucid_conf.specs.Kept.{AreLimits};
-ghost use Rattle.lucid_layout.specs.Fit.{IsFirstFit, laid, seats};
+ghost use Rattle.lucid_layout.specs.Fit.{IsFirstFit};
+ghost use Rattle.lucid_stages.specs.Filling.{laid, seats};
 ghost use Rattle.lucid_layout.specs.Layout.{IsLayout, IsRefused, stages_of};
-ghost use Rattle.lucid_layout.specs.Nodes.{works as works_of};
+ghost use Rattle.lucid_stages.specs.NodeWorks.{works as works_of};
 
 use crate::FitError;
-use crate::counts::test_counts;
 use crate::fit::{Layout, fit};
-use crate::node_order::nodes;
-use crate::node_works::works;
-use crate::placing::stage_codes;
 use lucid_base::Memory;
 use lucid_code::Code;
 use lucid_conf::Limits;
 use lucid_merge::{guards_contradict, products_act, products_name};
+use lucid_stages::{nodes, stage_codes, test_counts, works};
 use lucid_tables::Placed;
 use std::alloc::Global;
 
 /// Lays code out in stages and tables by first fit. Returns Ok exactly if its counts keep their limits and each node has a place
 /// (`IsLayout` of specs/Layout), and otherwise the first cause (`IsRefused`). By `Placed::code`, a pass through the stages has the effect
 /// of the code.
-#[tactic(auto, using(crate::proofs::CountsRefuse::counts_refuse))]
+#[tactic(auto, using(crate::proofs::ErrorLemmas::counts_refuse))]
 pub fn place(alloc: Global, code: &Code, limits: &Limits) -> Result<Placed, FitError>
     requires { AreLimits limits.now }
     ensures ok { IfOk result (IsLayout code.now limits.now) }
@@ -37,7 +35,7 @@ pub fn place(alloc: Global, code: &Code, limits: &Limits) -> Result<Placed, FitE
     }
 }
 
-/// The placed code of a first fit.
+/// Returns the placed code of a first fit.
 fn placed(alloc: Global, code: &Code, limits: &Limits, layout: Layout) -> Result<Placed, Memory>
     requires fit { IsFirstFit code.now.ops limits.now [] (works_of code.now.ops) layout.pairs }
     requires stages { layout.stages.items ≡ laid code.now.ops limits.now (seats (works_of code.now.ops) layout.pairs) }

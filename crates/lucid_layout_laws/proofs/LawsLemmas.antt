@@ -2,16 +2,19 @@
 use Rattle.lucid_code.specs.Parts.{CodeParts}
 use Rattle.lucid_code.specs.declared.op.Op.{Op}
 use Rattle.lucid_conf.specs.declared.limits.Limits.{Limits}
-use Rattle.lucid_layout.specs.Counts.{CountsFit, bits_of, count_of, most_ops}
-use Rattle.lucid_layout.specs.Fit.{Admissible, Behind, IsFirstFit, IsStuck, Least, NotBefore, fed_by, feeds, few_on_the_way, laid, merged, no_tables, rows_at, tables_of}
+use Rattle.lucid_stages.specs.Counts.{CountsFit, bits_of, count_of, most_ops}
+use Rattle.lucid_layout.specs.Fit.{Admissible, IsFirstFit, IsStuck, Least, NotBefore}
+use Rattle.lucid_stages.specs.Marks.{Behind, fed_by, feeds}
+use Rattle.lucid_stages.specs.NodeTables.{few_on_the_way, merged, tables_of}
+use Rattle.lucid_stages.specs.Filling.{laid, no_tables, rows_at}
 use Rattle.lucid_layout.specs.Layout.{IsLayout, IsRefused, stages_of}
-use Rattle.lucid_layout.specs.Nodes.{works}
+use Rattle.lucid_stages.specs.NodeWorks.{works}
 use Rattle.lucid_layout.specs.declared.error.FitError.TheVariants as cause
 use Rattle.lucid_layout.specs.declared.error.FitError.{FitError}
-use Rattle.lucid_layout.specs.declared.node.Work.{Work}
-use Rattle.lucid_layout.specs.declared.stage.Pair.{Pair}
-use Rattle.lucid_layout.specs.declared.stage.Seat.{Seat}
-use Rattle.lucid_layout.specs.declared.stage.Stage.{Stage}
+use Rattle.lucid_stages.specs.declared.node.Work.{Work}
+use Rattle.lucid_stages.specs.declared.stage.Pair.{Pair}
+use Rattle.lucid_stages.specs.declared.stage.Seat.{Seat}
+use Rattle.lucid_stages.specs.declared.stage.Stage.{Stage}
 use Rattle.lucid_layout_laws.specs.Laws.{LayoutsAreThere}
 use Rattle.lucid_merge.specs.Product.{product}
 use Rattle.lucid_tables.specs.Placed.{PlacedParts}

@@ -1,1 +1,5 @@
+mod FitsAccepted
+mod FitsKeep
+mod Forward
 pub mod LawsLemmas
+mod OneFit

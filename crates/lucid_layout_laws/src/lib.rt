@@ -1,8 +1,9 @@
-// First fit always has a result: a layout of the code within its limits, or a cause of refusal. The law is on a function that does nothing.
-// With `layouts_are_one` of lucid_layout the result is one.
-// Used by lucid_top_laws. Proofs may change; a law may only get stronger.
+// Laws of first fit. Code has a layout within its limits or a cause of refusal, and only one. If nodes follow their reads, a node has no
+// place only because a limit leaves no room for it. The places of a first fit keep the rules of an audit. The laws are on functions that
+// do nothing. Read specs/Laws.
+// Used by lucid_top_fit and lucid_top_laws. Proofs may change; a law may only get stronger.
 #![tactic(auto)]
 
 mod laws;
 
-pub use laws::layouts_are_there;
+pub use laws::{first_fits_are_accepted, layouts_are_one, layouts_are_there, stuck_for_room};

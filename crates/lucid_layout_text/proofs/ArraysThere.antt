@@ -12,10 +12,10 @@ use Rattle.lucid_tables.specs.declared.table.Table.{Table}
 use Rattle.lucid_tables.specs.Numbers.{is_in, rising}
 use Rattle.lucid_tables.specs.Placed.{named_by}
 use Rattle.lucid_tables.proofs.Rising.{in_with_numbers}
-use Rattle.lucid_layout.specs.Layout.{arrays_at, arrays_in}
-use Rattle.lucid_layout.specs.Search.{Within}
-use Rattle.lucid_layout.proofs.Keeping.{sound_at}
-use Rattle.lucid_layout.proofs.Numbers.{within_from, within_join}
+use Rattle.lucid_stages.specs.Placing.{arrays_at, arrays_in}
+use Rattle.lucid_stages.specs.Marks.{Within}
+use Rattle.lucid_stages.proofs.PlacingLemmas.{sound_at}
+use Rattle.lucid_stages.proofs.NodeOrderLemmas.{within_from, within_join}
 use Rattle.lucid_layout_text.specs.Lines.{ArraysAreThere}
 use Rattle.lucid_layout_text.specs.Text.{line_of, lines, lines_in}
 use Rattle.lucid_layout_text.specs.declared.table_line.TableLine.{TableLine}

@@ -8,7 +8,7 @@ use Rattle.lucid_code.specs.Parts.{CodeParts}
 use Rattle.lucid_tables.specs.declared.table.Row.{Row}
 use Rattle.lucid_tables.specs.Examples.{row, stage_of}
 use Rattle.lucid_tables.specs.Placed.{placed_of}
-use Rattle.lucid_layout.specs.Examples.{branches, laid_out}
+use Rattle.lucid_stages.specs.Examples.{branches, laid_out}
 use Rattle.lucid_layout_text.specs.Text.{layout_text}
 
 abbrev pub named : List ℕ → ArrayDef

@@ -6,9 +6,9 @@ use Rattle.lucid_tables.specs.declared.stage.StageCode.{StageCode}
 use Rattle.lucid_tables.specs.declared.table.Table.{Table}
 use Rattle.lucid_tables.specs.Numbers.{rising}
 use Rattle.lucid_tables.specs.Placed.{PlacedParts, named_by}
-use Rattle.lucid_layout.specs.Counts.{bits_of}
-use Rattle.lucid_layout.specs.Layout.{arrays_in}
-use Rattle.lucid_layout.specs.Nodes.{nodes}
+use Rattle.lucid_stages.specs.Counts.{bits_of}
+use Rattle.lucid_stages.specs.Placing.{arrays_in}
+use Rattle.lucid_code.specs.Nodes.{nodes}
 use Rattle.lucid_layout_text.specs.declared.table_line.TableLine.{TableLine}
 use Rattle.lucid_layout_text.specs.Lines.{text_of}
 

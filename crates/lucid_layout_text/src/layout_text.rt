@@ -9,7 +9,7 @@ use crate::table_line::TableLine;
 use lucid_base::Memory;
 use lucid_code::Code;
 use lucid_io::{Sink, WriteFault};
-use lucid_layout::{bits_of, nodes};
+use lucid_stages::{bits_of, nodes};
 use lucid_tables::Placed;
 use std::alloc::Global;
 use std::marker::Model;

@@ -7,7 +7,7 @@ ghost use Rattle.lucid_layout_text.specs.Text as spec;
 use crate::table_line::TableLine;
 use lucid_base::{Items, Memory};
 use lucid_code::Op;
-use lucid_layout::arrays_in;
+use lucid_stages::arrays_in;
 use lucid_tables::{StageCode, Table, put_number};
 use std::alloc::Global;
 use std::slice::from_ref;

@@ -4,7 +4,7 @@ use Rattle.lucid_code.specs.Nodes.{nodes}
 use Rattle.lucid_code.specs.Parts.{CodeParts}
 use Rattle.lucid_core.specs.Parts.{CoreParts}
 use Rattle.lucid_io.specs.Counts.{Rose}
-use Rattle.lucid_layout.specs.Counts.{CountsFit}
+use Rattle.lucid_stages.specs.Counts.{CountsFit}
 use Rattle.lucid_layout.specs.Layout.{IsLayout}
 use Rattle.lucid_pass.specs.Through.{through}
 use Rattle.lucid_pass_spec.specs.Replace.{Rewrite}

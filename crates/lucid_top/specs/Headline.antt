@@ -15,11 +15,11 @@ use Rattle.lucid_gen.specs.Program.{program_text}
 use Rattle.lucid_gen.specs.Scene.{scene_text}
 use Rattle.lucid_io.specs.Counts.{Rose}
 use Rattle.lucid_io.specs.Puts.{PutsAll}
-use Rattle.lucid_layout.specs.declared.stage.Pair.{Pair}
-use Rattle.lucid_layout.specs.Counts.{CountsFit}
+use Rattle.lucid_stages.specs.declared.stage.Pair.{Pair}
+use Rattle.lucid_stages.specs.Counts.{CountsFit}
 use Rattle.lucid_layout.specs.Fit.{IsFirstFit}
 use Rattle.lucid_layout.specs.Layout.{stages_of}
-use Rattle.lucid_layout.specs.Nodes.{works}
+use Rattle.lucid_stages.specs.NodeWorks.{works}
 use Rattle.lucid_net.specs.Sights.{sights_to}
 use Rattle.lucid_net.specs.Wanting.{StopsAt}
 use Rattle.lucid_net_spec.specs.Log.{log, whole}

@@ -2,7 +2,7 @@
 use Rattle.std.specs.Prelude.{◌≡◌, length}
 use Rattle.lucid_conf.specs.Kept.{AreLimits, IsScene}
 use Rattle.lucid_effects_spec.specs.Order.{IsAccepted}
-use Rattle.lucid_layout.specs.Counts.{CountsFit}
+use Rattle.lucid_stages.specs.Counts.{CountsFit}
 use Rattle.lucid_normal_spec.specs.Stands.{StandsFor}
 use Rattle.lucid_pass_spec.specs.Replace.{MayReplace}
 use Rattle.lucid_top_fit.specs.Fit.{fit_view, made_view, normal_of}

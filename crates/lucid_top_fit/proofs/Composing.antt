@@ -8,7 +8,7 @@ use Rattle.lucid_inline.specs.declared.error.InlineError.TheVariants as inline
 use Rattle.lucid_inline.specs.Refusals.{Fits, Refused, largest, length_of, size_of}
 use Rattle.lucid_inline_count.specs.Counts.{capped}
 use Rattle.lucid_inline_spec.specs.Flat.{flat_of}
-use Rattle.lucid_layout.specs.Counts.{most_ops}
+use Rattle.lucid_stages.specs.Counts.{most_ops}
 use Rattle.lucid_pass.specs.Through.{gone, through}
 use Rattle.lucid_pass_laws.specs.Core.{LengthIsCounted, SizeIsCounted}
 use Rattle.lucid_pass_spec.specs.Replace.{Rewrite}

@@ -18,9 +18,9 @@ use Rattle.lucid_audit.specs.Refused as refused
 use Rattle.lucid_code.specs.Parts as code
 use Rattle.lucid_conf.specs.Answers.{Reads}
 use Rattle.lucid_conf.specs.declared.limits.Limits.{Limits}
-use Rattle.lucid_layout.specs.Fit.{seats}
-use Rattle.lucid_layout.specs.Layout.{stage_code}
-use Rattle.lucid_layout.specs.Nodes.{works}
+use Rattle.lucid_stages.specs.Filling.{seats}
+use Rattle.lucid_stages.specs.Placing.{stage_code}
+use Rattle.lucid_stages.specs.NodeWorks.{works}
 use Rattle.lucid_tables.specs.Placed.{PlacedParts}
 use Rattle.lucid_top_fit.specs.Causes.{of_audit, of_plan}
 use Rattle.lucid_top_fit.specs.Placing.{IsAudited, IsPlan}

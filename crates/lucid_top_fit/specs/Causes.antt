@@ -10,7 +10,7 @@ use Rattle.lucid_audit.specs.declared.plan.PlanKey.TheVariants as key
 use Rattle.lucid_core.specs.Parts.{CoreParts}
 use Rattle.lucid_inline.specs.declared.error.InlineError.{InlineError}
 use Rattle.lucid_inline.specs.declared.error.InlineError.TheVariants as inline
-use Rattle.lucid_layout.specs.declared.count_error.CountError.{CountError}
+use Rattle.lucid_stages.specs.declared.count_error.CountError.{CountError}
 use Rattle.lucid_layout.specs.declared.error.FitError.{FitError}
 use Rattle.lucid_layout.specs.Layout.{fit_error}
 use Rattle.lucid_layout.specs.declared.error.FitError.TheVariants as layout

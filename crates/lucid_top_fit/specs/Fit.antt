@@ -9,10 +9,10 @@ use Rattle.lucid_inline.specs.Refusals.{largest}
 use Rattle.lucid_inline_count.specs.Counts.{capped}
 use Rattle.lucid_inline_spec.specs.Flat.{flat_of}
 use Rattle.lucid_layout.specs.declared.error.FitError.TheVariants as cause
-use Rattle.lucid_layout.specs.Counts.{most_ops}
-use Rattle.lucid_layout.specs.Laws.{NoRoom}
+use Rattle.lucid_stages.specs.Counts.{most_ops}
+use Rattle.lucid_layout.specs.Fit.{NoRoom}
 use Rattle.lucid_layout.specs.Layout.{IsLayout, IsRefused}
-use Rattle.lucid_layout.specs.Nodes.{works}
+use Rattle.lucid_stages.specs.NodeWorks.{works}
 use Rattle.lucid_normal_spec.specs.Program.{translate}
 use Rattle.lucid_pass.specs.Through.{gone, through}
 use Rattle.lucid_tables.specs.Placed.{PlacedParts}

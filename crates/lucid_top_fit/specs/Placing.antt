@@ -12,7 +12,7 @@ use Rattle.lucid_code.specs.Parts as code
 use Rattle.lucid_conf.specs.declared.limits.Limits.{Limits}
 use Rattle.lucid_core.specs.Parts.{CoreParts}
 use Rattle.lucid_layout.specs.declared.error.FitError.TheVariants as layout
-use Rattle.lucid_layout.specs.Counts.{CountsFit}
+use Rattle.lucid_stages.specs.Counts.{CountsFit}
 use Rattle.lucid_layout.specs.Layout.{IsRefused}
 use Rattle.lucid_tables.specs.Placed.{PlacedParts}
 use Rattle.lucid_top_words.specs.declared.no_fit.NoFit.TheVariants as fit

@@ -6,7 +6,8 @@ use lucid_audit::{AuditError, PlanError, PlanKey};
 use lucid_base::{Id, Memory};
 use lucid_core::Core;
 use lucid_inline::InlineError;
-use lucid_layout::{CountError, FitError};
+use lucid_layout::FitError;
+use lucid_stages::CountError;
 use lucid_top_words::{BadPlacement, NoFit, Refusal};
 use std::alloc::Global;
 

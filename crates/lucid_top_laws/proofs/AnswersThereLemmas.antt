@@ -9,7 +9,7 @@ use Rattle.lucid_effects_spec.specs.Laws.{CyclesRefuse}
 use Rattle.lucid_gen.specs.Limits.{limits_text}
 use Rattle.lucid_gen.specs.Program.{program_text}
 use Rattle.lucid_gen.specs.Scene.{scene_text}
-use Rattle.lucid_layout.specs.Counts.{CountsFit}
+use Rattle.lucid_stages.specs.Counts.{CountsFit}
 use Rattle.lucid_layout_laws.specs.Laws.{LayoutsAreThere}
 use Rattle.lucid_lex.specs.declared.token.Token.{Token}
 use Rattle.lucid_log_tally.specs.Bench.{bench_line}

@@ -13,8 +13,8 @@ use Rattle.lucid_drive.specs.Drive.{drive_log}
 use Rattle.lucid_gen.specs.Limits.{limits_text}
 use Rattle.lucid_gen.specs.Program.{program_text}
 use Rattle.lucid_gen.specs.Scene.{scene_text}
-use Rattle.lucid_layout.specs.Laws.{LayoutsAreOne}
-use Rattle.lucid_layout.specs.declared.count_error.CountError.TheVariants as count
+use Rattle.lucid_layout_laws.specs.Laws.{LayoutsAreOne}
+use Rattle.lucid_stages.specs.declared.count_error.CountError.TheVariants as count
 use Rattle.lucid_layout.specs.declared.error.FitError.TheVariants as cause
 use Rattle.lucid_lex.proofs.Readings.{reads_one, reads_or_stops, stops_one}
 use Rattle.lucid_lex.specs.declared.token.Token.{Token}

@@ -22,9 +22,9 @@ use Rattle.lucid_inline.proofs.Accepted.{flat_is_accepted}
 use Rattle.lucid_inline_spec.specs.Flat.{flat_handler, flat_of}
 use Rattle.lucid_inline_spec.specs.Laws.{KeepsOrder}
 use Rattle.lucid_layout.specs.Layout.{IsLayout, stages_of}
-use Rattle.lucid_layout.specs.Nodes.{work_of, works}
-use Rattle.lucid_layout.specs.declared.stage.Pair.{Pair}
-use Rattle.lucid_layout.proofs.Keeping.{fit_keeps}
+use Rattle.lucid_stages.specs.NodeWorks.{work_of, works}
+use Rattle.lucid_stages.specs.declared.stage.Pair.{Pair}
+use Rattle.lucid_layout.proofs.LayoutLemmas.{fit_keeps}
 use Rattle.lucid_merge.specs.Laws.{GuardsContradict, ProductsAct, ProductsName}
 use Rattle.lucid_normal_spec.specs.Stands.{StandsFor}
 use Rattle.lucid_normal_laws.proofs.Valid.{valid_code}

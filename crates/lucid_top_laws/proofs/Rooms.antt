@@ -13,9 +13,10 @@ use Rattle.lucid_inline.proofs.Accepted.{flat_is_accepted}
 use Rattle.lucid_inline_spec.specs.Flat.{flat_of}
 use Rattle.lucid_inline_spec.specs.Laws.{KeepsOrder}
 use Rattle.lucid_layout.specs.declared.error.FitError.TheVariants as cause
-use Rattle.lucid_layout.specs.Laws.{NoRoom, StuckForRoom}
+use Rattle.lucid_layout.specs.Fit.{NoRoom}
+use Rattle.lucid_layout_laws.specs.Laws.{StuckForRoom}
 use Rattle.lucid_layout.specs.Layout.{IsRefused}
-use Rattle.lucid_layout.specs.Nodes.{works}
+use Rattle.lucid_stages.specs.NodeWorks.{works}
 use Rattle.lucid_normal_laws.proofs.Ordered.{accepted_together, all_followed}
 use Rattle.lucid_pass.specs.Through.{ListsKeepNodes}
 use Rattle.lucid_pass_spec.specs.Dead.{alive}

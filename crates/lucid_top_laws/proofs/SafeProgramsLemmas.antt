@@ -10,7 +10,7 @@ use Rattle.lucid_core.specs.Valid.{IsValid}
 use Rattle.lucid_effects_spec.specs.Order.{IsAccepted}
 use Rattle.lucid_inline_spec.proofs.SameOrder as order
 use Rattle.lucid_inline_spec.proofs.Valid as flat
-use Rattle.lucid_layout.specs.Laws.{StuckForRoom}
+use Rattle.lucid_layout_laws.specs.Laws.{StuckForRoom}
 use Rattle.lucid_lex.proofs.Shapes.{has_shape}
 use Rattle.lucid_lex.specs.declared.token.Kind.{Kind}
 use Rattle.lucid_lex.specs.declared.token.Token.{Token}

@@ -13,13 +13,15 @@ use Rattle.lucid_effects_spec.specs.Size.{flat_size}
 use Rattle.lucid_inline.specs.Refusals.{largest}
 use Rattle.lucid_inline_count.specs.Counts.{capped}
 use Rattle.lucid_inline_spec.specs.Flat.{flat_of}
-use Rattle.lucid_layout.specs.Counts.{CountsFit, most_ops}
+use Rattle.lucid_stages.specs.Counts.{CountsFit, most_ops}
 use Rattle.lucid_layout.specs.declared.error.FitError.{FitError}
 use Rattle.lucid_layout.specs.declared.error.FitError.TheVariants as cause
-use Rattle.lucid_layout.specs.declared.stage.Seat.{Seat}
-use Rattle.lucid_layout.specs.Fit.{Behind, seats}
-use Rattle.lucid_layout.specs.Layout.{IsLayout, IsRefused, stage_code}
-use Rattle.lucid_layout.specs.Nodes.{works}
+use Rattle.lucid_stages.specs.declared.stage.Seat.{Seat}
+use Rattle.lucid_stages.specs.Marks.{Behind}
+use Rattle.lucid_stages.specs.Filling.{seats}
+use Rattle.lucid_layout.specs.Layout.{IsLayout, IsRefused}
+use Rattle.lucid_stages.specs.Placing.{stage_code}
+use Rattle.lucid_stages.specs.NodeWorks.{works}
 use Rattle.lucid_layout_laws.proofs.LawsLemmas.{Decided, First, behind_decided, first, less_decided}
 use Rattle.lucid_layout_laws.specs.Laws.{LayoutsAreThere}
 use Rattle.lucid_tables.specs.Placed.{PlacedParts}

@@ -6,8 +6,8 @@ use Rattle.serde_json.specs.Data.{Data, array, member, no_items, no_members, obj
 use Rattle.serde_json.specs.Read.{read}
 use Rattle.lucid_audit.specs.Audit as audit
 use Rattle.lucid_audit.specs.declared.plan.Plan.{Plan}
-use Rattle.lucid_layout.specs.Counts.{CountsFit}
-use Rattle.lucid_layout.specs.Layout.{stage_code}
+use Rattle.lucid_stages.specs.Counts.{CountsFit}
+use Rattle.lucid_stages.specs.Placing.{stage_code}
 use Rattle.lucid_size.specs.Expansion.{ExpandsTo}
 use Rattle.lucid_tables.specs.Placed.{PlacedParts}
 use Rattle.lucid_top.specs.Pipes.{Piped, Ready, piped, ready, target}

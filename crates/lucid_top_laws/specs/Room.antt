@@ -4,8 +4,8 @@ use Rattle.lucid_conf.specs.declared.limits.Limits.{Limits}
 use Rattle.lucid_core.specs.Parts.{CoreParts}
 use Rattle.lucid_gen.specs.Limits.{limits_text}
 use Rattle.lucid_gen.specs.Program.{program_text}
-use Rattle.lucid_layout.specs.Laws.{NoRoom}
-use Rattle.lucid_layout.specs.Nodes.{works}
+use Rattle.lucid_layout.specs.Fit.{NoRoom}
+use Rattle.lucid_stages.specs.NodeWorks.{works}
 use Rattle.lucid_pass_spec.specs.Dead.{alive}
 use Rattle.lucid_pass_spec.specs.Direct.{direct}
 use Rattle.lucid_pass_spec.specs.Looks.{copies, folded}

@@ -1,9 +1,9 @@
 use Rattle.std.proofs.Common.{◌≡◌, sym, ap, subst, length, ◌∙◌, arith}
 use Rattle.std.specs.List.{AllByRecursion}
-use Rattle.lucid_layout.specs.Fit.{seats}
-use Rattle.lucid_layout.specs.Nodes.{works}
-use Rattle.lucid_layout.specs.Search.{Within}
-use Rattle.lucid_layout.proofs.Numbers.{ops_within, writes_within, no_more_works}
+use Rattle.lucid_stages.specs.Filling.{seats}
+use Rattle.lucid_stages.specs.NodeWorks.{works}
+use Rattle.lucid_stages.specs.Marks.{Within}
+use Rattle.lucid_stages.proofs.NodeOrderLemmas.{ops_within, writes_within, no_more_works}
 use Rattle.lucid_audit.specs.Audit.{pairs_of}
 use Rattle.lucid_audit.proofs.Places.{seats_are, seats_few, each_seat}
 use Rattle.lucid_audit.proofs.auditing.audit.Goals as goal

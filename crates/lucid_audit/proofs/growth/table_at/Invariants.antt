@@ -1,7 +1,7 @@
 use Rattle.std.proofs.Common.{◌≡◌, [], drop, length}
 use Rattle.std.specs.List.{AllByRecursion}
 use Rattle.lucid_tables.specs.Rows.{table}
-use Rattle.lucid_layout.specs.Search.{Within}
+use Rattle.lucid_stages.specs.Marks.{Within}
 use Rattle.lucid_audit.specs.Audit.{few_rows, grown, nodes_at}
 use Rattle.lucid_audit.proofs.growth.table_at.Given as goal
 

@@ -1,6 +1,6 @@
 use Rattle.std.proofs.Common.{◌<◌}
-use Rattle.lucid_layout.specs.declared.stage.Pair.{Pair}
-use Rattle.lucid_layout.specs.Search.{Fits}
+use Rattle.lucid_stages.specs.declared.stage.Pair.{Pair}
+use Rattle.lucid_layout.specs.Find.{Fits}
 use Rattle.lucid_layout.proofs.find.find.Given as goal
 
 abbrev pub invariant-loop-k : goal.invariant-loop-k

@@ -1,6 +1,6 @@
 use Rattle.std.proofs.Common.{subst, sym, ap, length, Ok, ◌≡◌, ◌∙◌, ◌+◌, ◌<◌}
-use Rattle.lucid_layout.specs.Search.{Within, end_marks, zeros, raised}
-use Rattle.lucid_layout.proofs.Moments.{many, writes_within, nowhere, further, finish, taken, taken_none}
+use Rattle.lucid_stages.specs.Marks.{Within, end_marks, zeros, raised}
+use Rattle.lucid_layout.proofs.FitLemmas.{many, writes_within, nowhere, further, finish, taken, taken_none}
 use Rattle.lucid_layout.proofs.fit.fit.Goals as goal
 
 pub next-requires-clause-stages : goal.next-requires-clause-stages

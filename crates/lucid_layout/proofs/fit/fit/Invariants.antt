@@ -1,4 +1,4 @@
-use Rattle.lucid_layout.proofs.Moments.{Moment}
+use Rattle.lucid_layout.proofs.FitLemmas.{Moment}
 use Rattle.std.proofs.Common.{length}
 use Rattle.lucid_layout.proofs.fit.fit.Given as goal
 

@@ -2,10 +2,10 @@ use Rattle.std.proofs.Common.{subst, sym, ap, ap₂, length, map, List, ◌≡�
 use Rattle.std.specs.List.{AllByRecursion}
 use Rattle.lucid_code.specs.declared.op.Op.{Op}
 use Rattle.lucid_code.specs.declared.node.Node.{Node}
-use Rattle.lucid_layout.specs.declared.node.Work.{Work}
-use Rattle.lucid_layout.specs.Nodes.{works, work_of}
-use Rattle.lucid_layout.specs.Search.{Within}
-use Rattle.lucid_layout.proofs.Numbers.{ops_within, writes_within, no_more_works}
+use Rattle.lucid_stages.specs.declared.node.Work.{Work}
+use Rattle.lucid_stages.specs.NodeWorks.{works, work_of}
+use Rattle.lucid_stages.specs.Marks.{Within}
+use Rattle.lucid_stages.proofs.NodeOrderLemmas.{ops_within, writes_within, no_more_works}
 use Rattle.lucid_layout.proofs.layout.place.Goals as goal
 
 pub fit-requires-clause-ops : goal.fit-requires-clause-ops

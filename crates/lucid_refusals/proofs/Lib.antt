@@ -1,0 +1,2 @@
+pub mod ReadingsLemmas
+pub mod RefusalLemmas

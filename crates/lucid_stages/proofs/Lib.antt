@@ -1,0 +1,8 @@
+pub mod ExamplesLemmas
+pub mod FillingLemmas
+pub mod MarksLemmas
+pub mod NodeOrderLemmas
+pub mod NodeTablesLemmas
+pub mod NodeWorksLemmas
+pub mod PlacingLemmas
+pub mod StageLemmas
