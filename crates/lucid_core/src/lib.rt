@@ -1,9 +1,10 @@
-// The elaborated program (a core), the rules that make one valid, and its meaning: the effect of an event whose handler runs whole.
+// Defines the core, which is a program after elaboration, the rules that make a core valid, and its meaning: the effect of one event whose
+// handler runs whole.
 // Promises: every value of type `Core` or `Flat` is valid (specs/Valid.antt). The laws of laws.rt hold for all cells, ticks, switches and events.
-// The meaning is the function `step` of specs/Step.antt. It is defined by specs/Meaning.antt (expressions and statements) and
-// specs/Computations.antt (their effects on the state). The interpreter is the crate lucid_core_run.
-// Used by many crates. Promises of the program rest on its definitions (docs/TRUSTED.md). It changes only to correct a fault: README.md
-// of this crate, *Frozen*.
+// The meaning is the function `step` of specs/Step.antt, over specs/Meaning.antt (expressions and statements) and specs/Computations.antt
+// (their effects on the state). The interpreter is the crate lucid_core_run.
+// Used by many crates. The promises of Copperfinch rest on the definitions of this crate (docs/TRUSTED.md). It changes only to correct a
+// fault, as README.md of this crate says under *Frozen*.
 #![tactic(auto)]
 
 mod body;

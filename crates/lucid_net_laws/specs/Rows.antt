@@ -3,7 +3,8 @@ use Rattle.std.specs.Prelude.{List, map}
 use Rattle.lucid_pipe.specs.Packets.{Packet}
 use Rattle.lucid_pipe.specs.Pipe.{PipeParts}
 use Rattle.lucid_pipe.specs.Rows.{by_array, pipe_rows, steps_of}
-pub use Rattle.lucid_pipe.specs.Rows.{Cells, first_cells}
+pub use Rattle.lucid_pipe.specs.Rows.{Cells}
+unfoldable pub use Rattle.lucid_pipe.specs.Rows.{first_cells}
 use Rattle.lucid_pipe_laws.specs.Rows.{Row, Steps}
 use Rattle.lucid_tables.specs.Placed.{PlacedParts}
 
