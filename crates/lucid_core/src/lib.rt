@@ -1,5 +1,5 @@
-// Defines the core, which is a program after elaboration, the rules that make a core valid, and its meaning: the effect of one event whose
-// handler runs whole.
+// Defines three things: the core (a program after elaboration), the rules that make a core valid, and the meaning of a core, which is the
+// effect of one event whose handler runs whole.
 // Promises: every value of type `Core` or `Flat` is valid (specs/Valid.antt). The laws of laws.rt hold for all cells, ticks, switches and events.
 // The meaning is the function `step` of specs/Step.antt, over specs/Meaning.antt (expressions and statements) and specs/Computations.antt
 // (their effects on the state). The interpreter is the crate lucid_core_run.
