@@ -1,10 +1,14 @@
-// Tests of drives and snapshots by their public calls: programs from text, placed by first fit, with whole logs that are worked by hand.
-// It has no other code, and nothing depends on it.
+// Tests of the pipe, drives, snapshots and inlining by their public calls, on programs from text, with results that are worked by hand.
+// Nothing depends on this crate.
 #![tactic(auto)]
 
 #[cfg(test)]
 mod drives;
 #[cfg(test)]
-mod placed;
+mod flights;
+#[cfg(test)]
+mod inlined;
+#[cfg(test)]
+mod setup;
 #[cfg(test)]
 mod snapshots;
