@@ -1,4 +1,5 @@
-// Tests of the pipe, drives, snapshots and inlining by their public calls, on programs from text, with results that are worked by hand.
+// Tests of the pipe, drives, snapshots, networks on pipelines and inlining by their public calls, on programs from text, with results that
+// are worked by hand.
 // Nothing depends on this crate.
 #![tactic(auto)]
 
@@ -8,6 +9,8 @@ mod drives;
 mod flights;
 #[cfg(test)]
 mod inlined;
+#[cfg(test)]
+mod networks;
 #[cfg(test)]
 mod setup;
 #[cfg(test)]
