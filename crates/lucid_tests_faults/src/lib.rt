@@ -1,7 +1,10 @@
-// The table of failing calls: each form of words over files and sinks in memory, of which each opening, each read and each write fails in
-// turn, with the required output and status. It has no other code, and nothing depends on it.
+// Calls of the program over files and sinks in memory, with passes and watches of the caller. In a table of all forms of words each opening,
+// each read and each write fails in turn.
+// Nothing depends on this crate.
 #![tactic(auto)]
 
+#[cfg(test)]
+mod boxes;
 #[cfg(test)]
 mod failing;
 #[cfg(test)]

@@ -45,18 +45,29 @@ pub(crate) fn run_watched<V: Watch>(
     faults: Faults,
     watch: &mut V,
 ) -> Result<Ran, Fail> {
+    let mut passes = passes(alloc)?;
+    run_with(alloc, line, faults, &mut passes, watch)
+}
+
+/// Like `run_watched`, with passes of the caller.
+pub(crate) fn run_with<V: Watch>(
+    alloc: Global,
+    line: &str,
+    faults: Faults,
+    passes: &mut Vec<Box<dyn Pass>>,
+    watch: &mut V,
+) -> Result<Ran, Fail> {
     let words = words(alloc, line)?;
     let mut files = MemFiles::new(alloc, files(alloc)?, one(alloc, faults.read)?)?;
     let mut out = MemSink::new(alloc, ROOM, one(alloc, faults.write)?)?;
     let mut err = MemSink::new(alloc, ROOM, one(alloc, faults.tell)?)?;
-    let mut passes = passes(alloc)?;
     let status = lucid(
         alloc,
         words.as_slice(),
         &mut files,
         &mut out,
         &mut err,
-        &mut passes,
+        passes,
         watch,
     );
     Ok(Ran { status, out, err })
@@ -71,7 +82,7 @@ fn one(alloc: Global, number: Option<u64>) -> Result<Vec<u64>, AllocError> {
 }
 
 /// The passes that the program uses.
-fn passes(alloc: Global) -> Result<Vec<Box<dyn Pass>>, AllocError> {
+pub(crate) fn passes(alloc: Global) -> Result<Vec<Box<dyn Pass>>, AllocError> {
     let mut passes: Vec<Box<dyn Pass>> = Vec::new(alloc);
     passes.push(Box::new(alloc, Fold::new())?)?;
     passes.push(Box::new(alloc, Copies::new())?)?;

@@ -1,4 +1,5 @@
-// Calls of the program over a watch that records all sights. A command that shows nothing fails here, and so does a watch that records nothing.
+// Calls of the program over a watch that records all sights. A command that shows nothing fails here, so does a `run pipe` that runs handlers
+// whole, and so does a watch that records nothing.
 use crate::running::{NONE, run_watched};
 use lucid_pipe::MemWatch;
 use lucid_top::Status;
