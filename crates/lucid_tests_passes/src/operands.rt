@@ -1,5 +1,5 @@
-// The operands that the passes insert.
-use crate::worked::{both_branches, computed};
+// The operands that the passes insert, and the guards of the code that they are tried on.
+use crate::worked::{both_branches, computed, two_calls};
 use lucid_code::{Act, Code, Op, Operand};
 use lucid_pass::{Copies, Fold, Pass};
 use std::test::Fail;
@@ -64,5 +64,13 @@ fn moved_fields_are_looked_through(rt: HostRuntime) -> Result<(), Fail> {
     assert_eq!(rt; read(&new, 6, 0), (false, 6));
     assert_eq!(rt; read(&new, 7, 0), (false, 8));
     assert_eq!(rt; read(&new, 8, 0), (false, 10));
+    Ok(())
+}
+
+#[test]
+fn two_calls_of_an_array_have_contradicting_guards(rt: HostRuntime) -> Result<(), Fail> {
+    for (value, is_valid) in [(0, true), (1, false)] {
+        assert_eq!(rt; two_calls(rt.alloc(), value)?.is_some(), is_valid);
+    }
     Ok(())
 }

@@ -74,6 +74,11 @@ fn code(alloc: Global, widths: &[Width], ops: Vec<Op>) -> Result<Option<Code>, M
 /// A handler whose branches, on whether the argument is 0, read one cell each into a local that is then sent out. Nobody reads that the local
 /// begins as 0.
 pub fn both_branches(alloc: Global) -> Result<Option<Code>, Memory> {
+    two_calls(alloc, 0)
+}
+
+/// The same, with this value in the guard of the second call of the array.
+pub fn two_calls(alloc: Global, second: u64) -> Result<Option<Code>, Memory> {
     let int = Width::int();
     let all = [is(0, 1)];
     let yes = [is(0, 1), is(5, 1)];
@@ -84,7 +89,7 @@ pub fn both_branches(alloc: Global) -> Result<Option<Code>, Memory> {
     ops.push(operation(alloc, &all, 0, compare)?)?;
     ops.push(operation(alloc, &yes, 0, call(0, 6))?)?;
     ops.push(operation(alloc, &yes, 1, Act::Move(Operand::Field(6), 7))?)?;
-    ops.push(operation(alloc, &no, 0, call(1, 8))?)?;
+    ops.push(operation(alloc, &[is(0, 1), is(5, second)], 0, call(1, 8))?)?;
     ops.push(operation(alloc, &no, 1, Act::Move(Operand::Field(8), 9))?)?;
     ops.push(operation(alloc, &yes, 1, Act::Move(Operand::Field(7), 10))?)?;
     ops.push(operation(alloc, &no, 1, Act::Move(Operand::Field(9), 10))?)?;
