@@ -4,7 +4,6 @@ use Rattle.std.specs.List.{list_all}
 use Rattle.std.specs.Option.{option_and_then}
 use Rattle.std.proofs.lemmas.Bool.{and_parts}
 use Rattle.lucid_base.specs.declared.bits.Bits.{Bits}
-use Rattle.lucid_base.specs.declared.event.Event.{Event}
 use Rattle.lucid_core.specs.declared.body.Expr.{Expr}
 use Rattle.lucid_core.specs.declared.body.Stmt.{Stmt}
 use Rattle.lucid_core.specs.declared.body.Touch.{Touch}
@@ -17,11 +16,11 @@ use Rattle.lucid_core.specs.Computations.{Computation, Effect, Fun, Ran, begun_w
 use Rattle.lucid_core.specs.Meaning.{effect_of, expr_step, fun_of, stmt_step, touch_of, touch_step, value_of}
 use Rattle.lucid_core.specs.Numbers.{all_hold}
 use Rattle.lucid_core.specs.Parts.{CoreParts}
-use Rattle.lucid_core.specs.Step.{Stepped, handled, handler_of, started, taken_at}
+use Rattle.lucid_core.specs.Step.{handled, handler_of, started, taken_at}
 use Rattle.lucid_core.specs.Syntax as syntax_of
 use Rattle.lucid_core.specs.Syntax.{not_group}
 use Rattle.lucid_core.proofs.Fine.{both_pass}
-use Rattle.lucid_top_laws.specs.Groups.{GroupsAreApart, Send, any_expr, effect_with, fun_with, handled_with, has_no_groups, sends_to_no_group, stmt_step_with}
+use Rattle.lucid_top_laws.specs.Groups.{GroupsAreApart, Send, any_expr, effect_with, fun_with, handled_with, sends_to_no_group, stmt_step_with}
 
 abbrev C : Type 0
 C = Computation Bits

@@ -4,7 +4,7 @@ use Rattle.lucid_core.specs.Parts.{CoreParts}
 use Rattle.lucid_lex.specs.declared.token.Token.{Token}
 use Rattle.lucid_lex.specs.Reading.{Reads}
 use Rattle.lucid_size.specs.Expansion.{ExpandsTo, most}
-use Rattle.lucid_top_program.specs.Program.{IsProgram, IsRead, IsSource}
+use Rattle.lucid_top_program.specs.Program.{IsRead, IsSource}
 use Rattle.lucid_top_words.specs.declared.refusal.Refusal.{Refusal}
 use Rattle.lucid_top_words.specs.Outcome.{After, Alike}
 use Rattle.lucid_top_words.specs.Words.{Bytes}
