@@ -1,9 +1,9 @@
 -- Where the tables show it, a caller asks for all that a function asks.
-use Rattle.std.proofs.Common.{◌≡◌, ◌∙◌, ℕ, ◌+◌, ◌*◌, ◌<◌, Bool, true, false, List, [], ◌∷◌, ◌++◌, Option, None, Some, IsSome, if◌then◌else◌, ◌||◌, ◌&&◌, get_or, length, map, nat_lt, refl, sym, ap, ap₂, subst, arith}
-use Rattle.std.specs.Prelude.{All, is_some}
+use Rattle.std.proofs.Common.{◌≡◌, ◌∙◌, ℕ, ◌+◌, ◌*◌, ◌<◌, Bool, true, false, List, [], ◌∷◌, Option, None, Some, if◌then◌else◌, ◌&&◌, get_or, length, map, nat_lt, refl, sym, ap, ap₂, arith}
+use Rattle.std.specs.Prelude.{is_some}
 use Rattle.std.specs.List.{list_all, list_any}
 use Rattle.std.specs.Option.{option_and_then, option_map}
-use Rattle.std.proofs.lemmas.Bool.{and_parts, ltb-true, ltb-false}
+use Rattle.std.proofs.lemmas.Bool.{and_parts, ltb-true}
 use Rattle.std.proofs.lemmas.Bool.Decides.{nat_tests}
 use Rattle.lucid_base.specs.Arrays.{name_at}
 use Rattle.lucid_base.specs.declared.array.ArrayName.{ArrayName}
@@ -11,7 +11,7 @@ use Rattle.lucid_base.specs.declared.array.ArrayName.TheVariants.{Global, Param}
 use Rattle.lucid_constraints.specs.declared.pair.Atom.{Atom}
 use Rattle.lucid_constraints.specs.declared.pair.Atom.TheVariants.{Start, After}
 use Rattle.lucid_constraints.specs.declared.pair.Pair.{Pair}
-use Rattle.lucid_constraints.specs.Cover.{ArePlacesTo, RowHeld, RowsHeldTo, StartHeld, StartsHeld, moved}
+use Rattle.lucid_constraints.specs.Cover.{ArePlacesTo, RowsHeldTo, StartHeld, StartsHeld, moved}
 use Rattle.lucid_constraints.specs.Marks.{Marked, atom_number, name_number, pair_number}
 use Rattle.lucid_constraints.specs.Same.{same_pair}
 use Rattle.lucid_constraints.specs.Substitution.{needs_from, pair, pairs_at}

@@ -6,4 +6,5 @@ pub mod Marks
 pub mod Means
 pub mod Numbers
 pub mod Same
+pub mod Seen
 pub mod Substitution

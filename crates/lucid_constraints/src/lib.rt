@@ -15,6 +15,7 @@ mod numbers;
 mod order;
 mod pair;
 mod search;
+mod seen;
 
 pub use ends::{ends_at, join_ends};
 pub use laws::{allowed_numberings_rise, pairs_keep_meaning};

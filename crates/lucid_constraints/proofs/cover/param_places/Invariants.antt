@@ -1,4 +1,4 @@
-use Rattle.std.proofs.Common.{◌≡◌, ℕ, ◌<◌}
+use Rattle.std.proofs.Common.{◌≡◌, ◌<◌}
 use Rattle.std.specs.Prelude.{All, length}
 use Rattle.lucid_constraints.specs.Cover.{ArePlacesTo}
 use Rattle.lucid_constraints.proofs.cover.param_places.Given as goal

@@ -1,4 +1,4 @@
-use Rattle.std.proofs.Common.{◌≡◌, ◌≤◌, ◌∙◌, length, refl, rules, sym, subst}
+use Rattle.std.proofs.Common.{◌≤◌, ◌∙◌, length, refl, rules, sym, subst}
 use Rattle.std.proofs.lemmas.List.{drop_all, drop_more}
 use Rattle.lucid_constraints.specs.Cover.{StartsHeld}
 use Rattle.lucid_constraints.proofs.cover.start_held.Goals as goal
