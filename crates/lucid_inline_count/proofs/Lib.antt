@@ -3,3 +3,4 @@ pub mod Joining
 pub mod Agrees
 pub mod LawOfCounts
 pub mod Summing
+pub mod BlocksLemmas

@@ -1,4 +1,5 @@
 pub mod Bodies
+pub mod Branches
 pub mod Counts
 pub mod Flags
 pub mod Found

@@ -1,14 +1,18 @@
 // The counts of statements and blocks.
-ghost use Rattle.std.specs.Prelude.{◌≡◌, ◌++◌, IfOk, OnOk, map};
-ghost use Rattle.lucid_inline_count.specs.Found.{block_part, joins as joins_of, names_of, part_of, stmt_tally, without_returns};
+ghost use Rattle.std.specs.Prelude.{◌≡◌, ◌++◌, IfOk, OnOk, length, map};
+ghost use Rattle.lucid_inline_count.specs.Counts.{plus};
+ghost use Rattle.lucid_inline_count.specs.Flags.{put_back as before};
+ghost use Rattle.lucid_inline_count.specs.Found.{block_part, condition as condition_of, expr_found, names_of, part_of, stmt_tally, without_returns};
+ghost use Rattle.lucid_inline_count.specs.Branches.{held_behind};
 ghost use Rattle.lucid_inline_count.specs.Rounds.{round};
 
 use crate::body::{Body, Part};
+use crate::branches::{Open, close, either};
 use crate::counts::{Counts, count};
 use crate::exprs::{condition, expr, group, optional, total};
-use crate::held::{joined, put_back, set};
+use crate::held::{Note, put_back, set};
 use lucid_base::Memory;
-use lucid_core::{Stmt, below};
+use lucid_core::{Expr, Stmt};
 use std::alloc::Global;
 
 /// The part of a statement that neither assigns nor returns.
@@ -23,30 +27,11 @@ fn plainly(counts: Counts) -> Part
     }
 }
 
-/// The moves where two branches join that assign these.
-fn joins(
-    alloc: Global,
-    held: &mut Vec<bool>,
-    returns: bool,
-    value: bool,
-    names: &[u32],
-) -> Result<u64, Memory>
-    ensures joins { IfOk result (λ n. n ≡ joins_of returns value held.old.items names.now) }
-    ensures held { OnOk result (held.new.items ≡ held.old.items) }
-{
-    if returns {
-        Ok(if value { 2 } else { 0 })
-    } else {
-        let joined = joined(alloc, held, names)?;
-        Ok((joined as u64).saturating_mul(2))
-    }
-}
-
-/// Counts statements, one after another. Returns Memory if ifs nest deeper than `left`.
+/// Counts statements, one after another. Those after a return and after a case of a `match` are the second branch of an `If` that ends its
+/// block. A loop follows these, since a text may have very many; all else is no deeper than a text may nest.
 #[cycle(blocks)]
 pub fn block(
     alloc: Global,
-    left: u32,
     funs: &[Counts],
     body: &mut Body,
     stmts: &[Stmt],
@@ -55,21 +40,59 @@ pub fn block(
     ensures held { OnOk result (body.new.held.items ≡ body.old.held.items) }
     ensures assigned { OnOk result (body.new.assigned.items ≡ body.old.assigned.items ++ names_of (map stmt_tally stmts.now)) }
 {
-    let left = below(left, 1)?;
+    let mut waiting = Vec::new(alloc);
+    let mut left = stmts;
+    while let Some((Stmt::If(e, yes, no), front)) = left.split_last() {
+        let first = first_branch(alloc, funs, body, front, e, yes.as_slice())?;
+        waiting.push(first)?;
+        left = no.as_slice();
+    }
+    let mut part = flat(alloc, funs, body, left)?;
+    while let Some(one) = waiting.pop() {
+        part = close(alloc, body, one, part)?;
+    }
+    Ok(part)
+}
+
+/// Counts statements, each by itself.
+#[cycle(blocks)]
+fn flat(alloc: Global, funs: &[Counts], body: &mut Body, stmts: &[Stmt]) -> Result<Part, Memory>
+    ensures part { IfOk result (λ p. p ≡ block_part (map stmt_tally stmts.now) (round funs.now body.old)) }
+    ensures held { OnOk result (body.new.held.items ≡ body.old.held.items) }
+    ensures assigned { OnOk result (body.new.assigned.items ≡ body.old.assigned.items ++ names_of (map stmt_tally stmts.now)) }
+{
     let mut notes = Vec::new(alloc);
+    let part = each(alloc, funs, body, &mut notes, stmts)?;
+    put_back(&mut body.held, notes);
+    Ok(part)
+}
+
+/// Counts statements, each by itself, and notes which locals they set.
+#[cycle(blocks)]
+fn each(
+    alloc: Global,
+    funs: &[Counts],
+    body: &mut Body,
+    notes: &mut Vec<Note>,
+    stmts: &[Stmt],
+) -> Result<Part, Memory>
+    ensures part { IfOk result (λ p. p ≡ block_part (map stmt_tally stmts.now) (round funs.now body.old)) }
+    ensures held { OnOk result (body.new.held.items ≡ held_behind (map stmt_tally stmts.now) (round funs.now body.old)) }
+    ensures back { OnOk result (before notes.new.items body.new.held.items ≡ before notes.old.items body.old.held.items) }
+    ensures assigned { OnOk result (body.new.assigned.items ≡ body.old.assigned.items ++ names_of (map stmt_tally stmts.now)) }
+{
     let mut counts = count(0, 0);
     let mut returns = false;
     let mut value = false;
     for s in stmts {
-        let part = stmt(alloc, left, funs, body, s)?;
+        let part = stmt(alloc, funs, body, s)?;
         counts = counts.and(part.counts);
         returns = returns || part.returns;
         value = value || part.value;
         if let Some(i) = part.sets {
-            set(&mut body.held, &mut notes, i, true)?;
+            set(&mut body.held, notes, i, true)?;
         }
     }
-    put_back(&mut body.held, notes);
     Ok(Part {
         counts,
         sets: None,
@@ -78,14 +101,39 @@ pub fn block(
     })
 }
 
+/// Counts a block up to the second branch of the `if` that ends it.
 #[cycle(blocks)]
-fn stmt(
+fn first_branch(
     alloc: Global,
-    left: u32,
     funs: &[Counts],
     body: &mut Body,
-    s: &Stmt,
-) -> Result<Part, Memory>
+    front: &[Stmt],
+    e: &Expr,
+    yes: &[Stmt],
+) -> Result<Open, Memory>
+    ensures front { IfOk result (λ o. o.front ≡ block_part (map stmt_tally front.now) (round funs.now body.old)) }
+    ensures yes { IfOk result (λ o. o.yes ≡ block_part (map stmt_tally yes.now) (round funs.now body.new)) }
+    ensures tested { IfOk result (λ o. o.tested ≡ plus (condition_of (expr_found e.now) funs.now) o.yes.counts) }
+    ensures from { IfOk result (λ o. o.from ≡ length (body.old.assigned.items ++ names_of (map stmt_tally front.now))) }
+    ensures back { IfOk result (λ o. before o.notes.items body.new.held.items ≡ body.old.held.items) }
+    ensures held { OnOk result (body.new.held.items ≡ held_behind (map stmt_tally front.now) (round funs.now body.old)) }
+    ensures assigned { OnOk result (body.new.assigned.items ≡ (body.old.assigned.items ++ names_of (map stmt_tally front.now)) ++ names_of (map stmt_tally yes.now)) }
+{
+    let mut notes = Vec::new(alloc);
+    let front = each(alloc, funs, body, &mut notes, front)?;
+    let from = body.assigned.len();
+    let yes = block(alloc, funs, body, yes)?;
+    Ok(Open {
+        front,
+        tested: condition(funs, e).and(yes.counts),
+        yes,
+        from,
+        notes,
+    })
+}
+
+#[cycle(blocks)]
+fn stmt(alloc: Global, funs: &[Counts], body: &mut Body, s: &Stmt) -> Result<Part, Memory>
     ensures part { IfOk result (λ p. p ≡ part_of (stmt_tally s.now) (round funs.now body.old)) }
     ensures held { OnOk result (body.new.held.items ≡ body.old.held.items) }
     ensures assigned { OnOk result (body.new.assigned.items ≡ body.old.assigned.items ++ (stmt_tally s.now).names) }
@@ -103,26 +151,17 @@ fn stmt(
         Stmt::Drop(e) => Ok(plainly(expr(funs, e).and(count(0, 1)))),
         Stmt::If(e, yes, no) => {
             let from = body.assigned.len();
-            let yes = block(alloc, left, funs, body, yes.as_slice())?;
-            let no = block(alloc, left, funs, body, no.as_slice())?;
-            let returns = yes.returns || no.returns;
-            let value = yes.value && no.value;
-            let joins = joins(
+            let yes = block(alloc, funs, body, yes.as_slice())?;
+            let no = block(alloc, funs, body, no.as_slice())?;
+            let tested = condition(funs, e).and(yes.counts);
+            either(
                 alloc,
                 &mut body.held,
-                returns,
-                value,
+                tested,
+                yes,
+                no,
                 &body.assigned[from..],
-            )?;
-            Ok(Part {
-                counts: condition(funs, e)
-                    .and(yes.counts)
-                    .and(no.counts)
-                    .and(count(joins, 0)),
-                sets: None,
-                returns,
-                value,
-            })
+            )
         }
         Stmt::Gen {
             event: _,

@@ -7,8 +7,8 @@
 
 mod blocks;
 mod body;
+mod branches;
 mod counts;
-mod depth;
 mod exprs;
 mod held;
 mod program;

@@ -9,7 +9,6 @@ ghost use Rattle.lucid_inline_spec.specs.Counts.{handler_lengths, handler_sizes}
 use crate::blocks::block;
 use crate::body::Body;
 use crate::counts::Counts;
-use crate::depth::MOST;
 use crate::sums::Sum;
 use lucid_base::Memory;
 use lucid_core::{Core, EventDef, FunDef, HandlerDef, Stmt};
@@ -103,7 +102,7 @@ pub fn count_body(
         held: first_held(alloc, params, locals)?,
         assigned: Vec::new(alloc),
     };
-    let part = block(alloc, MOST, funs, &mut body, stmts)?;
+    let part = block(alloc, funs, &mut body, stmts)?;
     Ok(part.counts)
 }
 
