@@ -3,7 +3,6 @@
 // Used by lucid_top_program and lucid_top_laws. Bodies and proofs may change; a public clause may only get stronger.
 #![tactic(auto)]
 
-mod depth;
 mod error;
 mod limit;
 mod parts;

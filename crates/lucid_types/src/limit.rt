@@ -4,7 +4,6 @@ ghost use Rattle.std.specs.Option.{option_copied};
 ghost use Rattle.lucid_types_declarations.specs.Known.{made_of};
 ghost use Rattle.lucid_types.specs.Answers.{Judges};
 
-use crate::depth::{MOST, stand_within};
 use lucid_base::Memory;
 use lucid_parse_tree::DeclKind;
 use lucid_types_declarations::Known;
@@ -12,20 +11,8 @@ use lucid_types_laws::declarations_are_computed;
 use lucid_types_limits::{Limits, only_the_new_counts};
 use lucid_types_spec::What;
 
-/// Returns the limit that the newest declaration exceeds, if any. If none, returns `Memory` when its blocks nest deeper than `MOST`.
-/// Checking limits does not recurse.
+/// Returns the limit that the newest declaration exceeds, if any.
 pub fn passed(limits: &mut Limits, known: &Known, x: &DeclKind) -> Result<Option<What>, Memory>
-    ensures { Judges result x.now (made_of known.now) limits.old limits.new }
-{
-    let passed = newest_passes(limits, known, x)?;
-    if passed.is_none() {
-        is_shallow(known, x)?;
-    }
-    Ok(passed)
-}
-
-/// Returns the limit alone, for any depth of its blocks.
-fn newest_passes(limits: &mut Limits, known: &Known, x: &DeclKind) -> Result<Option<What>, Memory>
     ensures { Judges result x.now (made_of known.now) limits.old limits.new }
 {
     declarations_are_computed();
@@ -66,21 +53,6 @@ fn newest_passes(limits: &mut Limits, known: &Known, x: &DeclKind) -> Result<Opt
             None => Ok(None),
         },
         DeclKind::Group(_, _) => Ok(None),
-    }
-}
-
-/// Returns Memory if blocks of the newest declaration nest too deep.
-fn is_shallow(known: &Known, x: &DeclKind) -> Result<(), Memory> {
-    match x {
-        DeclKind::Handle { .. } => match newest(&known.handlers) {
-            Some(handler) => stand_within(MOST, handler.body.as_slice()),
-            None => Ok(()),
-        },
-        DeclKind::Fun { .. } => match newest(&known.funs) {
-            Some(fun) => stand_within(MOST, fun.body.as_slice()),
-            None => Ok(()),
-        },
-        _ => Ok(()),
     }
 }
 

@@ -5,7 +5,7 @@ use Rattle.lucid_base.specs.declared.array.ArrayDef.{ArrayDef}
 use Rattle.lucid_parse_tree.specs.declared.tree.S.{S}
 use Rattle.lucid_types_declarations.specs.Known.{made_of}
 use Rattle.lucid_types_limits.specs.NewPart.{array_passes, fun_passes, handler_passes}
-use Rattle.lucid_types.proofs.limit.newest_passes.Goals as goal
+use Rattle.lucid_types.proofs.limit.passed.Goals as goal
 use Rattle.lucid_types.proofs.NewPart.{array_judged, constant_judged, event_judged, fun_judged, group_judged, handler_judged, memop_judged, no_fun_judged}
 
 pub returns-in-Const : goal.returns-in-Const
