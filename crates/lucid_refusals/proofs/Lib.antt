@@ -1,2 +1,3 @@
+pub mod ImplyingLemmas
 pub mod ReadingsLemmas
 pub mod RefusalLemmas

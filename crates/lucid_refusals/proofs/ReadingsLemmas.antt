@@ -182,7 +182,7 @@ module _ (literals : List Literal) (readings : List Reading) (apart : are_apart 
       )
 
 -- each literal of patterns is listed
-listed : (ps : List (List Literal)) (ls : List Literal) (l : Literal) → (has ls l ≡ true) ⊎ (list_any (λ p. has p l) ps ≡ true) → has (fold (fold with_literal) ls ps) l ≡ true
+pub listed : (ps : List (List Literal)) (ls : List Literal) (l : Literal) → (has ls l ≡ true) ⊎ (list_any (λ p. has p l) ps ≡ true) → has (fold (fold with_literal) ls ps) l ≡ true
 listed [] ls l (inl h) = h
 listed [] ls l (inr h) = absurd (true≢false (sym h))
 listed (p ∷ ps) ls l (inl h) = listed ps (fold with_literal ls p) l (inl (has_fold p ls l ∙ or_left (has ls l) (has p l) h))
@@ -206,11 +206,11 @@ fitting counted rows patterns known shape s h refuses a b e f =
     let few : rows < length (product a (bare known)) = refuses a (bare known) e (bare_patterns known) in
     omega (arith, same, few)
 
--- the same for slices of the lists
-pub fitting_at : RowsAreCounted → (rows : ℕ) (patterns : List (List Literal)) (literals : List Literal) (known shape : List (List Literal)) (ls : List Literal) (ks : List (List Literal)) → literals ≡ literals_of patterns → ls ≡ literals → ks ≡ known →
-    same_lengths ks shape ≡ true → are_apart ls (readings_of ks shape) ≡ true → Refuses rows patterns known → Refuses rows patterns shape
-fitting_at counted rows patterns literals known shape ls ks e f g s h r =
-    fitting counted rows patterns ks shape s (subst (λ (x : List Literal). are_apart x (readings_of ks shape) ≡ true) (f ∙ e) h) (subst (Refuses rows patterns) (sym g) r)
+-- the same with the literals of the table
+pub fitting_of : RowsAreCounted → (rows : ℕ) (patterns : List (List Literal)) (literals : List Literal) (known shape : List (List Literal)) → literals ≡ literals_of patterns →
+    same_lengths known shape ≡ true → are_apart literals (readings_of known shape) ≡ true → Refuses rows patterns known → Refuses rows patterns shape
+fitting_of counted rows patterns literals known shape e s h =
+    fitting counted rows patterns known shape s (subst (λ (x : List Literal). are_apart x (readings_of known shape) ≡ true) e h)
 
 -- one of the shapes that were refused
 pub item_refuses : (rows : ℕ) (patterns : List (List Literal)) (shapes list : List (List (List Literal))) (i : ℕ) (s : List (List Literal)) → list ≡ shapes → All (Refuses rows patterns) shapes → i < length list → s ≡ slice_index_or list i s → Refuses rows patterns s

@@ -4,8 +4,8 @@ ghost use Rattle.lucid_merge.specs.Product.{product, within};
 ghost use Rattle.lucid_merge.specs.RowCounts.{patterns_of};
 ghost use Rattle.lucid_refusals.specs.Refusal.{Refuses};
 
+use crate::implying::implies;
 use crate::literals::literals_of;
-use crate::readings::fits;
 use crate::refusal::Refusals;
 use crate::shape::{fields_of, patterns_of, same_patterns, shape_of};
 use lucid_base::{Items, Memory};
@@ -18,12 +18,11 @@ use std::alloc::Global;
 fn refuses_shape(alloc: Global, known: &Refusals, shape: &[Items<Literal>]) -> Result<bool, Memory>
     ensures { IfOk result (λ r. IsTrue r → Refuses known.now.rows known.now.patterns shape.now) }
 {
-    rows_are_counted();
     let literals = known.literals.as_slice();
     let shapes = known.shapes.as_slice();
     for found in shapes {
         let own = found.as_slice();
-        if fits(alloc, literals, own, shape)? {
+        if implies(alloc, literals, own, shape)? {
             return Ok(true);
         }
     }

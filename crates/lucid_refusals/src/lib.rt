@@ -6,6 +6,7 @@
 #![tactic(auto)]
 
 mod growing;
+mod implying;
 mod literals;
 mod readings;
 mod refusal;

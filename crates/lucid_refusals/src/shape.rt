@@ -53,7 +53,7 @@ fn shared(alloc: Global, fields: &[u32], pattern: &[Literal]) -> Result<Items<Li
 }
 
 /// Whether two patterns are the same, literal by literal.
-fn same_pattern(p: &[Literal], q: &[Literal]) -> bool
+pub(crate) fn same_pattern(p: &[Literal], q: &[Literal]) -> bool
     ensures { IsTrue result → p.now ≡ q.now }
 {
     if p.len() != q.len() {
