@@ -6,7 +6,8 @@ ghost use Rattle.lucid_top_words.specs.Views.{files_view, sink_view};
 
 use lucid_base::Memory;
 use lucid_io::{Files, Sink};
-use lucid_pass::{Copies, Dead, Direct, Fold, Pass};
+use lucid_pass::{Dead, Pass};
+use lucid_pass_rewrites::{Copies, Direct, Fold};
 use lucid_pipe::NoWatch;
 use lucid_top::{Status, lucid};
 use lucid_top_words::{Refusal, refuse};

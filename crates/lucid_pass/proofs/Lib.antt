@@ -1,9 +1,3 @@
-mod Backs
-mod Changing
-mod Nesting
-mod Places
-mod Running
-mod Settling
-mod Testings
-mod Throughs
-mod Trails
+pub mod DeadLemmas
+mod LawsLemmas
+mod RunLemmas

@@ -3,7 +3,7 @@ ghost use Rattle.std.specs.Prelude.{◌≡◌, true, false, slice_index_or, slic
 ghost use Rattle.lucid_pass.specs.Marks.{marked};
 
 /// A mark for each of these fields.
-pub(crate) fn mark_all(marks: &mut Vec<bool>, fields: &[u32])
+pub fn mark_all(marks: &mut Vec<bool>, fields: &[u32])
     ensures { marks.new.items ≡ marked fields.now marks.old.items }
 {
     for k in fields {
@@ -12,7 +12,7 @@ pub(crate) fn mark_all(marks: &mut Vec<bool>, fields: &[u32])
 }
 
 /// A mark for field `k`.
-pub(crate) fn mark(marks: &mut Vec<bool>, k: u32)
+pub fn mark(marks: &mut Vec<bool>, k: u32)
     ensures { marks.new.items ≡ slice_set marks.old.items k true }
 {
     if (k as usize) < marks.len() {
@@ -21,7 +21,7 @@ pub(crate) fn mark(marks: &mut Vec<bool>, k: u32)
 }
 
 /// Returns whether field `k` has a mark.
-pub(crate) fn is_set(marks: &[bool], k: usize) -> bool
+pub fn is_set(marks: &[bool], k: usize) -> bool
     ensures { result ≡ slice_index_or marks.now k false }
 {
     match marks.get(k) {

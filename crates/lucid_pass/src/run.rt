@@ -21,7 +21,7 @@ fn run_one(pass: &mut Box<dyn Pass>, alloc: Global, code: &Code) -> Result<Code,
 }
 
 /// Returns the code with these operations in place of its own, and how many went.
-pub(crate) fn replaced(alloc: Global, code: &Code, ops: Vec<Op>) -> Result<(Code, u64), Memory>
+pub fn replaced(alloc: Global, code: &Code, ops: Vec<Op>) -> Result<(Code, u64), Memory>
     requires { MayReplace code.now (made_of code.now.fields code.now.inputs code.now.arrays ops.items) }
     ensures code { IfOk result (λ r. r.0 ≡ made_of code.now.fields code.now.inputs code.now.arrays ops.items) }
     ensures gone { IfOk result (λ r. r.1 ≡ length code.now.ops - length ops.items) }

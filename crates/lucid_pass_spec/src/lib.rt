@@ -4,9 +4,9 @@
 // field in place of a comparison of it (specs/Direct.antt).
 // Promises, as laws on functions that do nothing (specs/Laws.antt): each pass keeps the law of replacement for all valid code, and nodes
 // still follow their writers. The result of `Dead` does not depend on the order of removal.
-// It has one data type, `Test`; the code of the passes is in lucid_pass.
-// Used by lucid_pass, lucid_pass_laws, lucid_top_fit, lucid_top, lucid_top_laws and lucid_main. Promises of the program rest on its
-// definitions (docs/TRUSTED.md). Proofs may change; a law may only get stronger.
+// It has one data type, `Test`; the code of the passes is in lucid_pass and lucid_pass_rewrites.
+// Used by many crates. Promises of the program rest on its definitions (docs/TRUSTED.md). Proofs may change; a law may only get
+// stronger.
 #![tactic(auto)]
 
 mod direct;

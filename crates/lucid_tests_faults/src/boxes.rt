@@ -3,7 +3,8 @@
 use crate::running::{NONE, passes, run_with};
 use lucid_base::Memory;
 use lucid_code::Code;
-use lucid_pass::{Copies, Dead, Name, Pass};
+use lucid_pass::{Dead, Name, Pass};
+use lucid_pass_rewrites::Copies;
 use lucid_pipe::NoWatch;
 use lucid_top::Status;
 use std::alloc::Global;

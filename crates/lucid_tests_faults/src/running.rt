@@ -1,7 +1,8 @@
 // Calls of the program over files and sinks in memory, of which chosen calls and writes fail.
 use crate::files::files;
 use lucid_io::{MemFiles, MemSink};
-use lucid_pass::{Copies, Dead, Direct, Fold, Pass};
+use lucid_pass::{Dead, Pass};
+use lucid_pass_rewrites::{Copies, Direct, Fold};
 use lucid_pipe::{NoWatch, Watch};
 use lucid_top::{Status, lucid};
 use std::alloc::{AllocError, Global};

@@ -1,6 +1,7 @@
 // Lists of boxes, through which code goes.
 use crate::worked::{both_branches, computed};
-use lucid_pass::{Dead, Fold, Pass, run_passes_told};
+use lucid_pass::{Dead, Pass, run_passes_told};
+use lucid_pass_rewrites::Fold;
 use std::alloc::Global;
 use std::test::Fail;
 

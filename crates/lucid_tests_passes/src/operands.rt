@@ -1,7 +1,8 @@
 // The operands that the passes insert, and the guards of the code that they are tried on.
 use crate::worked::{both_branches, computed, two_calls};
 use lucid_code::{Act, Code, Op, Operand};
-use lucid_pass::{Copies, Fold, Pass};
+use lucid_pass::Pass;
+use lucid_pass_rewrites::{Copies, Fold};
 use std::test::Fail;
 
 /// The numbers of an operation's operands, where they are fixed, and otherwise its fields, behind a mark.

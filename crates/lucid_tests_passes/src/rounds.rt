@@ -2,7 +2,8 @@
 // field, or a `Direct` that goes on with its own result, fails here.
 use lucid_base::{CmpOp, Items, Memory, Width};
 use lucid_code::{Act, Code, Inputs, Literal, Op, Operand};
-use lucid_pass::{Copies, Direct, Pass};
+use lucid_pass::Pass;
+use lucid_pass_rewrites::{Copies, Direct};
 use std::alloc::Global;
 use std::test::Fail;
 

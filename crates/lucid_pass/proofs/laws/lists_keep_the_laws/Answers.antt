@@ -1,4 +1,4 @@
-use Rattle.lucid_pass.proofs.Throughs.{through_nodes, through_replaces}
+use Rattle.lucid_pass.proofs.LawsLemmas.{through_nodes, through_replaces}
 use Rattle.lucid_pass.proofs.laws.lists_keep_the_laws.Goals as goal
 
 pub returns-clause-replaces : goal.returns-clause-replaces

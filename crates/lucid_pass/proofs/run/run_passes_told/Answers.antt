@@ -2,7 +2,7 @@ use Rattle.std.proofs.Common.{◌≡◌, ◌-◌, ◌∷◌, ◌++◌, [], lengt
 use Rattle.std.proofs.lemmas.List.{length-set}
 use Rattle.lucid_code.specs.declared.op.Op.{Op}
 use Rattle.lucid_code.specs.Parts.{CodeParts}
-use Rattle.lucid_pass.proofs.Running.{stops, one_failed, one_ran, told_as, ap₂_le, on_err}
+use Rattle.lucid_pass.proofs.RunLemmas.{stops, one_failed, one_ran, told_as, ap₂_le, on_err}
 use Rattle.lucid_pass.proofs.run.run_passes_told.Goals as goal
 
 pub returns-in_err-code-clause-names : goal.returns-in_err-code-clause-names

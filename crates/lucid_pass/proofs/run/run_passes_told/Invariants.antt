@@ -1,7 +1,7 @@
 use Rattle.std.proofs.Common.{◌≡◌, ℕ, List, length}
 use Rattle.lucid_code.specs.Parts.{CodeParts}
 use Rattle.lucid_pass_spec.specs.Replace.{Rewrite}
-use Rattle.lucid_pass.proofs.Running.{Ran}
+use Rattle.lucid_pass.proofs.RunLemmas.{Ran}
 use Rattle.lucid_pass.proofs.run.run_passes_told.Given as goal
 
 pub record Turn {X : Type 0} (named : X → List ℕ) (gives : X → Rewrite) (count : X → ℕ) (before now : List X) (start code : CodeParts) (told : List ℕ) (i end : ℕ) : Type 0 where

@@ -6,7 +6,7 @@ use Rattle.lucid_pass_spec.specs.Dead.{live}
 use Rattle.lucid_pass_spec.specs.Replace.{MayReplace}
 use Rattle.lucid_pass_spec.proofs.Gone.{dead_replaces}
 use Rattle.lucid_pass.specs.Marks.{writes_below}
-use Rattle.lucid_pass.proofs.Backs.{all_below}
+use Rattle.lucid_pass.proofs.DeadLemmas.{all_below}
 use Rattle.lucid_pass.proofs.dead.DeadPass.run.Goals as goal
 
 pub live-requires : goal.live-requires

@@ -1,5 +1,0 @@
-use Rattle.lucid_pass.proofs.Testings.{Tested}
-use Rattle.lucid_pass.proofs.comparisons.tests_of.Given as goal
-
-abbrev pub invariant-loop-c : goal.invariant-loop-c
-invariant-loop-c l = Tested l.widths l.ops l.writers l.table.items l.c

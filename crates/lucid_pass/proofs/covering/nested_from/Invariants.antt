@@ -1,5 +1,0 @@
-use Rattle.lucid_pass.specs.Nesting.{Nested}
-use Rattle.lucid_pass.proofs.covering.nested_from.Given as goal
-
-abbrev pub invariant-loop-at : goal.invariant-loop-at
-invariant-loop-at l = Nested l.ops l.guard l.at

@@ -1,8 +1,0 @@
-use Rattle.std.proofs.Common.{◌≡◌, map, take}
-use Rattle.lucid_pass_spec.specs.Direct.{direct_op}
-use Rattle.lucid_pass.specs.Testing.{direct_by}
-use Rattle.lucid_pass.specs.Trail.{TrailBefore}
-use Rattle.lucid_pass.proofs.trail.directed.Given as goal
-
-abbrev pub invariant-loop-i : goal.invariant-loop-i
-invariant-loop-i l = (l.new.items ≡ map (direct_op (direct_by l.table)) (take l.i l.ops)) × TrailBefore (direct_by l.table) l.ops l.i l.long l.made.items l.ends.items

@@ -1,6 +1,0 @@
-use Rattle.lucid_pass.specs.Testing.{direct_by}
-use Rattle.lucid_pass.specs.Trail.{Trail}
-use Rattle.lucid_pass.proofs.trail.extend.Given as goal
-
-abbrev pub invariant-loop-at : goal.invariant-loop-at
-invariant-loop-at l = Trail (direct_by l.table) l.guard l.at l.made.items l.ends.items

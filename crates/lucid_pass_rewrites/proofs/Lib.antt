@@ -1,0 +1,6 @@
+mod ChangedLemmas
+mod ComparisonsLemmas
+mod CoveringLemmas
+mod SettleLemmas
+mod TrailLemmas
+mod WritersLemmas

@@ -1,0 +1,6 @@
+pub mod Changed
+pub mod Comparisons
+pub mod Covering
+pub mod Settle
+pub mod Trail
+pub mod Writers

@@ -1,0 +1,22 @@
+// Passes that rewrite operations: `Fold` and `Copies` replace operands and acts, `Direct` replaces tests in guards. lucid_pass_spec defines
+// their results, and has the laws that these may replace the code.
+// Promises: each pass makes exactly its definition, and counts the operations that it removed (the trait `Pass` of lucid_pass). Each runs
+// in time linear in the literals and operands of code whose guards begin like those of their neighbours, as those of lucid_normal do.
+// Used by lucid_main. Bodies, definitions and proofs may change; a public clause may only get stronger.
+#![tactic(auto)]
+
+mod changed;
+mod comparisons;
+mod copies;
+mod covering;
+mod direct;
+mod fold;
+mod guards;
+mod looks;
+mod settle;
+mod trail;
+mod writers;
+
+pub use copies::Copies;
+pub use direct::Direct;
+pub use fold::Fold;

@@ -1,0 +1,225 @@
+// Operands that are replaced by the sources of their moves.
+ghost use Rattle.std.specs.Prelude.{◌≡◌, Option, None, map, slice_get, slice_index, IfOk};
+ghost use Rattle.std.specs.Option.{option_map, option_and_then};
+ghost use Rattle.lucid_base.specs.Ops.{low_of};
+ghost use Rattle.lucid_code.specs.Uses.{with_operands};
+ghost use Rattle.lucid_pass_spec.specs.Looks.{seen, moved, moved_from, looked};
+ghost use Rattle.lucid_pass_rewrites.specs.Changed.{put_of, standing};
+ghost use Rattle.lucid_pass_rewrites.specs.Writers.{Tells};
+
+use crate::guards::includes;
+use crate::writers::{Writer, who_writes};
+use lucid_base::{Bits, Items, Memory, Width};
+use lucid_code::{Act, Literal, Op, Operand};
+use std::alloc::Global;
+
+/// The replacement: a field that is no wider, or the number of the field.
+#[derive(Clone, Copy)]
+pub(crate) enum Looks {
+    Copied,
+    Constant,
+}
+
+/// The operations at this point: those that are changed already, followed by the old ones.
+#[derive(Clone, Copy)]
+pub(crate) struct Now<'a> {
+    pub(crate) looks: Looks,
+    pub(crate) widths: &'a [Width],
+    pub(crate) writers: &'a [Writer],
+    pub(crate) done: &'a [Op],
+    pub(crate) ops: &'a [Op],
+}
+
+/// Returns the act with other operands, for a reader with this guard.
+pub(crate) fn looked_act(
+    alloc: Global,
+    now: Now,
+    guard: &[Literal],
+    act: &Act,
+) -> Result<Act, Memory>
+    requires { Tells (standing now.done.now now.ops.now) now.writers.now }
+    ensures { IfOk result (λ new. new ≡ with_operands (looked (put_of now.entry.looks now.entry.widths.now) (standing now.entry.done.now now.entry.ops.now) guard.now) act.now) }
+{
+    match act {
+        Act::Un(op, w, a, k) => Ok(Act::Un(*op, *w, looked(now, guard, *a), *k)),
+        Act::Bin(op, w, a, b, k) => Ok(Act::Bin(
+            *op,
+            *w,
+            looked(now, guard, *a),
+            looked(now, guard, *b),
+            *k,
+        )),
+        Act::Cmp(op, w, a, b, k) => Ok(Act::Cmp(
+            *op,
+            *w,
+            looked(now, guard, *a),
+            looked(now, guard, *b),
+            *k,
+        )),
+        Act::Cast(a, k) => Ok(Act::Cast(looked(now, guard, *a), *k)),
+        Act::Hash(xs, k) => Ok(Act::Hash(looked_all(alloc, now, guard, xs.as_slice())?, *k)),
+        Act::Move(a, k) => Ok(Act::Move(looked(now, guard, *a), *k)),
+        Act::Touch {
+            array,
+            index,
+            get,
+            get_arg,
+            set,
+            set_arg,
+            to,
+        } => Ok(Act::Touch {
+            array: *array,
+            index: looked(now, guard, *index),
+            get: *get,
+            get_arg: looked(now, guard, *get_arg),
+            set: *set,
+            set_arg: looked(now, guard, *set_arg),
+            to: *to,
+        }),
+        Act::Gen {
+            slot,
+            event,
+            args,
+            delay,
+            to,
+        } => Ok(Act::Gen {
+            slot: *slot,
+            event: *event,
+            args: looked_all(alloc, now, guard, args.as_slice())?,
+            delay: looked(now, guard, *delay),
+            to: looked_option(now, guard, *to),
+        }),
+        Act::Say { slot, form, args } => Ok(Act::Say {
+            slot: *slot,
+            form: *form,
+            args: looked_all(alloc, now, guard, args.as_slice())?,
+        }),
+    }
+}
+
+fn looked_all(
+    alloc: Global,
+    now: Now,
+    guard: &[Literal],
+    operands: &[Operand],
+) -> Result<Items<Operand>, Memory>
+    requires { Tells (standing now.done.now now.ops.now) now.writers.now }
+    ensures { IfOk result (λ new. new ≡ map (looked (put_of now.entry.looks now.entry.widths.now) (standing now.entry.done.now now.entry.ops.now) guard.now) operands.now) }
+{
+    let mut new = Items::new(alloc);
+    for operand in operands {
+        new.push(looked(now, guard, *operand))?;
+    }
+    Ok(new)
+}
+
+fn looked_option(now: Now, guard: &[Literal], operand: Option<Operand>) -> Option<Operand>
+    requires { Tells (standing now.done.now now.ops.now) now.writers.now }
+    ensures { result ≡ option_map (looked (put_of now.entry.looks now.entry.widths.now) (standing now.entry.done.now now.entry.ops.now) guard.now) operand }
+{
+    match operand {
+        None => None,
+        Some(a) => Some(looked(now, guard, a)),
+    }
+}
+
+fn looked(now: Now, guard: &[Literal], operand: Operand) -> Operand
+    requires { Tells (standing now.done.now now.ops.now) now.writers.now }
+    ensures { result ≡ looked (put_of now.entry.looks now.entry.widths.now) (standing now.entry.done.now now.entry.ops.now) guard.now operand }
+{
+    match operand {
+        Operand::Fixed(v) => Operand::Fixed(v),
+        Operand::Field(k) => match moved_from(now, guard, k) {
+            None => Operand::Field(k),
+            Some(a) => put(now.looks, now.widths, k, a),
+        },
+    }
+}
+
+/// Returns the source of the move to field `k`.
+fn moved_from(now: Now, guard: &[Literal], k: u32) -> Option<Operand>
+    requires { Tells (standing now.done.now now.ops.now) now.writers.now }
+    ensures { result ≡ moved_from (standing now.entry.done.now now.entry.ops.now) guard.now k }
+{
+    match who_writes(now.writers, k) {
+        Writer::Nobody => None,
+        Writer::One(at) => seen_at(now.done, now.ops, guard, at),
+        Writer::Many => None,
+    }
+}
+
+fn seen_at(done: &[Op], ops: &[Op], guard: &[Literal], at: usize) -> Option<Operand>
+    ensures { result ≡ option_and_then (seen guard.now) (slice_get (standing done.now ops.now) at) }
+{
+    if at < done.len() {
+        seen_in(done, guard, at)
+    } else {
+        seen_in(ops, guard, at)
+    }
+}
+
+fn seen_in(ops: &[Op], guard: &[Literal], at: usize) -> Option<Operand>
+    ensures { result ≡ option_and_then (seen guard.now) (slice_get ops.now at) }
+{
+    match ops.get(at) {
+        None => None,
+        Some(op) => seen(guard, op),
+    }
+}
+
+fn seen(guard: &[Literal], op: &Op) -> Option<Operand>
+    ensures { result ≡ seen guard.now op.now }
+{
+    if includes(guard, op.guard.as_slice()) {
+        moved(&op.act)
+    } else {
+        None
+    }
+}
+
+fn moved(act: &Act) -> Option<Operand>
+    ensures { result ≡ moved act.now }
+{
+    match act {
+        Act::Move(a, _) => Some(*a),
+        _ => None,
+    }
+}
+
+fn put(looks: Looks, widths: &[Width], k: u32, a: Operand) -> Operand
+    ensures { result ≡ put_of looks widths.now k a }
+{
+    match looks {
+        Looks::Copied => match a {
+            Operand::Fixed(_) => Operand::Field(k),
+            Operand::Field(j) => if width(widths, j) <= width(widths, k) {
+                Operand::Field(j)
+            } else {
+                Operand::Field(k)
+            },
+        },
+        Looks::Constant => match a {
+            Operand::Fixed(v) => Operand::Fixed(low(widths, k, v)),
+            Operand::Field(_) => Operand::Field(k),
+        },
+    }
+}
+
+fn width(widths: &[Width], k: u32) -> u8
+    ensures { result ≡ slice_index widths.now k }
+{
+    match widths.get(k as usize) {
+        None => 0,
+        Some(width) => width.get(),
+    }
+}
+
+/// Returns the low bits of a number by the width of a field.
+fn low(widths: &[Width], k: u32, v: u64) -> u64
+    ensures { result ≡ low_of (slice_index widths.now k) v }
+{
+    match widths.get(k as usize) {
+        None => 0,
+        Some(width) => Bits::low(*width, v).value,
+    }
+}
