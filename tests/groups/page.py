@@ -1,7 +1,11 @@
 """Pages of runs: what `tools/page` writes for the examples and for networks of its own, also as a browser shows it.
 
-Fails on a page that needs a network, on cells that are not those of the pipeline, and on a script that does not run in a browser. Opens no
-page if `chromium` is not installed.
+Opens no page if `chromium` is not installed; `opened` and `browse` were never tried on a wrong page. Seen to fail:
+- run: a program that does not fit and so has no page, a page of it without the line `nofit`
+- page_of: a style sheet, a call of another host, blocks without outs, an event less, a program without blanks, handlers one line further down,
+  cells of another array, no cells
+- cells: changes of cells that come a tick late, a scenario that stops a tick early
+- crowd: cells at more ticks than `--cells` allows, a part of the events
 """
 from __future__ import annotations
 
@@ -93,6 +97,8 @@ def cells(group: Group) -> None:
     looks = [it.numbers for it in read_drive(group.call("drive", *files, own).out).steps if it.word == "look"]
     made = page(group, *files, own)
     data = data_of(made)
+    if not group.check("a page of steps", bool(data), made.err):
+        return
     stage = {array: table["stage"] for table in data["layout"]["tables"] for array in table["arrays"]}
     written = lambda tick, array, cell: [(at, value) for at, name, index, value in data["cells"][0]
                                          if (name, index) == (array, cell) and at <= tick - stage[array] - 1]

@@ -1,7 +1,12 @@
 """Pictures of logs, layouts and drives: their shapes, their sizes, and logs that do not fit their files.
 
-Fails on an arrow that is guessed by name, on a log, a layout or a drive that does not fit its files and is drawn, and on labels that make
-a picture wide. Sees nothing of colours and fonts; the group examples compares the pictures of docs/.
+Sees nothing of colours and fonts; the group examples compares the pictures of docs/. Seen to fail:
+- twins: an arrow that is guessed by name or leaves a tick early; ticks, windows of links or pending events that no one compares with the files
+- whole_log: no bar for an event that sends nothing, two lines for one arrow
+- parts: an option without effect, ticks without the first or the last
+- layouts: stages, rows or bits beyond the limits that are drawn, all stages in one row
+- drives: a packet one stage too far, another text of the last row, steps, arrays of looks, events, counts or stages that no one compares with the files
+- scales: a column for each of 40 switches, labels that are not cut or have no tooltip, one heading, waits of no tick, a name in red
 """
 from __future__ import annotations
 
@@ -65,7 +70,7 @@ def width(svg: bytes) -> int:
 def refuses(group: Group, name: str, why: bytes, words: List[Word], given: bytes) -> None:
     """A picture of an answer that does not fit its files is refused, and nothing is drawn."""
     ended = group.tool("picture", *words, given=given)
-    group.check(f"no picture of {name}", ended.status == 1 and why in ended.err and not ended.out, ended)
+    group.check(f"no picture of {name}", ended.status == 1 and ended.err.startswith(b"picture: ") and why in ended.err and not ended.out, ended)
 
 
 def twins(group: Group) -> None:
@@ -105,8 +110,10 @@ def parts(group: Group) -> None:
     """Options choose a part of a log."""
     program, limits, own = example("detector")
     log = group.call("run", "whole", program, limits, own).out
-    made = group.tool("picture", "log", limits, own, "--switches", "0", "--ticks", "100..600", "--without", "pong", given=log)
-    chosen = [it for it in read_log(log).blocks if it.switch == 0 and 100 <= it.at <= 600 and it.name != "pong"]
+    blocks = [it for it in read_log(log).blocks if it.switch == 0 and it.name != "pong"]
+    first, last = blocks[1].at, blocks[-2].at
+    made = group.tool("picture", "log", limits, own, "--switches", "0", "--ticks", f"{first}..{last}", "--without", "pong", given=log)
+    chosen = [it for it in blocks if first <= it.at <= last]
     group.check("a part of a log", bars(made.out) == {f"[{it.at}] s0 {it.label()}" for it in chosen} and len(chosen) > 2, made)
 
 
@@ -131,7 +138,8 @@ def drives(group: Group) -> None:
     for name, wrong in (
         ("in another order", drive.replace(b"enter 0\nbusy", b"busy\nenter 0")), ("with a step more", b"go 0\n" + drive),
         ("that enters where none can", drive.replace(b"busy", b"enter 1")), ("of another event", drive.replace(b"hit(3)", b"hit(2)")),
-        ("of another count", drive.replace(b"left 0", b"left 1")),
+        ("of another count", drive.replace(b"left 0", b"left 1")), ("without a look", drive.replace(b"look x[1] = 3\n", b"")),
+        ("with another look", drive.replace(b"look x", b"look y")),
     ):
         refuses(group, f"a drive {name}", b"", ["drive", limits, own], wrong)
     refuses(group, "a drive of other limits", b"", ["drive", group.file("l", '{"stages":2}'), own], drive)

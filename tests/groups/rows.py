@@ -23,7 +23,7 @@ def make(group: Group, row: Row, links: Dict[str, Path] = {}) -> Ended:
         (folder / name).write_bytes(text)
     for name, target in links.items():
         (folder / name).symlink_to(target)
-    ended = call(row.words, cwd=folder) if links else group.call(*row.words, cwd=folder)
+    ended = call(row.words, cwd=folder, timeout=60) if links else group.call(*row.words, cwd=folder)
     shutil.rmtree(folder)
     return ended
 

@@ -1,8 +1,13 @@
 """The tools of tools/: the calls of tests/tools.rows, byte by byte, and refusals that a tool is given as one word.
 
-Fails on another output, error line or status of a tool; on a place of a byte, a token or a declaration that is off by one; on an input
-without an end that is read; and on a time that is quadratic in the text. The groups printed, pictures, page, schemas, editors, script and
-builds test what the tools show. Sees no tool that has no row.
+Fails on another output, error line or status of a tool. The groups printed, pictures, page, schemas, editors, script and builds test what
+the tools show. Sees no tool that has no row. Seen to fail, by titles of rows:
+- other words: usage that ends with 1, a word too many for `picture`, `²` as a number for `page`, a scenario of 20,001 events
+- where: a file without an end that is read, columns from 0, 2^64 - 1 that is no number, a mark one token early, `fun <<` as a usual function,
+  a declaration without its first line, digits that `int` reads, a scan that copies the rest of the text (a call has 60 seconds)
+- json: nothing `lost`, leading zeros, a wrong count of lost events, switches that fall, lines behind the last, a drive of switch 1
+- picture, page, editor: files deeper than the stack, arrows without `stages`, a program that can not be run, lists in another order
+- one_word: the first line of several, an empty word, an array that is not found where it is declared
 """
 from __future__ import annotations
 
