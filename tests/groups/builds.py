@@ -1,7 +1,10 @@
 """`tools/prove`: its plan, and builds of small crates with a kit that only writes down what it is asked.
 
-Fails on a crate that is proved twice, or before one that it depends on; on crates that wait for each other without need; on a lane that
-stays behind; and on a plan of four jobs of more than 25 minutes. Sees no proofs.
+Sees no proofs. Seen to fail:
+- run: a plan for one job, minutes of a processor that are seconds
+- whole: a crate that begins before its libraries are there, libraries that stay in their lane, one or three crates at a time, the shortest
+  chain first, another line of progress, a lane that stays, a wrong crate that ends with 0 or without its log
+- interrupted: libraries of the stopped build that no lane gets, SIGTERM without its handler, another status at an interrupt
 """
 from __future__ import annotations
 

@@ -1,7 +1,10 @@
 """Syntax files for editors, and the completion of the shell.
 
-Fails on a reserved word that is not shown as one, on a name that is, on syntax files that are not made again from the lists, and on a word
-that bash does not offer. Sees the colours of vim only if `vim` is installed, and no other editor.
+Sees the colours of vim only if `vim` is installed, and no other editor. Seen to fail:
+- run: a reserved word that the list or the file of vim lacks
+- scopes: no rule for `generate`, for numbers of one digit, for `.` or for `=`, a comment that ends at a blank, `if` as a part of a name
+- in_vim: a comment that ends with its line, no rule for `0x1F` or for `=`, texts without blanks
+- completion: each line below, if the word, the role of a file or the blank before `event` is not in tools/completion.bash
 """
 from __future__ import annotations
 
