@@ -1,7 +1,7 @@
 """The JSON Schemas of tools/schema: the files of the examples and those below fit as the program accepts them.
 
-Fails on a schema that refuses a file that the program accepts, or that accepts one of those below that it refuses for its form. Sees no
-other files; a schema says less than the program.
+Sees no other files; a schema says less than the program. Seen to fail: each type, bound, key, pattern and count of the three schemas, left
+out or one greater or less, but for the greatest tick at which a window begins and the most arguments less one; other bounds in files.py.
 """
 from __future__ import annotations
 
@@ -24,8 +24,16 @@ GOOD = """{} {"version":1} {"version":2,"links":[[0,1,5]],"down":[[1,0,2,3]]} {"
 BAD = """{"link":[]} {"stop":-1} {"stop":"3"} {"version":3} {"switches":0} {"switches":65} {"switches":true} {"links":{}} {"events":null}
 {"links":[[0,1]]} {"links":[[0,1,0]]} {"links":[[0,1,5,1]]} {"links":[[0,64,5]]} {"links":[[0,1,5]],"down":[]}
 {"version":2,"down":[[0,1,2]]} {"version":2,"down":[[0,1,2,3,4]]} {"steps":["enter"]} {"steps":[[]]} {"steps":[["stop"]]}
-{"steps":[["enter",1]]} {"steps":[["go",32]]} {"steps":[["go"]]} {"steps":[["go",1,2]]} {"steps":[["look","x"]]} {"steps":[["look","x",1,2]]}"""
-BAD_EVENTS: List[Any] = [{"args": [-1]}, {"x": 1}, {"at": 2**64}, {"args": [0] * 9}, {"name": 1}]
+{"steps":[["enter",1]]} {"steps":[["go",32]]} {"steps":[["go"]]} {"steps":[["go",1,2]]} {"steps":[["look","x"]]} {"steps":[["look","x",1,2]]}
+{"steps":[["lock","x",1]]} {"steps":[["look","x-",1]]} {"steps":[["look",1,1]]} {"steps":5} {"links":[5]} {"events":[5]}
+{"version":2,"down":5} {"version":2,"down":[5]} {"version":1,"links":[[0,1,5]],"down":[]} {"version":2,"links":[[0,1,5]],"down":[[0,1,"2",3]]}
+{"version":2,"links":[[0,1,5]],"down":[[0,1,-1,3]]} {"version":2,"links":[[0,1,5]],"down":[[0,1,18446744073709551616,5]]}"""
+# Keys with a number at `@`, and its least and its greatest value.
+NUMBERS = """{"switches":@} 1 64|{"switches":1,"stop":@} 0 131072|{"links":[[0,1,@]]} 1 65536|{"steps":[["go",@]]} 0 31|{"steps":[["look","x",@]]} 0 18446744073709551615
+{"switches":64,"links":[[@,5,1]]} 0 63|{"switches":64,"links":[[5,@,1]]} 0 63|{"version":2,"links":[[0,1,5]],"down":[[0,1,0,@]]} 1 18446744073709551615
+{"switches":64,"version":2,"links":[[0,5,1],[5,63,1]],"down":[[@,5,0,1]]} 0 63|{"switches":64,"version":2,"links":[[0,5,1],[5,63,1]],"down":[[5,@,0,1]]} 0 63
+{"events":[{"at":@,"switch":0,"name":"hit","args":[1]}]} 0 18446744073709551615|{"switches":64,"events":[{"at":0,"switch":@,"name":"hit","args":[1]}]} 0 63"""
+BAD_EVENTS: List[Any] = [{"args": 5}, {"args": [-1]}, {"args": ["1"]}, {"x": 1}, {"args": [0] * 9}, {"name": 1}, {"name": "hit-"}]
 
 
 def run(group: Group) -> None:
@@ -47,7 +55,8 @@ def run(group: Group) -> None:
     count = read_layout(group.call("layout", program, limits).out).nodes
     pairs = lambda pair: {"nodes": [pair] * count}
     bad = [{}, [], {"nodes": {}}, pairs([0]), pairs([0, 0, 0]), pairs([0, 2**32]), pairs([0, -1]), {"nodes": [], "more": 1}]
-    for place in [{"nodes": [[number, 0] for number in range(count)]}, *bad]:
+    bad += [pairs([2**32, 0]), pairs([-1, 0]), pairs(["0", 0]), pairs([0, "0"]), pairs("00")]
+    for place in [{"nodes": [[number, 0] for number in range(count)]}, pairs([2**32 - 1, 2**32 - 1]), *bad]:
         line = group.call("audit", program, limits, group.file("q.json", json.dumps(place))).err.decode()
         refused = re.match(r"placement: (file|other|nodes)", line) is not None
         group.check(f"placement {json.dumps(place)[:80]}", fits(schema["placement"], place) == (place not in bad) != refused, line)
@@ -58,6 +67,11 @@ def scenes() -> List[Tuple[Any, bool]]:
     found: List[Tuple[Any, bool]] = [({"stop": 0}, True), ([], False), ({}, False)]
     for text, holds in ((GOOD, True), (BAD, False)):
         found += [({**SCENE, **json.loads(change)}, holds) for change in text.split()]
+    for form, least, most in (it.rsplit(" ", 2) for it in NUMBERS.replace("\n", "|").split("|")):
+        values = [(least, True), (most, True), (str(int(least) - 1), False), (str(int(most) + 1), False), ('"1"', False)]
+        found += [({**SCENE, **json.loads(form.replace("@", value))}, holds) for value, holds in values]
+    windows = {"version": 2, "links": [[0, 1, 5]]}
+    found += [({**SCENE, **windows, "down": [[0, 1, 2, 3]] * count}, count < 1025) for count in (1024, 1025)]
     found += [({**SCENE, "events": [{**EVENT, **change}]}, False) for change in BAD_EVENTS]
     return found + [({**SCENE, "events": [{key: EVENT[key] for key in ("at", "switch", "name")}]}, False)]
 
