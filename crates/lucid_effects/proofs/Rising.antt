@@ -16,7 +16,7 @@ use Rattle.lucid_effects_spec.specs.declared.scheme.Scheme.{Scheme}
 use Rattle.lucid_effects_spec.specs.Schemes.{Advance, Walked, begun, body_found, either, expr_found, finds, given_found, passes, stmt_found, through, touch_found, visit}
 use Rattle.lucid_effects.proofs.Forms.{bin_is, cmp_is, gen_is, if_is, inlined_is, multi_is}
 
-abbrev Up : Advance → Type 0
+abbrev pub Up : Advance → Type 0
 Up f = (fs : List Scheme) (w : Walked) → w.steps ≤ (f fs w).steps
 
 nothing : Up finds.nothing
@@ -44,12 +44,15 @@ node f h fs w = let a = h fs (visit w) in omega (arith, a)
 expr_up : (x : Expr) → Up (expr_found x)
 expr_up = expr_relates finds finds (λ f g. Up f) nothing (λ f g c d h k. in_turn f g h k) (λ f g c d h k. branches f g h k) array function (λ f g h. node f h)
 
-stmt_up : (x : Stmt) → Up (stmt_found x)
+pub stmt_up : (x : Stmt) → Up (stmt_found x)
 stmt_up = stmt_relates finds finds (λ f g. Up f) nothing (λ f g c d h k. in_turn f g h k) (λ f g c d h k. branches f g h k) array function (λ f g h. node f h)
 
 list_up : {T : Type 0} (walk : T → Advance) → ((x : T) → Up (walk x)) → (xs : List T) → Up (sequence finds (map walk xs))
 list_up walk h [] = nothing
 list_up walk h (x ∷ xs) = in_turn (walk x) (sequence finds (map walk xs)) (h x) (list_up walk h xs)
+
+pub body_up : (body : List Stmt) → Up (body_found body)
+body_up = list_up stmt_found stmt_up
 
 asked_up : (x : Option Expr) → Up (optional finds (option_map expr_found x))
 asked_up None = nothing

@@ -1,10 +1,11 @@
 // The walk along a body that finds its scheme.
-ghost use Rattle.std.specs.Prelude.{◌≡◌, ◌+◌, ◌≤◌, [], length, map, OnOk, Some};
+ghost use Rattle.std.specs.Prelude.{◌≡◌, ◌+◌, ◌≤◌, [], length, map, IfOk, OnOk, Some};
 ghost use Rattle.std.specs.Option.{option_map};
 ghost use Rattle.lucid_constraints.specs.Same.{same_atom, same_pair, join_all};
 ghost use Rattle.lucid_constraints.specs.Substitution.{pair};
 ghost use Rattle.lucid_effects_spec.specs.Evaluation.{optional, sequence};
 ghost use Rattle.lucid_effects.specs.Goes.{Goes, walked};
+ghost use Rattle.lucid_effects.specs.Walk.{back_from, behind, first, with_more};
 ghost use Rattle.lucid_effects_spec.specs.Schemes.{passes as passes_by, through as through_by, goes_through as goes_through_by, finds};
 ghost use Rattle.lucid_effects_spec.specs.Schemes.{expr_found, given_found, stmt_found, touch_found, body_found};
 
@@ -102,6 +103,29 @@ fn stand_at_both(at: &mut Scheme, left: Items<Atom>) -> Result<(), Memory>
 {
     let right = mem::replace(&mut at.ends, left);
     join_ends(&mut at.ends, right.as_slice())
+}
+
+/// Adds the ends of a first branch to those of the first branches round it.
+fn keep(firsts: &mut Option<Items<Atom>>, ends: Items<Atom>) -> Result<(), Memory>
+    ensures { OnOk result (firsts.new ≡ Some (with_more firsts.old ends)) }
+{
+    match firsts {
+        None => {
+            *firsts = Some(ends);
+            Ok(())
+        }
+        Some(before) => join_ends(before, ends.as_slice()),
+    }
+}
+
+/// After the branches of all these `if`: the places at the ends of their first ones, and those where the walk is.
+fn stand_behind(at: &mut Scheme, firsts: Option<Items<Atom>>) -> Result<(), Memory>
+    ensures { OnOk result (at.new ≡ record at.old { ends = behind firsts at.old.ends }) }
+{
+    match firsts {
+        None => Ok(()),
+        Some(left) => stand_at_both(at, left),
+    }
 }
 
 #[cycle(walk)]
@@ -210,8 +234,35 @@ fn touch<L: Ledger>(
     passes(alloc, at, steps, t.array)
 }
 
+/// Walks along statements, one after another. Those after a return and after a case of a `match` are the second branch of an `If` that ends
+/// its block. A loop follows these, since a text may have very many; all else is no deeper than a text may nest.
 #[cycle(walk)]
 pub fn body<L: Ledger>(
+    alloc: Global,
+    schemes: &[Scheme],
+    at: &mut Scheme,
+    steps: &mut Steps<L>,
+    stmts: &[Stmt],
+) -> Result<(), Memory>
+    ensures found { Goes (body_found stmts.now schemes.now) at.old steps.old at.new steps.new result }
+    ensures most { steps.new ≤ (body_found stmts.now schemes.now (walked at.old steps.old)).steps }
+{
+    let mut firsts = None;
+    let mut left = stmts;
+    while let Some((Stmt::If(e, a, b), front)) = left.split_last() {
+        each(alloc, schemes, at, steps, front)?;
+        steps.tick();
+        let ends = first_branch(alloc, schemes, at, steps, e, a.as_slice())?;
+        keep(&mut firsts, ends)?;
+        left = b.as_slice();
+    }
+    each(alloc, schemes, at, steps, left)?;
+    stand_behind(at, firsts)
+}
+
+/// Walks along statements, each by itself.
+#[cycle(walk)]
+fn each<L: Ledger>(
     alloc: Global,
     schemes: &[Scheme],
     at: &mut Scheme,
@@ -225,6 +276,26 @@ pub fn body<L: Ledger>(
         stmt(alloc, schemes, at, steps, one)?;
     }
     Ok(())
+}
+
+/// Walks along the condition of an `if` and its first branch, and returns the places at its end. The walk is then where the branches begin.
+#[cycle(walk)]
+fn first_branch<L: Ledger>(
+    alloc: Global,
+    schemes: &[Scheme],
+    at: &mut Scheme,
+    steps: &mut Steps<L>,
+    e: &Expr,
+    a: &[Stmt],
+) -> Result<Items<Atom>, Memory>
+    ensures found { Goes (back_from e.now a.now schemes.now) at.old steps.old at.new steps.new result }
+    ensures ends { IfOk result (λ ends. ends ≡ (first e.now a.now schemes.now (walked at.old steps.old)).ends) }
+    ensures most { steps.new ≤ (first e.now a.now schemes.now (walked at.old steps.old)).steps }
+{
+    expr(alloc, schemes, at, steps, e)?;
+    let began = Items::from_slice(alloc, at.ends.as_slice())?;
+    body(alloc, schemes, at, steps, a)?;
+    Ok(mem::replace(&mut at.ends, began))
 }
 
 #[cycle(walk)]
@@ -261,10 +332,7 @@ fn stmt<L: Ledger>(
         Stmt::Assign(_, e) => expr(alloc, schemes, at, steps, e),
         Stmt::Drop(e) => expr(alloc, schemes, at, steps, e),
         Stmt::If(e, a, b) => {
-            expr(alloc, schemes, at, steps, e)?;
-            let began = Items::from_slice(alloc, at.ends.as_slice())?;
-            body(alloc, schemes, at, steps, a.as_slice())?;
-            let left = mem::replace(&mut at.ends, began);
+            let left = first_branch(alloc, schemes, at, steps, e, a.as_slice())?;
             body(alloc, schemes, at, steps, b.as_slice())?;
             stand_at_both(at, left)
         }
