@@ -36,6 +36,8 @@ TOWER = """fun int t0(int x){return x+1;}«@:fun int t##(int x){return t#(x)+t#(
 # Two switches whose handlers send eight events each, so that most of them wait, for this many ticks.
 SENDERS = "event e(int n);handle e(int n){«8:generate Event.locate(e(n),SELF ^ 1);»}"
 TICKS = """{"switches":2,"stop":@,"links":[[0,1,1]],"events":[{"at":0,"switch":0,"name":"e","args":[0]},{"at":0,"switch":1,"name":"e","args":[0]}]}"""
+# The same with windows of one tick each, in which their link is down.
+WINDOWS = TICKS.replace('"events"', '"version":2,"down":[«1023:[0,1,##00,##01],»[0,1,7,8]],"events"')
 # Lists 124 deep in one another, and an object whose keys have a long beginning in common, and are given twice.
 LISTS = '{"stop":1,"events":[«@:«124:[»«124:]»,»1]}'
 KEYS = '{«@:"«200:k»#":[#],»«@:"«200:k»#":[#],»"stop":1}'
@@ -132,6 +134,7 @@ SHAPES = {
     "a tower of 20 functions": Shape(TOWER, ONCE, 19, 1, 30, True, growth=float("inf")),
     "a tower of 24 functions": Shape(TOWER, ONCE, 23, 5, 30, growth=float("inf")),
     "65,536 ticks of 8 sends": Shape(SENDERS, RUN, 65536, 2, 350, True, limits="{}", scenario=TICKS),
+    "65,536 ticks of 8 sends with 1,024 windows": Shape(SENDERS, RUN, 65536, 2, 350, True, growth=2.3, limits="{}", scenario=WINDOWS),
     "8 MiB of deep lists": Shape("event e();", RUN, 33688, 3.5, 700, True, 9, limits="{}", scenario=LISTS),
     "8 MiB of keys": Shape("event e();", RUN, 17788, 2, 300, True, 9, limits="{}", scenario=KEYS),
 }

@@ -19,3 +19,4 @@ mod Telling
 mod Turning
 mod Waiting
 mod Went
+mod WindowsLemmas

@@ -12,4 +12,5 @@ pub mod Sights
 pub mod Stands
 pub mod Wanting
 pub mod Ways
+pub mod Windows
 pub mod Writes

@@ -26,6 +26,7 @@ mod starting;
 mod switches;
 mod turns;
 mod ways;
+mod windows;
 mod world;
 
 pub use error::NetError;

@@ -25,6 +25,7 @@ use crate::machines::{Machines, packets, put_last, show, tick_all};
 use crate::pipes::Pipes;
 use crate::starting::{all_cells, all_events, all_pipes};
 use crate::switches::Switches;
+use crate::windows::Windows;
 use crate::world::World;
 use lucid_base::Memory;
 use lucid_conf::{Limits, Scene};
@@ -75,6 +76,7 @@ impl<'a> Net<'a> {
         ensures { IfOk result (IsStart core.now scene.now limits.now None) }
     {
         let links = Links::new(alloc, scene)?;
+        let windows = Windows::new(alloc, scene)?;
         let cells = all_cells(alloc, core, scene.switches)?;
         let queue = all_events(alloc, core, scene.switches, scene.events.as_slice())?;
         Ok(Net {
@@ -84,6 +86,7 @@ impl<'a> Net<'a> {
                 scene,
                 limits,
                 links,
+                windows,
             },
             machines: Machines::Whole(Switches {
                 cells,
@@ -123,6 +126,7 @@ impl<'a> Net<'a> {
         outs_fit(core);
         pass_does_as(core, placed);
         let links = Links::new(alloc, scene)?;
+        let windows = Windows::new(alloc, scene)?;
         let pipes = all_pipes(alloc, placed, scene.switches)?;
         let queue = all_events(alloc, core, scene.switches, scene.events.as_slice())?;
         Ok(Net {
@@ -132,6 +136,7 @@ impl<'a> Net<'a> {
                 scene,
                 limits,
                 links,
+                windows,
             },
             machines: Machines::Piped(Pipes {
                 placed,
