@@ -36,7 +36,7 @@ fn accepted_source(alloc: Global, text: &[u8], source: Source) -> Result<Core, R
     ensures accepted { IfOk result IsAccepted }
 {
     match source {
-        Source::AsWritten(tokens) => accepted_tokens(alloc, text, tokens.as_slice()),
+        Source::AsWritten(tokens) => accepted_tokens(alloc, text, tokens),
         Source::Expanded(expanded) => accepted_text(alloc, expanded.as_slice()),
     }
 }
@@ -47,16 +47,16 @@ fn accepted_text(alloc: Global, text: &[u8]) -> Result<Core, Refusal>
     ensures accepted { IfOk result IsAccepted }
 {
     let tokens = tokens_of(alloc, text)?;
-    accepted_tokens(alloc, text, tokens.as_slice())
+    accepted_tokens(alloc, text, tokens)
 }
 
-// The program that the tokens of the text spell.
-fn accepted_tokens(alloc: Global, text: &[u8], tokens: &[Token]) -> Result<Core, Refusal>
-    requires { Reads text.now tokens.now }
-    ensures program { Prepares (IsProgramFrom text.now tokens.now) (λ core. core) result }
+// The program that the tokens of the text spell. The tokens are dropped once there is a tree.
+fn accepted_tokens(alloc: Global, text: &[u8], tokens: Vec<Token>) -> Result<Core, Refusal>
+    requires { Reads text.now tokens.items }
+    ensures program { Prepares (IsProgramFrom text.now tokens.items) (λ core. core) result }
     ensures accepted { IfOk result IsAccepted }
 {
-    let tree = tree_of(alloc, text, tokens)?;
+    let tree = tree_instead(alloc, text, tokens)?;
     accepted_tree(alloc, Seeded::by(text), &tree)
 }
 
@@ -66,6 +66,14 @@ fn accepted_tree(alloc: Global, seeded: Seeded, tree: &Tree) -> Result<Core, Ref
 {
     let core = core_of(alloc, seeded, tree)?;
     in_order::<Brand>(alloc, tree, core, uncounted())
+}
+
+// The tree of the tokens of the text, which are dropped.
+fn tree_instead(alloc: Global, text: &[u8], tokens: Vec<Token>) -> Result<Tree, Refusal>
+    requires { Reads text.now tokens.items }
+    ensures { Prepares (IsParsed text.now tokens.items) (λ tree. tree) result }
+{
+    tree_of(alloc, text, tokens.as_slice())
 }
 
 // The tree of the tokens of the text.

@@ -1,6 +1,5 @@
-use Rattle.std.proofs.Common.{List, Ok, sym, subst}
+use Rattle.std.proofs.Common.{Ok, sym, subst}
 use Rattle.lucid_core.specs.Parts.{CoreParts}
-use Rattle.lucid_lex.specs.declared.token.Token.{Token}
 use Rattle.lucid_top_words.specs.Outcome.{IsTheAnswer, Prepares}
 use Rattle.lucid_top_words.proofs.Parts.{Prepares-ok}
 use Rattle.lucid_top_program.specs.declared.source.Source.{Source}
@@ -13,6 +12,5 @@ returns-in-AsWritten-clause-program c =
     let text = c.args.text.now in
     let tokens = c.in-AsWritten.tokens.items in
     let is : IsTheAnswer (AreTokens text) (Ok tokens) = subst (IsSourceOf text) c.in-AsWritten.is c.requires in
-    let from = subst (λ (ts : List Token). Prepares (IsProgramFrom text ts) (λ (core : CoreParts). core) c.accepted_tokens.result) c.as_slice.ensures.value c.accepted_tokens.ensures.program in
     subst (λ (s : Source). Prepares (IsRead (text_of text s)) (λ (core : CoreParts). core) c.accepted_tokens.result) (sym c.in-AsWritten.is)
-    (Prepares-ok (AreTokens text) (IsProgramFrom text) (λ (core : CoreParts). core) tokens c.accepted_tokens.result is from)
+    (Prepares-ok (AreTokens text) (IsProgramFrom text) (λ (core : CoreParts). core) tokens c.accepted_tokens.result is c.accepted_tokens.ensures.program)
