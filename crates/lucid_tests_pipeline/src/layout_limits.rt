@@ -114,9 +114,14 @@ fn many(alloc: Global, count: u32) -> Result<Option<Code>, Memory> {
 #[test]
 fn operations_are_counted_first(rt: HostRuntime) -> Result<(), Fail> {
     let alloc = rt.alloc();
-    let passed = layout(alloc, &many(alloc, 4_097)?, b"{\"bits\":1}")?;
-    assert_eq!(rt; passed.as_str(), "ops 4097");
-    let met = layout(alloc, &many(alloc, 4_096)?, b"{\"bits\":131199}")?;
-    assert_eq!(rt; met.as_str(), "bits 131200");
+    let cases: [(u32, &[u8], &str); 2] = [
+        (4_097, b"{\"bits\":1}", "ops 4097"),
+        (4_096, b"{\"bits\":131199}", "bits 131200"),
+    ];
+    for (count, limits, expected) in cases {
+        let code = many(alloc, count)?;
+        let text = layout(alloc, &code, limits)?;
+        assert_eq!(rt; text.as_str(), expected);
+    }
     Ok(())
 }

@@ -6,23 +6,34 @@ use lucid_code::{Act, Code, Operand};
 use std::alloc::Global;
 use std::test::Fail;
 
+/// Whether the argument is 0, in field 5.
+fn is_zero() -> Act {
+    Act::Cmp(
+        CmpOp::Eq,
+        Width::int(),
+        Operand::Field(3),
+        Operand::Fixed(0),
+        5,
+    )
+}
+
 /// `int n = 0; if (v == 0) { n = Array.get(x, 0); } else { n = Array.get(x, 1); } generate out(n);`
 fn both_branches(alloc: Global) -> Result<Option<Code>, Memory> {
     let always = [equal(0, 1)];
     let yes = [equal(0, 1), equal(5, 1)];
     let no = [equal(0, 1), equal(5, 0)];
     let zero = Operand::Fixed(0);
-    let is_zero = Act::Cmp(CmpOp::Eq, Width::int(), Operand::Field(3), zero, 5);
     let mut ops = Vec::new(alloc);
     put(alloc, &mut ops, &always, 0, Act::Move(zero, 4))?;
-    put(alloc, &mut ops, &always, 0, is_zero)?;
+    put(alloc, &mut ops, &always, 0, is_zero())?;
     put(alloc, &mut ops, &yes, 0, get(0, 0, Some(6)))?;
     put(alloc, &mut ops, &yes, 1, Act::Move(Operand::Field(6), 7))?;
     put(alloc, &mut ops, &no, 0, get(0, 1, Some(8)))?;
     put(alloc, &mut ops, &no, 1, Act::Move(Operand::Field(8), 9))?;
     put(alloc, &mut ops, &yes, 1, Act::Move(Operand::Field(7), 10))?;
     put(alloc, &mut ops, &no, 1, Act::Move(Operand::Field(9), 10))?;
-    put(alloc, &mut ops, &always, 1, send(alloc, 10)?)?;
+    let sent = send(alloc, 10)?;
+    put(alloc, &mut ops, &always, 1, sent)?;
     code(alloc, 11, Some(5), 1, ops)
 }
 
@@ -55,7 +66,8 @@ fn reading(alloc: Global) -> Result<Option<Code>, Memory> {
     let guard = [equal(0, 1)];
     let mut ops = Vec::new(alloc);
     put(alloc, &mut ops, &guard, 0, get(0, 0, Some(4)))?;
-    put(alloc, &mut ops, &guard, 1, send(alloc, 4)?)?;
+    let sent = send(alloc, 4)?;
+    put(alloc, &mut ops, &guard, 1, sent)?;
     code(alloc, 5, None, 1, ops)
 }
 
@@ -92,7 +104,8 @@ fn tower(alloc: Global) -> Result<Option<Code>, Memory> {
     for (a, b, to) in sums {
         put(alloc, &mut ops, &guard, 0, sum(a, b, to))?;
     }
-    put(alloc, &mut ops, &guard, 0, send(alloc, 10)?)?;
+    let sent = send(alloc, 10)?;
+    put(alloc, &mut ops, &guard, 0, sent)?;
     code(alloc, 11, None, 0, ops)
 }
 
@@ -100,12 +113,16 @@ fn tower(alloc: Global) -> Result<Option<Code>, Memory> {
 fn sums_of_sums_take_a_stage_each(rt: HostRuntime) -> Result<(), Fail> {
     let alloc = rt.alloc();
     let code = tower(alloc)?;
-    let fits = layout(alloc, &code, b"{}")?;
-    assert_eq!(rt;
-        fits.as_str(),
-        "0.0 [ 0 1 3 4 ]; 1.0 [ 2 5 ]; 2.0 [ 6 ]; 3.0 [ 7 ]; "
-    );
-    let refused = layout(alloc, &code, b"{\"stages\":3}")?;
-    assert_eq!(rt; refused.as_str(), "node 7");
+    let cases: [(&[u8], &str); 2] = [
+        (
+            b"{}",
+            "0.0 [ 0 1 3 4 ]; 1.0 [ 2 5 ]; 2.0 [ 6 ]; 3.0 [ 7 ]; ",
+        ),
+        (b"{\"stages\":3}", "node 7"),
+    ];
+    for (limits, expected) in cases {
+        let text = layout(alloc, &code, limits)?;
+        assert_eq!(rt; text.as_str(), expected);
+    }
     Ok(())
 }
