@@ -25,10 +25,10 @@ use Rattle.lucid_top_laws.specs.Groups.{GroupsAreApart, Send, any_expr, effect_w
 abbrev C : Type 0
 C = Computation Bits
 
-abbrev expr_test : Expr → Bool
+abbrev pub expr_test : Expr → Bool
 expr_test = fold-Expr Bool Bool Bool any_expr not_group syntax_of.touch_step
 
-abbrev touch_test : Touch → Bool
+abbrev pub touch_test : Touch → Bool
 touch_test = fold-Touch Bool Bool Bool any_expr not_group syntax_of.touch_step
 
 module _ (send : Send) where

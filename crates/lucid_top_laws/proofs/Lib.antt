@@ -3,16 +3,20 @@ mod Declares
 mod Empty
 mod Entering
 mod FlightExamples
+mod GroupTreesLemmas
 mod GroupsLemmas
 mod HandlerExamples
 mod LawsLemmas
+mod MatchesLemmas
 pub mod Moving
 mod NodesRoomLemmas
 pub mod Packets
 mod Programs
+mod ReadingLemmas
 pub mod Rooms
 mod SafeProgramsLemmas
 mod Settings
+mod SpellingLemmas
 mod TemplateExamples
 mod TemplatesLemmas
 mod ThereCyclesLemmas

@@ -1,6 +1,8 @@
 pub mod Calls
+pub mod GroupTrees
 pub mod Groups
 pub mod Laws
+pub mod Matches
 pub mod Moves
 pub mod Packet
 pub mod Room

@@ -6,8 +6,10 @@ ghost use Rattle.lucid_core.specs.Parts.{CoreParts};
 ghost use Rattle.lucid_lex.specs.Reading.{Reads};
 ghost use Rattle.lucid_size.specs.Expansion.{most};
 ghost use Rattle.lucid_size.specs.Templates.{templates};
+ghost use Rattle.lucid_top_laws.specs.GroupTrees.{UndeclaredGroupsAreApart};
 ghost use Rattle.lucid_top_laws.specs.Groups.{GroupsAreApart};
 ghost use Rattle.lucid_top_laws.specs.Laws.{AnswersAreOne, AnswersAreThere};
+ghost use Rattle.lucid_top_laws.specs.Matches.{MatchesAreApart};
 ghost use Rattle.lucid_top_laws.specs.Moves.{MovesRunWhole};
 ghost use Rattle.lucid_top_laws.specs.Packet.{AuditsRunWhole, FitsRunWhole, RunsWhole};
 ghost use Rattle.lucid_top_laws.specs.Room.{NodesLackRoom, OursKeepNodes, RefusedForRoom};
@@ -28,7 +30,9 @@ use lucid_pass_spec::passes_keep_nodes;
 use lucid_pipe::moves_are_passes;
 use lucid_size::plain_text_stays;
 use lucid_tables::Placed;
-use lucid_types_laws::{declarations_are_computed, programs_are_decided, typed_programs_are_valid};
+use lucid_types_laws::{
+    blocks_are_computed, declarations_are_computed, programs_are_decided, typed_programs_are_valid,
+};
 use lucid_types_spec::the_first_refusal_is_found;
 
 /// A law: if first fit places an accepted program after any passes, one packet through all stages leaves the cells and sends the outs of
@@ -131,6 +135,19 @@ pub fn answers_are_there()
 pub fn groups_are_apart()
     ensures { GroupsAreApart }
 {}
+
+/// A law: if a tree declares no group, its spelling, its core and the step of its core are those of the language without groups.
+pub fn undeclared_groups_are_apart()
+    ensures { UndeclaredGroupsAreApart }
+{}
+
+/// A law: if no statement of a program is a `match`, its spelling and its typing are those of the language without `match`. A core has no
+/// `match`.
+pub fn matches_are_apart()
+    ensures { MatchesAreApart }
+{
+    blocks_are_computed();
+}
 
 /// A law: a text in which no template begins is read by the language without templates.
 pub fn plain_texts_are_read(text: &[u8], tokens: &[Token])

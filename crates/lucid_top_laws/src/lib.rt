@@ -1,6 +1,7 @@
 // The theorems above the single crates, each on a function that does nothing: serializability (specs/Moves.antt), one packet through the
-// stages (specs/Packet.antt), refusals of first fit (specs/Room.antt), the language without groups and without templates (specs/Groups.antt,
-// Templates.antt), and calls that were worked by hand from the bytes of their files to the written text (specs/Calls.antt).
+// stages (specs/Packet.antt), refusals of first fit (specs/Room.antt), the language without groups, `match` and templates
+// (specs/Groups.antt, GroupTrees.antt, Matches.antt, Templates.antt), and calls that were worked by hand from the bytes of their files to
+// the written text (specs/Calls.antt).
 // docs/THEOREMS.md cites it, so a change of its definitions changes the claims of the project.
 // No crate uses it. Proofs may change; a law may only get stronger.
 #![tactic(auto)]
@@ -10,7 +11,8 @@ mod worked;
 
 pub use laws::{
     answers_are_one, answers_are_there, audits_run_whole, fits_run_whole, groups_are_apart,
-    moves_run_whole, nodes_lack_room, placements_run_whole, plain_texts_are_read, refused_for_room,
+    matches_are_apart, moves_run_whole, nodes_lack_room, placements_run_whole,
+    plain_texts_are_read, refused_for_room, undeclared_groups_are_apart,
 };
 pub use worked::{
     a_log_is_summarized, a_template_is_expanded, limits_are_generated, once_is_answered,

@@ -7,7 +7,6 @@ ghost use Rattle.lucid_top_laws.specs.Calls.{expand, once, over_an_event, run_pi
 use lucid_base::Span;
 use lucid_lex::{Kind, Sign, Token, Word};
 use lucid_size::plain_text_stays;
-use lucid_types_laws::programs_are_decided;
 
 /// The tokens of `event e();`.
 const TOKENS: [Token; 5] = [
@@ -30,118 +29,6 @@ const TOKENS: [Token; 5] = [
     Token {
         kind: Kind::Sign(Sign::Semicolon),
         span: Span { start: 9, end: 10 },
-    },
-];
-
-/// The tokens of a program with an array and a handler.
-const HANDLER_TOKENS: [Token; 27] = [
-    Token {
-        kind: Kind::Word(Word::Global),
-        span: Span { start: 0, end: 6 },
-    },
-    Token {
-        kind: Kind::Word(Word::ArrayCalls),
-        span: Span { start: 7, end: 12 },
-    },
-    Token {
-        kind: Kind::Sign(Sign::Dot),
-        span: Span { start: 12, end: 13 },
-    },
-    Token {
-        kind: Kind::Name,
-        span: Span { start: 13, end: 14 },
-    },
-    Token {
-        kind: Kind::Sign(Sign::ShiftLeft),
-        span: Span { start: 14, end: 16 },
-    },
-    Token {
-        kind: Kind::Number(8),
-        span: Span { start: 16, end: 17 },
-    },
-    Token {
-        kind: Kind::Sign(Sign::ShiftRight),
-        span: Span { start: 17, end: 19 },
-    },
-    Token {
-        kind: Kind::Name,
-        span: Span { start: 19, end: 20 },
-    },
-    Token {
-        kind: Kind::Sign(Sign::Equal),
-        span: Span { start: 20, end: 21 },
-    },
-    Token {
-        kind: Kind::Word(Word::ArrayCalls),
-        span: Span { start: 21, end: 26 },
-    },
-    Token {
-        kind: Kind::Sign(Sign::Dot),
-        span: Span { start: 26, end: 27 },
-    },
-    Token {
-        kind: Kind::Name,
-        span: Span { start: 27, end: 33 },
-    },
-    Token {
-        kind: Kind::Sign(Sign::OpenParen),
-        span: Span { start: 33, end: 34 },
-    },
-    Token {
-        kind: Kind::Number(1),
-        span: Span { start: 34, end: 35 },
-    },
-    Token {
-        kind: Kind::Sign(Sign::CloseParen),
-        span: Span { start: 35, end: 36 },
-    },
-    Token {
-        kind: Kind::Sign(Sign::Semicolon),
-        span: Span { start: 36, end: 37 },
-    },
-    Token {
-        kind: Kind::Word(Word::Event),
-        span: Span { start: 37, end: 42 },
-    },
-    Token {
-        kind: Kind::Name,
-        span: Span { start: 43, end: 44 },
-    },
-    Token {
-        kind: Kind::Sign(Sign::OpenParen),
-        span: Span { start: 44, end: 45 },
-    },
-    Token {
-        kind: Kind::Sign(Sign::CloseParen),
-        span: Span { start: 45, end: 46 },
-    },
-    Token {
-        kind: Kind::Sign(Sign::Semicolon),
-        span: Span { start: 46, end: 47 },
-    },
-    Token {
-        kind: Kind::Word(Word::Handle),
-        span: Span { start: 47, end: 53 },
-    },
-    Token {
-        kind: Kind::Name,
-        span: Span { start: 54, end: 55 },
-    },
-    Token {
-        kind: Kind::Sign(Sign::OpenParen),
-        span: Span { start: 55, end: 56 },
-    },
-    Token {
-        kind: Kind::Sign(Sign::CloseParen),
-        span: Span { start: 56, end: 57 },
-    },
-    Token {
-        kind: Kind::Sign(Sign::OpenBrace),
-        span: Span { start: 57, end: 58 },
-    },
-    Token {
-        kind: Kind::Sign(Sign::CloseBrace),
-        span: Span { start: 58, end: 59 },
     },
 ];
 
@@ -192,24 +79,20 @@ pub fn placements_are_answered()
     plain_text_stays(b"event e();", &TOKENS);
 }
 
-/// `run pipe` of a program with an array and a handler, in a scenario that stops with two packets in flight, is answered with the blocks
-/// of both events and the line that counts them.
+/// `run pipe` of a program whose handler adds its argument to the cell of an array, in a scenario that stops with two packets in flight, is
+/// answered with the blocks of both events, the cell, which has both arguments, and the line that counts the events.
 pub fn two_packets_are_answered()
-    ensures { Answers (run_pipe (codes "global Array.t<<8>>x=Array.create(1);event e();handle e(){}") (codes "{}")
-        (codes "{\"stop\":2,\"events\":[{\"at\":0,\"switch\":0,\"name\":\"e\",\"args\":[]},{\"at\":1,\"switch\":0,\"name\":\"e\",\"args\":[]}]}"))
-        (Ok (codes "[0] s0 e()\n[1] s0 e()\nentered 2 lost 0 pending 0\n")) }
-{
-    programs_are_decided();
-    plain_text_stays(
-        b"global Array.t<<8>>x=Array.create(1);event e();handle e(){}",
-        &HANDLER_TOKENS,
-    );
-}
+    ensures { Answers (run_pipe
+        (codes "global Array.t<<32>>x=Array.create(1);memop m(int a,int b){return a+b;}event e(int v);handle e(int v){Array.setm(x,0,m,v);}")
+        (codes "{}")
+        (codes "{\"stop\":2,\"events\":[{\"at\":0,\"switch\":0,\"name\":\"e\",\"args\":[5]},{\"at\":1,\"switch\":0,\"name\":\"e\",\"args\":[7]}]}"))
+        (Ok (codes "[0] s0 e(5)\n[1] s0 e(7)\ns0 x[0] = 12\nentered 2 lost 0 pending 0\n")) }
+{}
 
 /// The line of `bench` for the log of that run, as the log of 2 generated events of seed 1: its last line, its length and its hash.
 pub fn a_log_is_summarized()
-    ensures { bench_line 1 2 (codes "[0] s0 e()\n[1] s0 e()\nentered 2 lost 0 pending 0\n")
-        ≡ codes "bench seed 1 n 2 entered 2 lost 0 pending 0 bytes 49 fnv 95ea8024a5c4fc0e\n" }
+    ensures { bench_line 1 2 (codes "[0] s0 e(5)\n[1] s0 e(7)\ns0 x[0] = 12\nentered 2 lost 0 pending 0\n")
+        ≡ codes "bench seed 1 n 2 entered 2 lost 0 pending 0 bytes 64 fnv bb5a74d07d6c8b7d\n" }
 {}
 
 /// `expand` of a text with a template, which is used at width 8, is answered with the text of its instance.
