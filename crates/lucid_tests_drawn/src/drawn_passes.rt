@@ -1,5 +1,6 @@
 // Drawn code and what the passes make of it, in stages, beside the interpreter on the drawn code.
 // A stage that matches, computes or stores wrongly fails here, also if it does so for all packets, and so does a pass that changes a result.
+// Seen to fail: a `Fold` that puts numbers in place of fields and does not cut them to the width of the field.
 ghost use Rattle.std.specs.Prelude.{◌≡◌};
 
 use crate::codes::code;

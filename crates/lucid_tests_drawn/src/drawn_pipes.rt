@@ -1,5 +1,6 @@
 // Drawn code in stages: packets that move in any order beside the interpreter, which runs them in the order in which they entered. A move that
 // mixes packets, and a refusal that changes the pipe, fail here.
+// Seen to fail: a `go` that asks whether slot k + 2 is free, and so moves a packet into a taken slot.
 ghost use Rattle.std.specs.Prelude.{◌≡◌};
 
 use crate::codes::code;
