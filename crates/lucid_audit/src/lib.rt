@@ -1,7 +1,7 @@
 // Placements by hand or by another tool: read from a file, and audited.
-// Promises: `plan_of` reads a placement file, or reports its first fault. `audit` returns a placed code exactly under two conditions, and
-// otherwise the first cause: the counts of the code keep their limits, and each node is in a later stage than those that it reads from, in
-// a table and a stage that keep theirs. Places determine one placed code or one cause.
+// Promises: `plan_of` reads a placement file, or reports its first fault. `audit` accepts a placement, and returns the placed code, exactly
+// if the counts of the code are within the limits, each node is in a later stage than the nodes that it reads from, and every table and
+// stage is within its limits. Otherwise it returns the first cause. The same code, limits and placement always give the same result.
 // Read specs/PlanFile, specs/Audit and specs/Refused.
 // Used by lucid_layout_laws, lucid_top_fit, lucid_top and lucid_top_laws. Promises of the program rest on its definitions
 // (docs/TRUSTED.md). Bodies and proofs may change; a public clause may only get stronger.

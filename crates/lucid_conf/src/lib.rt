@@ -1,7 +1,8 @@
-// The two JSON files: limits of a target, and scenarios of a network.
-// Promises: `limits_of` and `scene_of` return exactly the result of the tables in specs/Tables.antt for the JSON value of the bytes. If a
-// key fails, they return the first such key and, if it is a list, its first bad item (specs/Items.antt has the rules of an item). The
-// invariants of an accepted file, which no caller tests again, are in specs/Kept.antt.
+// Two of the JSON files of a call: limits of a target, and scenarios of a network.
+// Promises: specs/Tables.antt lists the keys of both files, with the values that each may have. `limits_of` and `scene_of` read the bytes
+// as JSON and return exactly what these lists say. If the value of a key is bad, they return the first such key in the order of its list.
+// If that value is a list of items, they also return its first bad item (specs/Items.antt has the rules of an item). The invariants of an
+// accepted file, which no caller tests again, are in specs/Kept.antt.
 // Used by many crates. Promises of the program rest on its definitions (docs/TRUSTED.md). Bodies and proofs may change; a public clause may
 // only get stronger.
 #![tactic(auto)]

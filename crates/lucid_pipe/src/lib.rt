@@ -1,12 +1,12 @@
 // The pipeline machine: stages with at most one packet in front of each. The caller may move packets in any order, but none overtakes
 // another. Moving a packet takes no memory.
 // Promises: each move (`enter`, `go`) has exactly its defined effect. Whatever moves were made, the cells and the sent events, once all
-// packets have departed, are the same as if each packet had left before the next entered. A caller may pass a watch, which is shown the
-// slots and the cells of the pipe.
+// packets have departed, are the same as if each packet had left before the next entered. An observer (a `Watch`) sees the slots and the
+// cells of a pipe whenever its caller shows it one (`Watch::see`).
 // The files of specs/ to read are `Packets` and `Pipe` (a pipe, and how a packet enters and moves), `Settled` (the pipe once all packets in
 // flight have departed), `Moves` (lists of moves), `Sights` (what a watch is shown), `Laws` (the laws for callers) and `Rows` (the stages,
-// each with its cells and its packet). The layout of packets in memory is internal: `Blocks`, `Slots`, `Outs`, `Views` and `InPlace`, and
-// all of proofs/.
+// each with its cells and its packet). You need not read the rest: `Blocks`, `Slots`, `Outs`, `Views` and `InPlace` say how packets lie in
+// memory, and proofs/ holds only proofs.
 // Used by many crates. The promises of Copperfinch rest on the definitions of this crate (docs/TRUSTED.md). Bodies and proofs may change; a
 // public clause may only get stronger.
 #![tactic(auto)]
