@@ -1,5 +1,5 @@
 -- A table that refuses some patterns of a shape refuses the shape, if each of the others has a literal that neither the table nor those have.
-use Rattle.std.proofs.Common.{◌≡◌, ℕ, suc, ◌+◌, ◌<◌, ◌≤◌, List, [], ◌∷◌, ◌++◌, Bool, true, false, ◌&&◌, ◌||◌, ◌⊎◌, inl, inr, if◌then◌else◌, cond, length, refl, sym, ap, ap₂, ◌∙◌, ⊎_elim, append-nil, arith}
+use Rattle.std.proofs.Common.{◌≡◌, ℕ, suc, ◌≤◌, List, [], ◌∷◌, ◌++◌, Bool, true, false, ◌&&◌, ◌||◌, inr, if◌then◌else◌, cond, length, refl, sym, ap, ap₂, ◌∙◌, ⊎_elim, append-nil, arith}
 use Rattle.std.specs.List.{filter, list_all, list_any}
 use Rattle.std.proofs.lemmas.Bool.{and_parts, and_from, or_cases, or_left, or_right, true≢false, false_from_ne_true}
 use Rattle.std.proofs.lemmas.List.Elements.{filter-append}
