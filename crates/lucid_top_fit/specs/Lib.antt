@@ -2,3 +2,4 @@ pub mod Causes
 pub mod Fit
 pub mod Passes
 pub mod Placing
+pub mod Room

@@ -10,7 +10,9 @@ mod causes;
 mod layout;
 mod passes;
 mod placement;
+mod room;
 
 pub use layout::{Fitting, fitted, placed};
 pub use passes::{Composition, composed};
 pub use placement::{audited, counted, plan};
+pub use room::programs_lack_room;
