@@ -22,8 +22,10 @@ use Rattle.lucid_pipe.specs.declared.sight.Sight.{Sight}
 use Rattle.lucid_top.specs.Headline.{Accepted, AuditAccepts, FirstFitPlaces, Hold, Holds, NoneFailed, Three, bench_texts, drive, network_log, network_sights, placed_by, run_pipe, run_placed, run_whole, snap, snapshot_log, steps_log, steps_sights, whole_network}
 use Rattle.lucid_top.specs.Passes.{SamePasses}
 use Rattle.lucid_top.specs.Pipes.{Ready, network_of}
+use Rattle.lucid_top.specs.Room.{CallLacksRoom, CommandsLackRoom}
 use Rattle.lucid_top_pipes.specs.Watching.{Seen, Shown, ToldBefore}
-use Rattle.lucid_top_fit.specs.Passes.{PassView, PassesRun}
+use Rattle.lucid_top_fit.specs.Passes.{KeepNodes, PassView, PassesRun}
+use Rattle.lucid_top.proofs.RoomLemmas.{call_lacks, no_place}
 use Rattle.lucid_top.proofs.Headlines.{MakeSame, Makes, Quiet, asks-drive, asks-pipe, asks-placed, asks-snap, asks-whole, audited_of, is-placed, is-ready, quiet-drive, quiet-pipe, quiet-placed, quiet-snap, quiet-whole, ready_of, shows-drive, shows-pipe, shows-placed, texts-drive, texts-pipe, texts-placed}
 use Rattle.lucid_top_words.specs.Command.{command_of}
 use Rattle.lucid_top_words.specs.Files.{FilesRead, IsOneOf, Texts, contents, of_take}
@@ -270,6 +272,11 @@ said-line : (err err' : SinkView) (words : List (List ℕ)) (end : End) → EndS
 said-line err err' words (Ok u) said not = absurd (not refl)
 said-line err err' words (Err r) said not = (r, refl, said)
 
+said-unfit : (err err' : SinkView) (words : List (List ℕ)) (end : End) → EndSaid err err' words end → end_status end ≡ status.NoFit →
+    (r : Refusal) × (end ≡ Err r) × Line err err' (line_of words r)
+said-unfit err err' words (Ok u) said is = absurd (cc)
+said-unfit err err' words (Err r) said is = (r, refl, said)
+
 said-nothing : (err err' : SinkView) (words : List (List ℕ)) (end : End) → EndSaid err err' words end → end_status end ≡ status.Ok → Keeps err.written err'.written
 said-nothing err err' words (Ok u) said is = said.keeps
 said-nothing err err' words (Err r) said is = absurd (never_ok r is)
@@ -422,6 +429,18 @@ module _ {c : Call} {err err' : SinkView} {result : Status} (e : Ended c err err
 
   pub said-clause : result ≢ status.Ok → (r : Refusal) × (status_of r ≡ result) × Line err err' (line_of c.words r)
   said-clause not = let line = said-line err err' c.words e.end e.said (λ is. not (e.status ∙ is)) in (line.0, line.1 ∙ sym e.status, line.2)
+
+  pub room-clause : CommandsLackRoom → KeepNodes (map PassView.gives c.passes) → result ≡ status.NoFit →
+      (r : Refusal) × (status_of r ≡ result) × Line err err' (line_of c.words r) × ((i : ℕ) → r ≡ no_place i → CallLacksRoom (question c) i)
+  room-clause room keep is =
+      let line = said-unfit err err' c.words e.end e.said (sym e.status ∙ is) in
+      let agrees = read-agrees c.words c.files c.files' (command_files (command_of c.words)) e.done.texts e.done.reads in (
+        line.0,
+        sym (e.status ∙ ap end_status line.1),
+        line.2,
+        λ i same.
+            call_lacks room (question c) c.files c.files' c.out c.out' e.end i keep (line.1 ∙ ap (λ (r : Refusal). Err r) same) e.done.texts e.done.reads agrees e.done.does,
+      )
 
   pub unsaid-clause : result ≡ status.Ok → Keeps err.written err'.written
   unsaid-clause ok = said-nothing err err' c.words e.end e.said (sym e.status ∙ ok)

@@ -14,6 +14,7 @@ pub mod Pipes
 pub mod Placed
 pub mod Premises
 pub mod PremisesLaws
+pub mod Room
 pub mod RunPipe
 pub mod RunWhole
 pub mod Snap

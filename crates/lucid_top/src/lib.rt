@@ -11,9 +11,11 @@ mod causes;
 mod commands;
 mod example;
 mod premises;
+mod room;
 mod top;
 
 pub use example::answers_are_there;
 pub use lucid_top_words::{Status, faults_alone_are_free};
 pub use premises::premises_are_exact;
+pub use room::commands_lack_room;
 pub use top::lucid;

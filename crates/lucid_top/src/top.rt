@@ -11,7 +11,8 @@ ghost use Rattle.lucid_top.specs.Headline.{Accepted, AuditAccepts, FirstFitPlace
 ghost use Rattle.lucid_top.specs.Headline.{bench_texts, network_sights, placed_by, run_pipe, run_placed, run_whole, snap, snapshot_log, steps_log, steps_sights, whole_network};
 ghost use Rattle.lucid_top_pipes.specs.Watching.{ToldBefore};
 ghost use Rattle.lucid_top.specs.Passes.{SamePasses};
-ghost use Rattle.lucid_top_fit.specs.Passes.{passes_view};
+ghost use Rattle.lucid_top.specs.Room.{CallLacksRoom};
+ghost use Rattle.lucid_top_fit.specs.Passes.{KeepNodes, passes_view};
 ghost use Rattle.lucid_top_words.specs.Command.{command_of};
 ghost use Rattle.lucid_top_words.specs.Outcome.{Outcome, SameRefusal, outcome_status};
 ghost use Rattle.lucid_top_words.specs.Refusal.{line_of, status_of};
@@ -21,10 +22,11 @@ ghost use Rattle.lucid_top_words.specs.Words.{number_of};
 ghost use Rattle.lucid_top_words.specs.Writing.{PutsSome, Said};
 
 use crate::commands::perform;
+use crate::room::commands_lack_room;
 use lucid_io::{Files, Sink};
 use lucid_pass::Pass;
 use lucid_pipe::Watch;
-use lucid_top_words::{Command, NamedFile, Refusal, Status, read_files, refuse};
+use lucid_top_words::{Command, NamedFile, NoFit, Refusal, Status, read_files, refuse};
 use std::alloc::Global;
 
 /// Runs the command of the words on these files: writes the answer to `out`, or the reason why there is none to `err`.
@@ -137,6 +139,11 @@ pub fn lucid<F: Files, W: Sink, E: Sink, V: Watch>(
     ensures grows { (text : List ℕ) × Appends (W.written out.old) (W.written out.new) text }
     ensures said { result ≢ Status.Ok → (r : Refusal) × (status_of r ≡ result) ×
         Said E.written E.faults err.old err.new (line_of (bytes_of words.now) r) }
+    // if the passes keep each node after its reads, a node is refused only if no place has room for it: each exceeds a limit
+    ensures room { let q = asked words.now (F.held files.old) (passes_view called gives count passes.old.items) in
+        KeepNodes (map gives passes.old.items) → result ≡ Status.NoFit → (r : Refusal) × (status_of r ≡ result) ×
+        Said E.written E.faults err.old err.new (line_of (bytes_of words.now) r) ×
+        ((node : ℕ) → r ≡ Refusal.NoFit (NoFit.Node node) → CallLacksRoom q node) }
     ensures unsaid { result ≡ Status.Ok → Keeps (E.written err.old) (E.written err.new) }
 
     // the passes are the same as before, each with its name and its meaning; the sights of a watch are specified after the call only if
@@ -151,6 +158,7 @@ pub fn lucid<F: Files, W: Sink, E: Sink, V: Watch>(
     ensures quiet { result ≢ Status.ReadFault → SameCounts (F.faults files.old) (F.faults files.new) }
     ensures others { OthersKept (IsNamed words.now) (F.held files.old) (F.faults files.old) (F.faults files.new) }
 {
+    commands_lack_room();
     call(alloc, words, files, out, err, passes, watch)
 }
 

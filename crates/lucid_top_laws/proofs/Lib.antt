@@ -9,12 +9,10 @@ mod HandlerExamples
 mod LawsLemmas
 mod MatchesLemmas
 pub mod Moving
-mod NodesRoomLemmas
+mod OursLemmas
 pub mod Packets
 mod Programs
 mod ReadingLemmas
-pub mod Rooms
-mod SafeProgramsLemmas
 mod Settings
 mod SpellingLemmas
 mod TemplateExamples

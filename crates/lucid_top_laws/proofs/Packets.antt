@@ -1,8 +1,6 @@
 -- One packet through the stages does what the handler does that runs whole.
-use Rattle.std.proofs.Common.{◌≡◌, ◌∙◌, ℕ, ◌<◌, ◌^◌, List, Result, Ok, Err, length, map, ap, sym, subst}
-use Rattle.std.specs.Prelude.{All}
+use Rattle.std.proofs.Common.{◌≡◌, ◌∙◌, ℕ, List, Result, Ok, Err, length, map, ap, sym, subst}
 use Rattle.std.proofs.lemmas.List.{length-map}
-use Rattle.std.proofs.lemmas.List.Elements.{All-map}
 use Rattle.lucid_audit.proofs.Places.{rules_place}
 use Rattle.lucid_audit.specs.Audit.{pair_of, pairs_of}
 use Rattle.lucid_audit.specs.Audit as audit
@@ -14,20 +12,13 @@ use Rattle.lucid_code.specs.Run.{Done, run_code}
 use Rattle.lucid_code.specs.Valid.{IsValid}
 use Rattle.lucid_conf.specs.declared.limits.Limits.{Limits}
 use Rattle.lucid_conf.specs.Kept.{AreLimits}
-use Rattle.lucid_core.specs.declared.defs.HandlerDef.{HandlerDef}
 use Rattle.lucid_core.specs.Parts.{CoreParts}
-use Rattle.lucid_core.specs.Valid.{IsValidFlat}
-use Rattle.lucid_effects_spec.specs.Order.{IsAccepted}
-use Rattle.lucid_inline.proofs.Accepted.{flat_is_accepted}
-use Rattle.lucid_inline_spec.specs.Flat.{flat_handler, flat_of}
-use Rattle.lucid_inline_spec.specs.Laws.{KeepsOrder}
 use Rattle.lucid_layout.specs.Layout.{IsLayout, stages_of}
 use Rattle.lucid_stages.specs.NodeWorks.{work_of, works}
 use Rattle.lucid_stages.specs.declared.stage.Pair.{Pair}
 use Rattle.lucid_layout.proofs.LayoutLemmas.{fit_keeps}
 use Rattle.lucid_merge.specs.Laws.{GuardsContradict, ProductsAct, ProductsName}
 use Rattle.lucid_normal_spec.specs.Stands.{StandsFor}
-use Rattle.lucid_normal_laws.proofs.Valid.{valid_code}
 use Rattle.lucid_pass.specs.Through.{ListsReplace}
 use Rattle.lucid_pass_spec.specs.Replace.{MayReplace}
 use Rattle.lucid_pass_laws.specs.Core.{CodeStands}
@@ -51,12 +42,6 @@ runs_whole placed core passes stands = record {
   cells = λ cells now me event h. ap (λ (d : Done). d.cells) (passes cells now me event (stands.takes me event h)) ∙ stands.cells cells now me event h;
   outs = λ cells now me event h. ap (λ (d : Done). d.outs) (passes cells now me event (stands.takes me event h)) ∙ stands.outs cells now me event h;
 }
-
--- ---- the normal form of an accepted program
-
-pub normal_is_valid : (core : CoreParts) → KeepsOrder core → IsValidFlat (flat_of core) → All (λ (h : HandlerDef). h.event < 2 ^ 32) core.handlers → IsAccepted core → IsValid (normal_of core)
-normal_is_valid core order valid small accepted =
-    valid_code (flat_of core) valid (flat_is_accepted core order accepted) (All-map (λ (h : HandlerDef). h.event < 2 ^ 32) (flat_handler core.funs) core.handlers small)
 
 -- ---- a first fit
 

@@ -6,13 +6,14 @@ ghost use Rattle.lucid_core.specs.Parts.{CoreParts};
 ghost use Rattle.lucid_lex.specs.Reading.{Reads};
 ghost use Rattle.lucid_size.specs.Expansion.{most};
 ghost use Rattle.lucid_size.specs.Templates.{templates};
+ghost use Rattle.lucid_top_fit.specs.Room.{RefusedForRoom};
 ghost use Rattle.lucid_top_laws.specs.GroupTrees.{UndeclaredGroupsAreApart};
 ghost use Rattle.lucid_top_laws.specs.Groups.{GroupsAreApart};
 ghost use Rattle.lucid_top_laws.specs.Laws.{AnswersAreOne, AnswersAreThere};
 ghost use Rattle.lucid_top_laws.specs.Matches.{MatchesAreApart};
 ghost use Rattle.lucid_top_laws.specs.Moves.{MovesRunWhole};
 ghost use Rattle.lucid_top_laws.specs.Packet.{AuditsRunWhole, FitsRunWhole, RunsWhole};
-ghost use Rattle.lucid_top_laws.specs.Room.{NodesLackRoom, OursKeepNodes, RefusedForRoom};
+ghost use Rattle.lucid_top_laws.specs.Room.{NodesLackRoom, OursKeepNodes};
 ghost use Rattle.lucid_top_laws.specs.Templates.{IsPlain};
 
 use lucid_audit::audits_are_one;
@@ -30,6 +31,7 @@ use lucid_pass_spec::passes_keep_nodes;
 use lucid_pipe::moves_are_passes;
 use lucid_size::plain_text_stays;
 use lucid_tables::Placed;
+use lucid_top::commands_lack_room;
 use lucid_types_laws::{
     blocks_are_computed, declarations_are_computed, programs_are_decided, typed_programs_are_valid,
 };
@@ -86,9 +88,7 @@ pub fn nodes_lack_room()
     declarations_are_read_as_spelled();
     the_first_refusal_is_found();
     declarations_are_computed();
-    typed_programs_are_valid();
-    lists_keep_the_laws();
-    stuck_for_room();
+    commands_lack_room();
 }
 
 /// A law: the same holds for all placed code that represents a program, however it was placed.

@@ -1,5 +1,6 @@
 use Rattle.lucid_top.proofs.Headlines.{make-same}
 use Rattle.lucid_top.proofs.Laws as laws
+use Rattle.lucid_top.proofs.RoomLemmas.{keep_views}
 use Rattle.lucid_top.proofs.Runs.{ran-short, wrote-of}
 use Rattle.lucid_top_words.proofs.Seen as seen
 use Rattle.lucid_top.proofs.top.lucid.Goals as goal
@@ -96,6 +97,11 @@ returns-clause-said g c = λ not.
 
 pub returns-clause-unsaid : goal.returns-clause-unsaid
 returns-clause-unsaid g c = laws.unsaid-clause c.call.ensures.ended
+
+pub returns-clause-room : goal.returns-clause-room
+returns-clause-room g c = λ keep is.
+    let line = laws.room-clause c.call.ensures.ended c.commands_lack_room.ensures (keep_views (λ b. (goal.Pass-dyn g (b.vtable, b.value)).called b.value) (λ b. (goal.Pass-dyn g (b.vtable, b.value)).gives b.value) (λ b. (goal.Pass-dyn g (b.vtable, b.value)).count b.value) c.args.passes.now.items keep) is in
+    (line.0, line.1, seen.line-of g.E.Sink.written g.E.Sink.faults c.args.err.now c.call.new.err _ line.2, line.3)
 
 pub returns-clause-held : goal.returns-clause-held
 returns-clause-held g c = laws.held-clause c.call.ensures.ended

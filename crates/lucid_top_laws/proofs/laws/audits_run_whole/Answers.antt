@@ -1,7 +1,8 @@
 use Rattle.std.proofs.Common.{◌<◌, ◌^◌, subst}
 use Rattle.std.specs.Prelude.{All}
 use Rattle.lucid_core.specs.declared.defs.HandlerDef.{HandlerDef}
-use Rattle.lucid_top_laws.proofs.Packets.{audits_run_whole, normal_is_valid}
+use Rattle.lucid_top_fit.proofs.RoomLemmas.{normal_is_valid}
+use Rattle.lucid_top_laws.proofs.Packets.{audits_run_whole}
 use Rattle.lucid_top_laws.proofs.laws.audits_run_whole.Goals as goal
 
 pub returns : goal.returns

@@ -1,8 +1,8 @@
 use Rattle.std.proofs.Common.{◌<◌, ◌^◌, subst}
 use Rattle.std.specs.Prelude.{All}
 use Rattle.lucid_core.specs.declared.defs.HandlerDef.{HandlerDef}
-use Rattle.lucid_top_laws.proofs.Packets.{normal_is_valid}
-use Rattle.lucid_top_laws.proofs.Rooms.{for_room, normal_follows, ours_keep}
+use Rattle.lucid_top_fit.proofs.RoomLemmas.{for_room, normal_follows, normal_is_valid}
+use Rattle.lucid_top_laws.proofs.OursLemmas.{ours_keep}
 use Rattle.lucid_top_laws.proofs.laws.refused_for_room.Goals as goal
 
 pub returns-clause-room : goal.returns-clause-room
