@@ -1,1 +1,3 @@
 mod CellsLemmas
+mod TasksLemmas
+mod ListLemmas

@@ -1,228 +1,247 @@
-// The interpreter: applies the definition of each part of a body to a run, or runs out of memory. A function sees only the functions
-// before it, so each call has fewer of them, and the recursion ends. `parts` is the hot recursion, so it keeps few locals; other forms
-// are separate `#[inline(never)]` functions. `left` is the stack budget that remains (depth.rt). No clause speaks of it.
-ghost use Rattle.std.specs.Prelude.{◌≡◌, ◌++◌, IfOk, IfSome, IsTrue, OnOk, OnErr, map, slice_get, take};
-ghost use Rattle.std.specs.Option.{option_map};
-ghost use Rattle.lucid_core.specs.Computations.{all, array_of, begun_with, block, both};
-ghost use Rattle.lucid_core.specs.Meaning.{delay_of, effect_of, expr_step, generated, holding, target_of, touch_of, value_of};
-ghost use Rattle.lucid_core_run.specs.Running.{Does, frame, has_parts, sends_out, with_state};
-ghost use Rattle.lucid_base.specs.declared.event.Target.TheVariants.{At};
-ghost use Rattle.lucid_core.specs.declared.body.Expr.TheOpen.{Expr-F};
+// The interpreter: does tasks until none remains. Nothing in it recurses, so a run takes the same stack however deep its calls are.
+ghost use Rattle.std.specs.Prelude.{◌≡◌, ◌++◌, ◌∷◌, [], OnOk, if◌then◌else◌, nat_eq};
+ghost use Rattle.lucid_core.specs.Meaning.{effect_of};
+ghost use Rattle.lucid_core_run.specs.Interpret.{Leads, after_all, after_task, done, inlined, listed, ran};
 
-use crate::depth::{BLOCK, CALL, PARTS, SENDS, TOUCH, VALUES};
+use crate::acts::{answer, assign, leave, send, send_to_each, touch};
 use crate::draft::Draft;
-use crate::operate::{binary, comparison, hashed, nothing, unary};
-use crate::place::Place;
-use crate::run::Run;
-use lucid_base::{ArrayName, Bits, Items, Memory, Target, Width};
-use lucid_core::{Expr, FunDef, Stmt, Touch, below};
-use std::alloc::Global;
+use crate::evaluate::{begin, bin_right, cmp_right, evaluate, touch_get, touch_index};
+use crate::list::{list, next, next_given};
+use crate::machine::Machine;
+use crate::operate::{binary, comparison, nothing, unary};
+use crate::task::{Purpose, Task};
+use crate::tasks::Tasks;
+use lucid_base::{Bits, Items, Memory, Target};
+use lucid_core::{Expr, Stmt};
 
-/// Evaluates an expression. One without parts costs no call.
-#[inline(always)]
-#[cycle(run)]
-fn value(place: &Place, left: u32, run: &mut Run, e: &Expr) -> Result<Bits, Memory>
-    ensures { Does (value_of e.now (frame place.now)) run.old run.new result }
+/// Runs a body.
+pub fn run_body<'a>(machine: &mut Machine<'a>, body: &'a [Stmt]) -> Result<(), Memory>
+    ensures state { OnOk result (machine.new ≡ ran body.now machine.old) }
+    ensures start { machine.new.run.start ≡ machine.old.run.start }
 {
-    match e {
-        Expr::Fixed(n) => Ok(*n),
-        Expr::Local(i) => Ok(run.local(*i)),
-        Expr::Now => Ok(Bits::low(Width::int(), place.moment.now)),
-        Expr::Me => Ok(Bits::low(Width::int(), place.moment.me as u64)),
-        _ => parts(place, left, run, e),
+    let mut tasks = Tasks::new(machine.alloc);
+    tasks.push(Task::Block(body))?;
+    // No run does this many tasks.
+    for _ in 0..u64::MAX {
+        let Some(task) = tasks.pop() else {
+            return Ok(());
+        };
+        step(&mut tasks, machine, task)?;
+    }
+    Err(Memory)
+}
+
+/// Does a task.
+fn step<'a>(tasks: &mut Tasks<'a>, machine: &mut Machine<'a>, task: Task<'a>) -> Result<(), Memory>
+    ensures { Leads (after_all tasks.old (after_task task.entry machine.old)) machine.old.run.start tasks.new machine.new result }
+{
+    match task {
+        Task::Value(e) => begin(tasks, machine, e),
+        Task::Un(op) => {
+            machine.value = unary(op, machine.value);
+            Ok(())
+        }
+        Task::BinLeft(op, b) => bin_right(tasks, machine, op, b),
+        Task::BinRight(op, a) => {
+            machine.value = binary(op, a, machine.value);
+            Ok(())
+        }
+        Task::CmpLeft(op, b) => cmp_right(tasks, machine, op, b),
+        Task::CmpRight(op, a) => {
+            machine.value = comparison(op, a, machine.value);
+            Ok(())
+        }
+        Task::Cast(width) => {
+            machine.value = Bits::low(width, machine.value.value);
+            Ok(())
+        }
+        Task::TouchIndex(t) => touch_index(tasks, machine, t),
+        Task::TouchGet(t, index) => touch_get(tasks, machine, t, index),
+        Task::TouchSet(t, index, get_arg) => {
+            touch(machine, t, index, get_arg)?;
+            Ok(())
+        }
+        Task::Next {
+            done,
+            rest,
+            purpose,
+        } => go_on(tasks, machine, done, rest, &purpose),
+        Task::Given {
+            held,
+            local,
+            rest,
+            stmts,
+        } => go_on_given(tasks, machine, held, local, rest, stmts),
+        Task::LeaveInlined(caller) => {
+            leave(machine, caller);
+            Ok(())
+        }
+        Task::Leave {
+            caller,
+            arrays,
+            funs,
+        } => {
+            leave(machine, caller);
+            machine.arrays = arrays;
+            machine.funs = funs;
+            Ok(())
+        }
+        Task::Block(stmts) => block(tasks, machine, stmts),
+        Task::Assign(local) => {
+            assign(machine, local);
+            Ok(())
+        }
+        Task::Drop => {
+            machine.value = nothing();
+            Ok(())
+        }
+        Task::Answer => {
+            answer(machine);
+            Ok(())
+        }
+        Task::Choose(yes, no) => choose(tasks, machine, yes, no),
+        Task::DelayThenTarget { event, args, to } => {
+            tasks.push(Task::SendTo {
+                event,
+                args,
+                delay: machine.value.value,
+            })?;
+            evaluate(tasks, machine, to)
+        }
+        Task::TargetThenDelay { event, args, delay } => {
+            tasks.push(Task::SendAfter {
+                event,
+                args,
+                to: Target::At(machine.value.value),
+            })?;
+            evaluate(tasks, machine, delay)
+        }
+        Task::SendTo { event, args, delay } => {
+            let to = Target::At(machine.value.value);
+            send(
+                machine,
+                Draft::Gen {
+                    event,
+                    args,
+                    delay,
+                    to,
+                },
+            )?;
+            Ok(())
+        }
+        Task::SendAfter { event, args, to } => {
+            let delay = machine.value.value;
+            send(
+                machine,
+                Draft::Gen {
+                    event,
+                    args,
+                    delay,
+                    to,
+                },
+            )?;
+            Ok(())
+        }
+        Task::SendEach {
+            event,
+            args,
+            members,
+        } => {
+            let delay = machine.value.value;
+            send_to_each(machine, event, args, delay, members)?;
+            Ok(())
+        }
     }
 }
 
-/// Evaluates an expression that has parts.
-#[inline(never)]
-#[cycle(run)]
-fn parts(place: &Place, left: u32, run: &mut Run, e: &Expr) -> Result<Bits, Memory>
-    requires { IsTrue (has_parts e.now) }
-    ensures { Does (value_of e.now (frame place.now)) run.old run.new result }
+/// Goes on with a list, after its next value.
+fn go_on<'a>(
+    tasks: &mut Tasks<'a>,
+    machine: &mut Machine<'a>,
+    done: Items<Bits>,
+    rest: &'a [Expr],
+    purpose: &Purpose<'a>,
+) -> Result<(), Memory>
+    ensures { Leads (after_all tasks.old (listed (done ++ machine.old.value ∷ []) rest.now purpose.now machine.old)) machine.old.run.start tasks.new machine.new result }
 {
-    let left = below(left, PARTS)?;
-    match e {
-        Expr::Un(op, a) => Ok(unary(*op, value(place, left, run, a.get())?)),
-        Expr::Bin(op, a, b) => {
-            let a = value(place, left, run, a.get())?;
-            let b = value(place, left, run, b.get())?;
-            Ok(binary(*op, a, b))
-        }
-        Expr::Cmp(op, a, b) => {
-            let a = value(place, left, run, a.get())?;
-            let b = value(place, left, run, b.get())?;
-            Ok(comparison(*op, a, b))
-        }
-        Expr::Cast(width, a) => {
-            let a = value(place, left, run, a.get())?;
-            Ok(Bits::low(*width, a.value))
-        }
-        Expr::Hash(width, operands) => {
-            let operands = values(place, left, run, operands.as_slice(), 0)?;
-            Ok(hashed(*width, operands))
-        }
-        Expr::Array(t) => touch(place, left, run, t.get()),
-        Expr::Fun(k, names, args) => call(place, left, run, *k, names.as_slice(), args.as_slice()),
-        Expr::Inlined(given, stmts) => inlined(
-            place,
-            left,
-            run,
-            given.as_slice(),
-            stmts.as_slice(),
-        ),
-        // No other expression has parts.
-        _ => Ok(nothing()),
-    }
+    let mut values = done;
+    values.push(machine.value)?;
+    next(tasks, machine, values, rest, purpose)
 }
 
-/// Evaluates expressions from left to right, into a list with capacity for at least this many values.
-#[inline(never)]
-#[cycle(run)]
-fn values(
-    place: &Place,
-    left: u32,
-    run: &mut Run,
-    es: &[Expr],
-    least: usize,
-) -> Result<Items<Bits>, Memory>
-    ensures { Does (all (map value_of es.now) (frame place.now)) run.old run.new result }
+/// Goes on with the arguments of an inlined call, after the next one.
+fn go_on_given<'a>(
+    tasks: &mut Tasks<'a>,
+    machine: &mut Machine<'a>,
+    held: Items<(u32, Bits)>,
+    local: u32,
+    rest: &'a [(u32, Expr)],
+    stmts: &'a [Stmt],
+) -> Result<(), Memory>
+    ensures { Leads (after_all tasks.old (inlined (held ++ (local, machine.old.value) ∷ []) rest.now stmts.now machine.old)) machine.old.run.start tasks.new machine.new result }
 {
-    let left = below(left, VALUES)?;
-    let mut vs = Items::from_vec(Vec::with_capacity(place.alloc, least.max(es.len()))?);
-    for e in es {
-        vs.push(value(place, left, run, e)?)?;
-    }
-    Ok(vs)
+    let mut values = held;
+    values.push((local, machine.value))?;
+    next_given(tasks, machine, values, rest, stmts)
 }
 
-/// Evaluates an inlined call: its body runs on a copy of the locals in which the arguments are bound.
-#[inline(never)]
-#[cycle(run)]
-fn inlined(
-    place: &Place,
-    left: u32,
-    run: &mut Run,
-    given: &[(u32, Expr)],
-    stmts: &[Stmt],
-) -> Result<Bits, Memory>
-    ensures { Does (expr_step (Expr-F.Inlined (map (λ g. (g.0, value_of g.1)) given.now) (map effect_of stmts.now)) (frame place.now)) run.old run.new result }
+/// Runs the first block if the value isn't 0, otherwise the second.
+fn choose<'a>(
+    tasks: &mut Tasks<'a>,
+    machine: &mut Machine<'a>,
+    yes: &'a [Stmt],
+    no: &'a [Stmt],
+) -> Result<(), Memory>
+    ensures { Leads (after_all tasks.old (ran (if nat_eq machine.old.value.value 0 then no.now else yes.now) machine.old)) machine.old.run.start tasks.new machine.new result }
 {
-    let left = below(left, CALL)?;
-    let mut held = Items::from_vec(Vec::with_capacity(place.alloc, given.len())?);
-    for (i, e) in given {
-        let v = value(place, left, run, e)?;
-        held.push((*i, v))?;
-    }
-    let mut locals = run.copy_locals(place.alloc)?;
-    hold(&mut locals, held.as_slice());
-    let caller = run.enter(locals);
-    effects(place, left, run, stmts)?;
-    Ok(run.leave(caller))
-}
-
-/// Calls an array and returns its answer.
-#[inline(never)]
-#[cycle(run)]
-fn touch(place: &Place, left: u32, run: &mut Run, t: &Touch) -> Result<Bits, Memory>
-    ensures { Does (touch_of t.now (frame place.now)) run.old run.new result }
-{
-    let left = below(left, TOUCH)?;
-    let index = value(place, left, run, &t.index)?;
-    let get_arg = value(place, left, run, &t.get_arg)?;
-    let set_arg = value(place, left, run, &t.set_arg)?;
-    let array = array_at(place.arrays, t.array);
-    let answer = run.touch(array, index.value, &t.get, get_arg, &t.set, set_arg)?;
-    Ok(answer)
-}
-
-/// Calls function `k` and returns its answer; does nothing if there is no such function.
-#[inline(never)]
-#[cycle(run)]
-fn call(
-    place: &Place,
-    left: u32,
-    run: &mut Run,
-    k: u32,
-    names: &[ArrayName],
-    args: &[Expr],
-) -> Result<Bits, Memory>
-    ensures { Does (expr_step (Expr-F.Fun k names.now (map value_of args.now)) (frame place.now)) run.old run.new result }
-{
-    let left = below(left, CALL)?;
-    let args = values(place, left, run, args, locals_of(place.funs, k))?;
-    let arrays = arrays_at(place, names)?;
-    match earlier(place.funs, k) {
-        None => Ok(nothing()),
-        Some((funs, f)) => {
-            let locals = with_zeros(args, f.locals.as_slice())?;
-            let caller = run.enter(locals);
-            let inside = Place {
-                alloc: place.alloc,
-                moment: place.moment,
-                arrays: arrays.as_slice(),
-                funs,
-            };
-            effects(&inside, left, run, f.body.as_slice())?;
-            Ok(run.leave(caller))
-        }
+    if machine.value.value == 0 {
+        block(tasks, machine, no)
+    } else {
+        block(tasks, machine, yes)
     }
 }
 
 /// Runs a block.
-#[inline(never)]
-#[cycle(run)]
-pub fn effects(place: &Place, left: u32, run: &mut Run, stmts: &[Stmt]) -> Result<(), Memory>
-    ensures { Does (block (map effect_of stmts.now) (frame place.now)) run.old run.new result }
+fn block<'a>(
+    tasks: &mut Tasks<'a>,
+    machine: &mut Machine<'a>,
+    stmts: &'a [Stmt],
+) -> Result<(), Memory>
+    ensures { Leads (after_all tasks.old (ran stmts.now machine.old)) machine.old.run.start tasks.new machine.new result }
 {
-    let left = below(left, BLOCK)?;
-    for stmt in stmts {
-        effect(place, left, run, stmt)?;
+    match stmts.split_first() {
+        None => {
+            machine.value = nothing();
+            Ok(())
+        }
+        Some((stmt, rest)) => {
+            tasks.push(Task::Block(rest))?;
+            statement(tasks, machine, stmt)
+        }
     }
-    Ok(())
 }
 
-/// Runs a statement.
-#[cycle(run)]
-fn effect(place: &Place, left: u32, run: &mut Run, stmt: &Stmt) -> Result<(), Memory>
-    ensures { Does (effect_of stmt.now (frame place.now)) run.old run.new result }
+/// Begins a statement.
+fn statement<'a>(
+    tasks: &mut Tasks<'a>,
+    machine: &mut Machine<'a>,
+    stmt: &'a Stmt,
+) -> Result<(), Memory>
+    ensures { Leads (after_all tasks.old (done (effect_of stmt.now) machine.old)) machine.old.run.start tasks.new machine.new result }
 {
     match stmt {
         Stmt::Assign(i, e) => {
-            let v = value(place, left, run, e)?;
-            run.assign(*i, v);
-            Ok(())
+            tasks.push(Task::Assign(*i))?;
+            evaluate(tasks, machine, e)
         }
         Stmt::Drop(e) => {
-            value(place, left, run, e)?;
-            Ok(())
+            tasks.push(Task::Drop)?;
+            evaluate(tasks, machine, e)
         }
         Stmt::If(e, yes, no) => {
-            let condition = value(place, left, run, e)?;
-            if condition.value == 0 {
-                effects(place, left, run, no.as_slice())
-            } else {
-                effects(place, left, run, yes.as_slice())
-            }
+            tasks.push(Task::Choose(yes.as_slice(), no.as_slice()))?;
+            evaluate(tasks, machine, e)
         }
-        Stmt::Gen { .. } | Stmt::Multi { .. } | Stmt::Say { .. } => sends(place, left, run, stmt),
-        Stmt::Return(None) => Ok(()),
-        Stmt::Return(Some(e)) => {
-            let v = value(place, left, run, e)?;
-            run.set_answer(v);
-            Ok(())
-        }
-    }
-}
-
-/// Runs a statement that sends or prints something itself.
-#[inline(never)]
-#[cycle(run)]
-fn sends(place: &Place, left: u32, run: &mut Run, stmt: &Stmt) -> Result<(), Memory>
-    requires { IsTrue (sends_out stmt.now) }
-    ensures { Does (effect_of stmt.now (frame place.now)) run.old run.new result }
-{
-    let left = below(left, SENDS)?;
-    match stmt {
         Stmt::Gen {
             event,
             args,
@@ -230,14 +249,13 @@ fn sends(place: &Place, left: u32, run: &mut Run, stmt: &Stmt) -> Result<(), Mem
             to,
             delay_first,
         } => {
-            let args = values(place, left, run, args.as_slice(), 0)?;
-            let (delay, to) = delay_and_target(place, left, run, delay, to, *delay_first)?;
-            run.send(Draft::Gen {
+            let purpose = Purpose::Gen {
                 event: *event,
-                args,
                 delay,
                 to,
-            })
+                delay_first: *delay_first,
+            };
+            list(tasks, machine, args.as_slice(), 0, &purpose)
         }
         Stmt::Multi {
             event,
@@ -245,137 +263,24 @@ fn sends(place: &Place, left: u32, run: &mut Run, stmt: &Stmt) -> Result<(), Mem
             delay,
             members,
         } => {
-            let args = values(place, left, run, args.as_slice(), 0)?;
-            // Its members replace the target.
-            let (delay, _) = delay_and_target(place, left, run, delay, &None, true)?;
-            send_each(place.alloc, run, *event, args, delay, members.as_slice())
+            let purpose = Purpose::Multi {
+                event: *event,
+                delay,
+                members: members.as_slice(),
+            };
+            list(tasks, machine, args.as_slice(), 0, &purpose)
         }
         Stmt::Say { form, args } => {
-            let args = values(place, left, run, args.as_slice(), 0)?;
-            run.send(Draft::Say { form: *form, args })
+            let purpose = Purpose::Say(*form);
+            list(tasks, machine, args.as_slice(), 0, &purpose)
         }
-        // No other statement sends.
-        _ => Ok(()),
-    }
-}
-
-/// Evaluates the delay and the target of an event, in the order in which they are written. Missing ones are 0 and here.
-#[cycle(run)]
-fn delay_and_target(
-    place: &Place,
-    left: u32,
-    run: &mut Run,
-    delay: &Option<Expr>,
-    to: &Option<Expr>,
-    delay_first: bool,
-) -> Result<(u64, Target), Memory>
-    ensures { Does (both delay_first (delay_of (option_map value_of delay.now)) (target_of (option_map value_of to.now)) (frame place.now)) run.old run.new result }
-{
-    match (delay, to) {
-        (None, None) => Ok((0, Target::Here)),
-        (Some(delay), None) => Ok((value(place, left, run, delay)?.value, Target::Here)),
-        (None, Some(to)) => Ok((0, Target::At(value(place, left, run, to)?.value))),
-        (Some(delay), Some(to)) => {
-            if delay_first {
-                let delay = value(place, left, run, delay)?.value;
-                let to = value(place, left, run, to)?.value;
-                Ok((delay, Target::At(to)))
-            } else {
-                let to = value(place, left, run, to)?.value;
-                let delay = value(place, left, run, delay)?.value;
-                Ok((delay, Target::At(to)))
-            }
+        Stmt::Return(None) => {
+            machine.value = nothing();
+            Ok(())
+        }
+        Stmt::Return(Some(e)) => {
+            tasks.push(Task::Answer)?;
+            evaluate(tasks, machine, e)
         }
     }
-}
-
-/// Returns the number of locals of function `k`; 0 if there is no such function.
-fn locals_of(funs: &[FunDef], k: u32) -> usize {
-    match funs.get(k as usize) {
-        None => 0,
-        Some(f) => f.locals.len(),
-    }
-}
-
-/// Returns function `k` with the functions before it.
-fn earlier(funs: &[FunDef], k: u32) -> Option<(&[FunDef], &FunDef)>
-    ensures fun { option_map (λ x. x.1.now) result ≡ slice_get funs.now k }
-    ensures before { IfSome result (λ x. x.0.now ≡ take k funs.now) }
-{
-    if (k as usize) < funs.len() {
-        Some((&funs[..k as usize], &funs[k as usize]))
-    } else {
-        None
-    }
-}
-
-/// Returns the number of an array that a body names.
-fn array_at(arrays: &[u32], name: ArrayName) -> u32
-    ensures { result ≡ array_of arrays.now name }
-{
-    match name {
-        ArrayName::Global(a) => a,
-        ArrayName::Param(i) => match arrays.get(i as usize) {
-            None => 0,
-            Some(a) => *a,
-        },
-    }
-}
-
-#[inline(never)]
-fn arrays_at(place: &Place, names: &[ArrayName]) -> Result<Items<u32>, Memory>
-    ensures { IfOk result (λ numbers. numbers ≡ map (array_of place.now.arrays.now) names.now) }
-{
-    let mut numbers = Items::from_vec(Vec::with_capacity(place.alloc, names.len())?);
-    for name in names {
-        numbers.push(array_at(place.arrays, *name))?;
-    }
-    Ok(numbers)
-}
-
-/// Binds each of these locals to its value.
-fn hold(locals: &mut Items<Bits>, held: &[(u32, Bits)])
-    ensures { locals.new ≡ holding locals.old held.now }
-{
-    for (i, value) in held {
-        if (*i as usize) < locals.len() {
-            locals.set(*i as usize, *value);
-        }
-    }
-}
-
-/// Returns locals of these widths: the first have these values, the others are 0.
-pub fn with_zeros(values: Items<Bits>, widths: &[Width]) -> Result<Items<Bits>, Memory>
-    ensures { IfOk result (λ locals. locals ≡ begun_with values widths.now) }
-{
-    let mut locals = values;
-    for i in locals.len()..widths.len() {
-        locals.push(Bits::low(widths[i], 0))?;
-    }
-    Ok(locals)
-}
-
-/// Sends an event to each of these switches.
-fn send_each(
-    alloc: Global,
-    run: &mut Run,
-    event: u32,
-    values: Items<Bits>,
-    delay: u64,
-    members: &[u32],
-) -> Result<(), Memory>
-    ensures sent { OnOk result (run.new ≡ with_state run.old (record run.old.state { outs = run.old.state.outs ++ map (generated event values delay) (map At members.now) })) }
-    ensures start { OnErr result (run.new.start ≡ run.old.start) }
-{
-    for member in members {
-        let args = Items::from_slice(alloc, values.as_slice())?;
-        let to = Target::At(*member as u64);
-        run.send(Draft::Gen {
-            event,
-            args,
-            delay,
-            to,
-        })?;
-    }
-    Ok(())
 }

@@ -4,13 +4,17 @@
 // Used by lucid_net and lucid_top. Bodies and proofs may change; a public clause may only get stronger.
 #![tactic(auto)]
 
-mod depth;
+mod acts;
 mod draft;
+mod evaluate;
 mod interpret;
+mod list;
+mod machine;
 mod operate;
-mod place;
 mod run;
 mod scratch;
+mod task;
+mod tasks;
 mod whole;
 
 pub use scratch::Scratch;

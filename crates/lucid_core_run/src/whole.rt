@@ -1,15 +1,14 @@
 // The whole step: an event's handler runs to completion, or runs out of memory and changes nothing.
-ghost use Rattle.std.specs.Prelude.{◌≡◌, ◌≤◌, [], All, IfOk, IsTrue, OnOk, OnErr, length, map};
+ghost use Rattle.std.specs.Prelude.{◌≡◌, ◌≤◌, [], All, IfOk, IsTrue, OnOk, OnErr, length};
 ghost use Rattle.std.specs.Option.{option_map};
-ghost use Rattle.lucid_core.specs.Computations.{block};
 ghost use Rattle.lucid_core.specs.Fits.{carried, cells_fit, out_fits};
-ghost use Rattle.lucid_core.specs.Meaning.{effect_of};
-ghost use Rattle.lucid_core_run.specs.Running.{frame, with_state};
+ghost use Rattle.lucid_core_run.specs.Interpret.{ran};
 ghost use Rattle.lucid_core.specs.Step.{handled, handler_of as handler_in, step, taken_at};
 
-use crate::depth::STACK;
-use crate::interpret::{effects, with_zeros};
-use crate::place::{Moment, Place};
+use crate::interpret::run_body;
+use crate::list::with_zeros;
+use crate::machine::{Machine, Moment};
+use crate::operate::nothing;
 use crate::run::Run;
 use crate::scratch::Scratch;
 use lucid_base::{Bits, Cells, Event, Items, Memory, Outs, Width};
@@ -18,8 +17,7 @@ use std::alloc::Global;
 use std::mem;
 
 /// Runs the handler of an event that enters switch `me` at tick `now`, and returns its outs. An event without a handler changes nothing.
-/// The outs fit the program, and cells that fit before fit after. Allocates for locals and arguments and copies no arrays. A run that
-/// nests too deep for the stack answers `Memory`.
+/// The outs fit the program, and cells that fit before fit after. Allocates for tasks, locals and arguments, and copies no arrays.
 pub fn run_whole(
     alloc: Global,
     core: &Core,
@@ -89,13 +87,13 @@ fn handler_of(core: &Core, id: u32) -> Option<&HandlerDef>
 }
 
 /// Runs a handler and fills the empty `outs`.
-fn handle(
+fn handle<'a>(
     alloc: Global,
-    core: &Core,
+    core: &'a Core,
     cells: &mut Cells,
     moment: Moment,
     args: &[u64],
-    handler: &HandlerDef,
+    handler: &'a HandlerDef,
     scratch: &mut Scratch,
     outs: &mut Outs,
 ) -> Result<(), Memory>
@@ -113,45 +111,65 @@ fn handle(
         outs: drafts,
     } = mem::replace(scratch, Scratch::new(alloc)).emptied();
     let locals = with_zeros(taken(locals, widths, args)?, widths)?;
-    let mut run = Run::begin(
+    let run = Run::begin(
         mem::replace(cells, Cells::none(alloc)),
         locals,
         writes,
         drafts,
     );
-    let none: [u32; 0] = [];
-    let place = Place {
+    let mut machine = Machine {
         alloc,
         moment,
-        arrays: &none,
+        arrays: Items::new(alloc),
         funs: core.funs(),
+        run,
+        value: nothing(),
     };
-    match run_body(&place, &mut run, handler.body.as_slice(), outs) {
+    match run_into_outs(&mut machine, handler.body.as_slice(), outs) {
         Ok(()) => {
-            let (after, used) = run.finish();
+            let (after, used) = run_of(machine).finish();
             *cells = after;
             *scratch = used;
             Ok(())
         }
         Err(error) => {
-            *cells = run.undo();
+            *cells = run_of(machine).undo();
             Err(error)
         }
     }
 }
 
 /// Runs a handler's body and fills the empty `outs`.
-fn run_body(place: &Place, run: &mut Run, body: &[Stmt], outs: &mut Outs) -> Result<(), Memory>
+fn run_into_outs<'a>(
+    machine: &mut Machine<'a>,
+    body: &'a [Stmt],
+    outs: &mut Outs,
+) -> Result<(), Memory>
     requires empty { outs.old ≡ [] }
-    requires few { length (block (map effect_of body.now) (frame place.now) run.old.state).after.outs ≤ 8 }
-    requires small { All (λ out. length (carried out) ≤ 8) (block (map effect_of body.now) (frame place.now) run.old.state).after.outs }
-    ensures outs { OnOk result (outs.new ≡ (block (map effect_of body.now) (frame place.now) run.old.state).after.outs) }
-    ensures state { OnOk result (run.new ≡ with_state run.old (block (map effect_of body.now) (frame place.now) run.old.state).after) }
-    ensures start { OnErr result (run.new.start ≡ run.old.start) }
+    requires few { length (ran body.now machine.old).run.state.outs ≤ 8 }
+    requires small { All (λ out. length (carried out) ≤ 8) (ran body.now machine.old).run.state.outs }
+    ensures outs { OnOk result (outs.new ≡ (ran body.now machine.old).run.state.outs) }
+    ensures state { OnOk result (machine.new ≡ ran body.now machine.old) }
+    ensures start { OnErr result (machine.new.run.start ≡ machine.old.run.start) }
 {
-    effects(place, STACK, run, body)?;
-    run.collect(outs);
+    run_body(machine, body)?;
+    machine.run.collect(outs);
     Ok(())
+}
+
+/// Returns the run of a machine that is done.
+fn run_of(machine: Machine) -> Run
+    ensures { result ≡ machine.entry.run }
+{
+    let Machine {
+        alloc: _,
+        moment: _,
+        arrays: _,
+        funs: _,
+        run,
+        value: _,
+    } = machine;
+    run
 }
 
 /// Returns arguments as values of these widths, in the given empty list.

@@ -2,7 +2,7 @@ use Rattle.std.proofs.Common.{◌≡◌, ◌++◌, drop, map}
 use Rattle.lucid_base.specs.declared.event.Target.TheVariants.{At}
 use Rattle.lucid_core.specs.Meaning.{generated}
 use Rattle.lucid_core_run.specs.Running.{with_state}
-use Rattle.lucid_core_run.proofs.interpret.send_each.Given as goal
+use Rattle.lucid_core_run.proofs.acts.send_each.Given as goal
 
 abbrev pub invariant-loop-member : goal.invariant-loop-member
 invariant-loop-member l =

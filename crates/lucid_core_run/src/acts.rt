@@ -1,0 +1,113 @@
+// What a task does to the machine if nothing of it remains.
+ghost use Rattle.std.specs.Prelude.{◌≡◌, ◌∷◌, ◌++◌, [], OnOk, OnErr, map, slice_set};
+ghost use Rattle.lucid_core.specs.Computations.{array_of, change, send as send_outs};
+ghost use Rattle.lucid_core.specs.Meaning.{generated};
+ghost use Rattle.lucid_base.specs.declared.event.Target.TheVariants.{At};
+ghost use Rattle.lucid_core_run.specs.Running.{out_of, with_state};
+ghost use Rattle.lucid_core_run.specs.Interpret.{done, left, sent_to_each, touch_now};
+
+use crate::draft::Draft;
+use crate::machine::Machine;
+use crate::operate::nothing;
+use crate::run::{Caller, Run};
+use lucid_base::{ArrayName, Bits, Items, Memory, Target};
+use lucid_core::Touch;
+use std::alloc::Global;
+
+/// Sends out what a statement makes.
+pub fn send(machine: &mut Machine, draft: Draft) -> Result<(), Memory>
+    ensures sent { OnOk result (machine.new ≡ done (send_outs (out_of draft ∷ [])) machine.old) }
+    ensures start { machine.new.run.start ≡ machine.old.run.start }
+{
+    machine.run.send(draft)?;
+    machine.value = nothing();
+    Ok(())
+}
+
+/// Sends an event to each of these switches.
+pub fn send_to_each(
+    machine: &mut Machine,
+    event: u32,
+    args: Items<Bits>,
+    delay: u64,
+    members: &[u32],
+) -> Result<(), Memory>
+    ensures sent { OnOk result (machine.new ≡ sent_to_each event args delay members.now machine.old) }
+    ensures start { machine.new.run.start ≡ machine.old.run.start }
+{
+    send_each(machine.alloc, &mut machine.run, event, args, delay, members)?;
+    machine.value = nothing();
+    Ok(())
+}
+
+pub fn assign(machine: &mut Machine, local: u32)
+    ensures { machine.new ≡ done (change (λ s. record s { locals = slice_set s.locals local machine.old.value })) machine.old }
+{
+    machine.run.assign(local, machine.value);
+    machine.value = nothing();
+}
+
+/// Keeps the value as the answer of the body.
+pub fn answer(machine: &mut Machine)
+    ensures { machine.new ≡ done (change (λ s. record s { answer = machine.old.value })) machine.old }
+{
+    machine.run.set_answer(machine.value);
+    machine.value = nothing();
+}
+
+/// Ends a body. Its answer is the value of the caller.
+pub fn leave(machine: &mut Machine, caller: Caller)
+    ensures { machine.new ≡ left caller machine.old }
+{
+    machine.value = machine.run.leave(caller);
+}
+
+/// Calls an array. The value is the argument of its second memop.
+pub fn touch(machine: &mut Machine, t: &Touch, index: u64, get_arg: Bits) -> Result<(), Memory>
+    ensures touched { OnOk result (machine.new ≡ touch_now t.now index get_arg machine.old) }
+    ensures start { machine.new.run.start ≡ machine.old.run.start }
+{
+    let array = array_at(machine.arrays.as_slice(), t.array);
+    machine.value = machine
+        .run
+        .touch(array, index, &t.get, get_arg, &t.set, machine.value)?;
+    Ok(())
+}
+
+/// Returns the number of an array that a body names.
+pub fn array_at(arrays: &[u32], name: ArrayName) -> u32
+    ensures { result ≡ array_of arrays.now name }
+{
+    match name {
+        ArrayName::Global(a) => a,
+        ArrayName::Param(i) => match arrays.get(i as usize) {
+            None => 0,
+            Some(a) => *a,
+        },
+    }
+}
+
+/// Sends an event to each of these switches.
+fn send_each(
+    alloc: Global,
+    run: &mut Run,
+    event: u32,
+    values: Items<Bits>,
+    delay: u64,
+    members: &[u32],
+) -> Result<(), Memory>
+    ensures sent { OnOk result (run.new ≡ with_state run.old (record run.old.state { outs = run.old.state.outs ++ map (generated event values delay) (map At members.now) })) }
+    ensures start { OnErr result (run.new.start ≡ run.old.start) }
+{
+    for member in members {
+        let args = Items::from_slice(alloc, values.as_slice())?;
+        let to = Target::At(*member as u64);
+        run.send(Draft::Gen {
+            event,
+            args,
+            delay,
+            to,
+        })?;
+    }
+    Ok(())
+}
