@@ -1,9 +1,10 @@
 // Placements by hand or by another tool: read from a file, and audited.
 // Promises: `plan_of` reads a placement file, or reports its first fault. `audit` accepts a placement, and returns the placed code, exactly
-// if the counts of the code are within the limits, each node is in a later stage than the nodes that it reads from, and every table and
-// stage is within its limits. Otherwise it returns the first cause. The same code, limits and placement always give the same result.
+// if three things hold: the totals of the code (operations, bits, calls of each array) keep their limits; each node is in a later stage
+// than the nodes that it reads from; no table and no stage exceeds a limit. Otherwise it returns the first cause. The same code, limits
+// and placement always give the same result.
 // Read specs/PlanFile, specs/Audit and specs/Refused.
-// Used by lucid_layout_laws, lucid_top_fit, lucid_top and lucid_top_laws. Promises of the program rest on its definitions
+// Used by lucid_layout_laws, lucid_top_fit, lucid_top and lucid_top_laws. Promises of Copperfinch rest on the definitions of this crate
 // (docs/TRUSTED.md). Bodies and proofs may change; a public clause may only get stronger.
 #![tactic(auto)]
 

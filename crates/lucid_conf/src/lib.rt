@@ -1,10 +1,10 @@
 // Two of the JSON files of a call: limits of a target, and scenarios of a network.
-// Promises: specs/Tables.antt lists the keys of both files, with the values that each may have. `limits_of` and `scene_of` read the bytes
-// as JSON and return exactly what these lists say. If the value of a key is bad, they return the first such key in the order of its list.
-// If that value is a list of items, they also return its first bad item (specs/Items.antt has the rules of an item). The invariants of an
-// accepted file, which no caller tests again, are in specs/Kept.antt.
-// Used by many crates. Promises of the program rest on its definitions (docs/TRUSTED.md). Bodies and proofs may change; a public clause may
-// only get stronger.
+// Promises: specs/Tables.antt has a table for each file: its keys, and the values that each key may have. `limits_of` and `scene_of` read
+// the bytes as JSON and return the values, or the fault, that the table determines. A fault names the first key of the table whose value
+// is bad. If that value is a JSON array, the fault also names the first bad item (specs/Items.antt has the rules of an item). The
+// invariants of an accepted file, which no caller tests again, are in specs/Kept.antt.
+// Used by many crates. Promises of Copperfinch rest on the definitions of this crate (docs/TRUSTED.md). Bodies and proofs may change; a
+// public clause may only get stronger.
 #![tactic(auto)]
 
 mod down;
