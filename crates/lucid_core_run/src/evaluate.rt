@@ -1,16 +1,33 @@
 // Expressions: each function does a part of one, and pushes what remains.
+ghost use Rattle.std.specs.Prelude.{◌≡◌, IfOk, IfSome, if◌then◌else◌};
+ghost use Rattle.lucid_core.specs.Computations.{give};
 ghost use Rattle.lucid_core.specs.Meaning.{touch_of, value_of};
 ghost use Rattle.lucid_core.specs.Values.{binary as binary_of, comparison as comparison_of};
-ghost use Rattle.lucid_core_run.specs.Interpret.{Leads, after_all, second_operand, touch_at, touch_with, valued};
+ghost use Rattle.lucid_core_run.specs.Interpret.{Leads, after_all, frame, second_operand, touch_at, touch_with, valued};
 
+use crate::acts;
 use crate::list::{begin_call, begin_inlined, list};
 use crate::machine::Machine;
+use crate::operate::{binary, comparison};
 use crate::task::{Purpose, Task};
 use crate::tasks::Tasks;
 use lucid_base::{BinOp, Bits, CmpOp, Memory, Width};
 use lucid_core::{Expr, Touch};
 
-/// Evaluates an expression: at once if it has no parts, otherwise as a task.
+/// Returns the value of an expression that has no parts.
+fn leaf(machine: &Machine, e: &Expr) -> Option<Bits>
+    ensures { IfSome result (λ v. value_of e.now (frame machine.now) machine.now.run.state ≡ give v (frame machine.now) machine.now.run.state) }
+{
+    match e {
+        Expr::Fixed(n) => Some(*n),
+        Expr::Local(i) => Some(machine.run.local(*i)),
+        Expr::Now => Some(Bits::low(Width::int(), machine.moment.now)),
+        Expr::Me => Some(Bits::low(Width::int(), machine.moment.me as u64)),
+        _ => None,
+    }
+}
+
+/// Evaluates an expression: at once if its parts have no parts, otherwise as a task.
 pub fn evaluate<'a>(
     tasks: &mut Tasks<'a>,
     machine: &mut Machine<'a>,
@@ -18,27 +35,56 @@ pub fn evaluate<'a>(
 ) -> Result<(), Memory>
     ensures { Leads (after_all tasks.old (valued (value_of e.now) machine.old)) machine.old.run.start tasks.new machine.new result }
 {
+    if !evaluate_at_once(machine, e)? {
+        tasks.push(Task::Value(e))?;
+    }
+    Ok(())
+}
+
+/// Evaluates an expression whose parts have no parts, and returns whether it is one.
+pub fn evaluate_at_once(machine: &mut Machine, e: &Expr) -> Result<bool, Memory>
+    ensures value { IfOk result (λ is_done. machine.new ≡ (if is_done then valued (value_of e.now) machine.old else machine.old)) }
+    ensures start { machine.new.run.start ≡ machine.old.run.start }
+{
+    if let Some(value) = leaf(machine, e) {
+        machine.value = value;
+        return Ok(true);
+    }
     match e {
-        Expr::Fixed(n) => {
-            machine.value = *n;
-            Ok(())
+        Expr::Bin(op, a, b) => match (leaf(machine, a.get()), leaf(machine, b.get())) {
+            (Some(x), Some(y)) => {
+                machine.value = binary(*op, x, y);
+                Ok(true)
+            }
+            _ => Ok(false),
+        },
+        Expr::Cmp(op, a, b) => match (leaf(machine, a.get()), leaf(machine, b.get())) {
+            (Some(x), Some(y)) => {
+                machine.value = comparison(*op, x, y);
+                Ok(true)
+            }
+            _ => Ok(false),
+        },
+        Expr::Array(t) => touch_at_once(machine, t.get()),
+        _ => Ok(false),
+    }
+}
+
+/// Calls an array if its index and its arguments have no parts, and returns whether it did.
+fn touch_at_once(machine: &mut Machine, t: &Touch) -> Result<bool, Memory>
+    ensures called { IfOk result (λ is_called. machine.new ≡ (if is_called then valued (touch_of t.now) machine.old else machine.old)) }
+    ensures start { machine.new.run.start ≡ machine.old.run.start }
+{
+    let index = leaf(machine, &t.index);
+    let get_arg = leaf(machine, &t.get_arg);
+    let set_arg = leaf(machine, &t.set_arg);
+    match (index, get_arg, set_arg) {
+        (Some(index), Some(get_arg), Some(set_arg)) => {
+            machine.value = set_arg;
+            acts::touch(machine, t, index.value, get_arg)?;
+            Ok(true)
         }
-        Expr::Local(i) => {
-            machine.value = machine.run.local(*i);
-            Ok(())
-        }
-        Expr::Now => {
-            machine.value = Bits::low(Width::int(), machine.moment.now);
-            Ok(())
-        }
-        Expr::Me => {
-            machine.value = Bits::low(Width::int(), machine.moment.me as u64);
-            Ok(())
-        }
-        _ => {
-            tasks.push(Task::Value(e))?;
-            Ok(())
-        }
+        _ => Ok(false),
     }
 }
 

@@ -1,11 +1,13 @@
 // The interpreter: does tasks until none remains. Nothing in it recurses, so a run takes the same stack however deep its calls are.
-ghost use Rattle.std.specs.Prelude.{◌≡◌, ◌++◌, ◌∷◌, [], OnOk, if◌then◌else◌, nat_eq};
+ghost use Rattle.std.specs.Prelude.{◌≡◌, ◌++◌, ◌∷◌, [], IfOk, OnOk, if◌then◌else◌, nat_eq};
 ghost use Rattle.lucid_core.specs.Meaning.{effect_of};
 ghost use Rattle.lucid_core_run.specs.Interpret.{Leads, after_all, after_task, done, inlined, listed, ran};
 
 use crate::acts::{answer, assign, leave, send, send_to_each, touch};
 use crate::draft::Draft;
-use crate::evaluate::{begin, bin_right, cmp_right, evaluate, touch_get, touch_index};
+use crate::evaluate::{
+    begin, bin_right, cmp_right, evaluate, evaluate_at_once, touch_get, touch_index,
+};
 use crate::list::{list, next, next_given};
 use crate::machine::Machine;
 use crate::operate::{binary, comparison, nothing, unary};
@@ -215,9 +217,38 @@ fn block<'a>(
             Ok(())
         }
         Some((stmt, rest)) => {
+            let is_done = run_at_once(machine, stmt)?;
             tasks.push(Task::Block(rest))?;
-            statement(tasks, machine, stmt)
+            if is_done {
+                Ok(())
+            } else {
+                statement(tasks, machine, stmt)
+            }
         }
+    }
+}
+
+/// Runs a statement whose value takes no task, and returns whether it is one.
+fn run_at_once(machine: &mut Machine, stmt: &Stmt) -> Result<bool, Memory>
+    ensures state { IfOk result (λ is_done. machine.new ≡ (if is_done then done (effect_of stmt.now) machine.old else machine.old)) }
+    ensures start { machine.new.run.start ≡ machine.old.run.start }
+{
+    match stmt {
+        Stmt::Assign(i, e) => {
+            let is_done = evaluate_at_once(machine, e)?;
+            if is_done {
+                assign(machine, *i);
+            }
+            Ok(is_done)
+        }
+        Stmt::Drop(e) => {
+            let is_done = evaluate_at_once(machine, e)?;
+            if is_done {
+                machine.value = nothing();
+            }
+            Ok(is_done)
+        }
+        _ => Ok(false),
     }
 }
 
