@@ -1,3 +1,4 @@
 mod CellsLemmas
 mod TasksLemmas
 mod ListLemmas
+mod AtOnceLemmas

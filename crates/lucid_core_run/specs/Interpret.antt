@@ -17,9 +17,13 @@ use Rattle.lucid_core.specs.Values.{binary, comparison, hashed, memop, nothing, 
 use Rattle.lucid_core_run.specs.Running.{with_state}
 use Rattle.lucid_core_run.specs.declared.machine.Machine.{Machine}
 use Rattle.lucid_core_run.specs.declared.run.Caller.{Caller}
+use Rattle.lucid_core_run.specs.declared.task.Act.{Act}
 use Rattle.lucid_core_run.specs.declared.task.Task.{Task}
 use Rattle.lucid_core_run.specs.declared.task.Purpose.{Purpose}
-use Rattle.lucid_core_run.specs.declared.task.Task.TheVariants.{Value, Un, BinLeft, BinRight, CmpLeft, CmpRight, Cast, TouchIndex, TouchGet, TouchSet, Next, Given, LeaveInlined, Leave, Block, Assign, Drop, Answer, Choose, DelayThenTarget, TargetThenDelay, SendTo, SendAfter, SendEach}
+use Rattle.lucid_core_run.specs.declared.task.Act.TheVariants.{Un, BinRight, CmpRight, Cast, TouchSet, LeaveInlined, Leave, Assign, Drop, Answer}
+use Rattle.lucid_core_run.specs.declared.task.Act.TheVariants.{SendTo, SendAfter, SendEach}
+use Rattle.lucid_core_run.specs.declared.task.Task.TheVariants.{Value, BinLeft, CmpLeft, TouchIndex, TouchGet, Next, Given, Block, Choose}
+use Rattle.lucid_core_run.specs.declared.task.Task.TheVariants.{DelayThenTarget, TargetThenDelay, Last}
 use Rattle.lucid_core_run.specs.declared.task.Purpose.TheVariants.{Hash, Call, Gen, Multi, Say}
 
 -- Where the body runs, as the definition has it.
@@ -98,31 +102,34 @@ left caller m = let s = m.run.state in with_value (in_state m (record s { locals
 abbrev pub ran : List Stmt → Machine → Machine
 ran ss m = done (block (map effect_of ss)) m
 
+abbrev pub after_act : Act → Machine → Machine
+after_act (Un op) m = with_value m (unary op m.value)
+after_act (BinRight op a) m = with_value m (binary op a m.value)
+after_act (CmpRight op a) m = with_value m (comparison op a m.value)
+after_act (Cast w) m = with_value m (bits_of w m.value.value)
+after_act (TouchSet t i g) m = touch_now t.now i g m
+after_act (LeaveInlined caller) m = left caller m
+after_act (Leave caller arrays funs) m = record (left caller m) { arrays = arrays; funs = funs }
+after_act (Assign i) m = done (change (λ s. record s { locals = slice_set s.locals i m.value })) m
+after_act Drop m = with_value m nothing
+after_act Answer m = done (change (λ s. record s { answer = m.value })) m
+after_act (SendTo event vs delay) m = sent event vs delay (At m.value.value) m
+after_act (SendAfter event vs to) m = sent event vs m.value.value to m
+after_act (SendEach event vs members) m = sent_to_each event vs m.value.value members.now m
+
 abbrev pub after_task : Task → Machine → Machine
 after_task (Value e) m = valued (value_of e.now) m
-after_task (Un op) m = with_value m (unary op m.value)
 after_task (BinLeft op b) m = second_operand (binary op) b.now m
-after_task (BinRight op a) m = with_value m (binary op a m.value)
 after_task (CmpLeft op b) m = second_operand (comparison op) b.now m
-after_task (CmpRight op a) m = with_value m (comparison op a m.value)
-after_task (Cast w) m = with_value m (bits_of w m.value.value)
 after_task (TouchIndex t) m = touch_at t.now m
 after_task (TouchGet t i) m = touch_with t.now i m
-after_task (TouchSet t i g) m = touch_now t.now i g m
 after_task (Next vs rest purpose) m = listed (vs ++ m.value ∷ []) rest.now purpose m
 after_task (Given held i rest stmts) m = inlined (held ++ (i, m.value) ∷ []) rest.now stmts.now m
-after_task (LeaveInlined caller) m = left caller m
-after_task (Leave caller arrays funs) m = record (left caller m) { arrays = arrays; funs = funs }
 after_task (Block ss) m = ran ss.now m
-after_task (Assign i) m = done (change (λ s. record s { locals = slice_set s.locals i m.value })) m
-after_task Drop m = with_value m nothing
-after_task Answer m = done (change (λ s. record s { answer = m.value })) m
 after_task (Choose ss ts) m = ran (if nat_eq m.value.value 0 then ts.now else ss.now) m
 after_task (DelayThenTarget event vs to) m = target_last event vs to.now m
 after_task (TargetThenDelay event vs delay) m = delay_last event vs delay.now m
-after_task (SendTo event vs delay) m = sent event vs delay (At m.value.value) m
-after_task (SendAfter event vs to) m = sent event vs m.value.value to m
-after_task (SendEach event vs members) m = sent_to_each event vs m.value.value members.now m
+after_task (Last act) m = after_act act m
 
 -- The machine after all tasks, the first one first.
 abbrev pub after_all : List Task → Machine → Machine

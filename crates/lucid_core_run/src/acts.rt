@@ -1,18 +1,96 @@
-// What a task does to the machine if nothing of it remains.
+// Acts: the ends of tasks, of which nothing remains.
 ghost use Rattle.std.specs.Prelude.{◌≡◌, ◌∷◌, ◌++◌, [], OnOk, OnErr, map, slice_set};
 ghost use Rattle.lucid_core.specs.Computations.{array_of, change, send as send_outs};
 ghost use Rattle.lucid_core.specs.Meaning.{generated};
 ghost use Rattle.lucid_base.specs.declared.event.Target.TheVariants.{At};
 ghost use Rattle.lucid_core_run.specs.Running.{out_of, with_state};
-ghost use Rattle.lucid_core_run.specs.Interpret.{done, left, sent_to_each, touch_now};
+ghost use Rattle.lucid_core_run.specs.Interpret.{after_act, done, left, sent, sent_to_each, touch_now, with_value};
 
 use crate::draft::Draft;
 use crate::machine::Machine;
-use crate::operate::nothing;
+use crate::operate::{binary, comparison, nothing, unary};
 use crate::run::{Caller, Run};
+use crate::task::Act;
 use lucid_base::{ArrayName, Bits, Items, Memory, Target};
 use lucid_core::Touch;
 use std::alloc::Global;
+
+/// Ends an expression, a statement or a body whose operands are evaluated.
+pub fn end<'a>(machine: &mut Machine<'a>, act: Act<'a>) -> Result<(), Memory>
+    ensures acted { OnOk result (machine.new ≡ after_act act.entry machine.old) }
+    ensures start { machine.new.run.start ≡ machine.old.run.start }
+{
+    let value = machine.value;
+    match act {
+        Act::Un(op) => set(machine, unary(op, value)),
+        Act::BinRight(op, a) => set(machine, binary(op, a, value)),
+        Act::CmpRight(op, a) => set(machine, comparison(op, a, value)),
+        Act::Cast(width) => set(machine, Bits::low(width, value.value)),
+        Act::TouchSet(t, index, get_arg) => touch(machine, t, index, get_arg),
+        Act::LeaveInlined(caller) => {
+            leave(machine, caller);
+            Ok(())
+        }
+        Act::Leave {
+            caller,
+            arrays,
+            funs,
+        } => {
+            leave(machine, caller);
+            machine.arrays = arrays;
+            machine.funs = funs;
+            Ok(())
+        }
+        Act::Assign(local) => {
+            assign(machine, local);
+            Ok(())
+        }
+        Act::Drop => set(machine, nothing()),
+        Act::Answer => {
+            answer(machine);
+            Ok(())
+        }
+        Act::SendTo { event, args, delay } => {
+            send_event(machine, event, args, delay, Target::At(value.value))
+        }
+        Act::SendAfter { event, args, to } => send_event(machine, event, args, value.value, to),
+        Act::SendEach {
+            event,
+            args,
+            members,
+        } => send_to_each(machine, event, args, value.value, members),
+    }
+}
+
+/// Sets the value.
+fn set(machine: &mut Machine, value: Bits) -> Result<(), Memory>
+    ensures { machine.new ≡ with_value machine.old value }
+{
+    machine.value = value;
+    Ok(())
+}
+
+/// Sends an event.
+pub fn send_event(
+    machine: &mut Machine,
+    event: u32,
+    args: Items<Bits>,
+    delay: u64,
+    to: Target,
+) -> Result<(), Memory>
+    ensures sent { OnOk result (machine.new ≡ sent event args delay to machine.old) }
+    ensures start { machine.new.run.start ≡ machine.old.run.start }
+{
+    send(
+        machine,
+        Draft::Gen {
+            event,
+            args,
+            delay,
+            to,
+        },
+    )
+}
 
 /// Sends out what a statement makes.
 pub fn send(machine: &mut Machine, draft: Draft) -> Result<(), Memory>

@@ -1,17 +1,15 @@
 // The interpreter: does tasks until none remains. Nothing in it recurses, so a run takes the same stack however deep its calls are.
-ghost use Rattle.std.specs.Prelude.{◌≡◌, ◌++◌, ◌∷◌, [], IfOk, OnOk, if◌then◌else◌, nat_eq};
+ghost use Rattle.std.specs.Prelude.{◌≡◌, ◌++◌, ◌∷◌, [], OnOk, if◌then◌else◌, nat_eq};
 ghost use Rattle.lucid_core.specs.Meaning.{effect_of};
 ghost use Rattle.lucid_core_run.specs.Interpret.{Leads, after_all, after_task, done, inlined, listed, ran};
 
-use crate::acts::{answer, assign, leave, send, send_to_each, touch};
-use crate::draft::Draft;
-use crate::evaluate::{
-    begin, bin_right, cmp_right, evaluate, evaluate_at_once, touch_get, touch_index,
-};
+use crate::acts::end;
+use crate::at_once::run_block;
+use crate::evaluate::{begin, bin_right, cmp_right, evaluate, touch_get, touch_index};
 use crate::list::{list, next, next_given};
 use crate::machine::Machine;
-use crate::operate::{binary, comparison, nothing, unary};
-use crate::task::{Purpose, Task};
+use crate::operate::nothing;
+use crate::task::{Act, Purpose, Task};
 use crate::tasks::Tasks;
 use lucid_base::{Bits, Items, Memory, Target};
 use lucid_core::{Expr, Stmt};
@@ -22,7 +20,7 @@ pub fn run_body<'a>(machine: &mut Machine<'a>, body: &'a [Stmt]) -> Result<(), M
     ensures start { machine.new.run.start ≡ machine.old.run.start }
 {
     let mut tasks = Tasks::new(machine.alloc);
-    tasks.push(Task::Block(body))?;
+    block(&mut tasks, machine, body)?;
     // No run does this many tasks.
     for _ in 0..u64::MAX {
         let Some(task) = tasks.pop() else {
@@ -39,30 +37,10 @@ fn step<'a>(tasks: &mut Tasks<'a>, machine: &mut Machine<'a>, task: Task<'a>) ->
 {
     match task {
         Task::Value(e) => begin(tasks, machine, e),
-        Task::Un(op) => {
-            machine.value = unary(op, machine.value);
-            Ok(())
-        }
         Task::BinLeft(op, b) => bin_right(tasks, machine, op, b),
-        Task::BinRight(op, a) => {
-            machine.value = binary(op, a, machine.value);
-            Ok(())
-        }
         Task::CmpLeft(op, b) => cmp_right(tasks, machine, op, b),
-        Task::CmpRight(op, a) => {
-            machine.value = comparison(op, a, machine.value);
-            Ok(())
-        }
-        Task::Cast(width) => {
-            machine.value = Bits::low(width, machine.value.value);
-            Ok(())
-        }
         Task::TouchIndex(t) => touch_index(tasks, machine, t),
         Task::TouchGet(t, index) => touch_get(tasks, machine, t, index),
-        Task::TouchSet(t, index, get_arg) => {
-            touch(machine, t, index, get_arg)?;
-            Ok(())
-        }
         Task::Next {
             done,
             rest,
@@ -74,83 +52,20 @@ fn step<'a>(tasks: &mut Tasks<'a>, machine: &mut Machine<'a>, task: Task<'a>) ->
             rest,
             stmts,
         } => go_on_given(tasks, machine, held, local, rest, stmts),
-        Task::LeaveInlined(caller) => {
-            leave(machine, caller);
-            Ok(())
-        }
-        Task::Leave {
-            caller,
-            arrays,
-            funs,
-        } => {
-            leave(machine, caller);
-            machine.arrays = arrays;
-            machine.funs = funs;
-            Ok(())
-        }
         Task::Block(stmts) => block(tasks, machine, stmts),
-        Task::Assign(local) => {
-            assign(machine, local);
-            Ok(())
-        }
-        Task::Drop => {
-            machine.value = nothing();
-            Ok(())
-        }
-        Task::Answer => {
-            answer(machine);
-            Ok(())
-        }
         Task::Choose(yes, no) => choose(tasks, machine, yes, no),
         Task::DelayThenTarget { event, args, to } => {
-            tasks.push(Task::SendTo {
-                event,
-                args,
-                delay: machine.value.value,
-            })?;
+            let delay = machine.value.value;
+            tasks.push(Task::Last(Act::SendTo { event, args, delay }))?;
             evaluate(tasks, machine, to)
         }
         Task::TargetThenDelay { event, args, delay } => {
-            tasks.push(Task::SendAfter {
-                event,
-                args,
-                to: Target::At(machine.value.value),
-            })?;
+            let to = Target::At(machine.value.value);
+            tasks.push(Task::Last(Act::SendAfter { event, args, to }))?;
             evaluate(tasks, machine, delay)
         }
-        Task::SendTo { event, args, delay } => {
-            let to = Target::At(machine.value.value);
-            send(
-                machine,
-                Draft::Gen {
-                    event,
-                    args,
-                    delay,
-                    to,
-                },
-            )?;
-            Ok(())
-        }
-        Task::SendAfter { event, args, to } => {
-            let delay = machine.value.value;
-            send(
-                machine,
-                Draft::Gen {
-                    event,
-                    args,
-                    delay,
-                    to,
-                },
-            )?;
-            Ok(())
-        }
-        Task::SendEach {
-            event,
-            args,
-            members,
-        } => {
-            let delay = machine.value.value;
-            send_to_each(machine, event, args, delay, members)?;
+        Task::Last(last) => {
+            end(machine, last)?;
             Ok(())
         }
     }
@@ -211,44 +126,37 @@ fn block<'a>(
 ) -> Result<(), Memory>
     ensures { Leads (after_all tasks.old (ran stmts.now machine.old)) machine.old.run.start tasks.new machine.new result }
 {
+    let (inner, outer) = run_block(machine, stmts)?;
+    match inner.split_first() {
+        None => begin_block(tasks, machine, outer),
+        Some((stmt, rest)) => {
+            tasks.push(Task::Block(outer))?;
+            tasks.push(Task::Block(rest))?;
+            statement(tasks, machine, stmt)
+        }
+    }
+}
+
+/// Begins a block whose first statement takes a task.
+fn begin_block<'a>(
+    tasks: &mut Tasks<'a>,
+    machine: &mut Machine<'a>,
+    stmts: &'a [Stmt],
+) -> Result<(), Memory>
+    ensures { Leads (after_all tasks.old (ran stmts.now machine.old)) machine.old.run.start tasks.new machine.new result }
+{
     match stmts.split_first() {
         None => {
             machine.value = nothing();
             Ok(())
         }
-        Some((stmt, rest)) => {
-            let is_done = run_at_once(machine, stmt)?;
-            tasks.push(Task::Block(rest))?;
-            if is_done {
-                Ok(())
-            } else {
+        Some((stmt, rest)) => match rest.split_first() {
+            None => statement(tasks, machine, stmt),
+            Some(_) => {
+                tasks.push(Task::Block(rest))?;
                 statement(tasks, machine, stmt)
             }
-        }
-    }
-}
-
-/// Runs a statement whose value takes no task, and returns whether it is one.
-fn run_at_once(machine: &mut Machine, stmt: &Stmt) -> Result<bool, Memory>
-    ensures state { IfOk result (λ is_done. machine.new ≡ (if is_done then done (effect_of stmt.now) machine.old else machine.old)) }
-    ensures start { machine.new.run.start ≡ machine.old.run.start }
-{
-    match stmt {
-        Stmt::Assign(i, e) => {
-            let is_done = evaluate_at_once(machine, e)?;
-            if is_done {
-                assign(machine, *i);
-            }
-            Ok(is_done)
-        }
-        Stmt::Drop(e) => {
-            let is_done = evaluate_at_once(machine, e)?;
-            if is_done {
-                machine.value = nothing();
-            }
-            Ok(is_done)
-        }
-        _ => Ok(false),
+        },
     }
 }
 
@@ -262,11 +170,11 @@ fn statement<'a>(
 {
     match stmt {
         Stmt::Assign(i, e) => {
-            tasks.push(Task::Assign(*i))?;
+            tasks.push(Task::Last(Act::Assign(*i)))?;
             evaluate(tasks, machine, e)
         }
         Stmt::Drop(e) => {
-            tasks.push(Task::Drop)?;
+            tasks.push(Task::Last(Act::Drop))?;
             evaluate(tasks, machine, e)
         }
         Stmt::If(e, yes, no) => {
@@ -310,7 +218,7 @@ fn statement<'a>(
             Ok(())
         }
         Stmt::Return(Some(e)) => {
-            tasks.push(Task::Answer)?;
+            tasks.push(Task::Last(Act::Answer))?;
             evaluate(tasks, machine, e)
         }
     }

@@ -5,6 +5,7 @@
 #![tactic(auto)]
 
 mod acts;
+mod at_once;
 mod draft;
 mod evaluate;
 mod interpret;

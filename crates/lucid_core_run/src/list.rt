@@ -6,12 +6,13 @@ ghost use Rattle.lucid_core.specs.Meaning.{call as call_of, effect_of, expr_step
 ghost use Rattle.lucid_core.specs.declared.body.Expr.TheOpen.{Expr-F};
 ghost use Rattle.lucid_core_run.specs.Interpret.{Leads, after_all, generated_with, inlined, listed, sent_after, used, valued};
 
-use crate::acts::{array_at, send, send_to_each};
+use crate::acts::{array_at, send, send_event, send_to_each};
+use crate::at_once::{append_given, append_values, delay_at_once, target_at_once, values_at_once};
 use crate::draft::Draft;
 use crate::evaluate::evaluate;
 use crate::machine::Machine;
 use crate::operate::{hashed, nothing};
-use crate::task::{Purpose, Task};
+use crate::task::{Act, Purpose, Task};
 use crate::tasks::Tasks;
 use lucid_base::{ArrayName, Bits, Items, Memory, Target, Width};
 use lucid_core::{Expr, FunDef, Stmt};
@@ -19,6 +20,7 @@ use std::alloc::Global;
 use std::mem;
 
 /// Evaluates expressions from left to right, into a list with capacity for at least this many values.
+#[tactic(auto, using(crate::proofs::AtOnceLemmas::listed_now))]
 pub fn list<'a>(
     tasks: &mut Tasks<'a>,
     machine: &mut Machine<'a>,
@@ -28,8 +30,14 @@ pub fn list<'a>(
 ) -> Result<(), Memory>
     ensures { Leads (after_all tasks.old (listed [] es.now purpose.now machine.old)) machine.old.run.start tasks.new machine.new result }
 {
-    let values = Items::from_vec(Vec::with_capacity(machine.alloc, least.max(es.len()))?);
-    next(tasks, machine, values, es, purpose)
+    let most = least.max(es.len());
+    match values_at_once(machine, es, most)? {
+        Some(values) => complete(tasks, machine, values, purpose),
+        None => {
+            let values = Items::from_vec(Vec::with_capacity(machine.alloc, most)?);
+            next(tasks, machine, values, es, purpose)
+        }
+    }
 }
 
 /// Evaluates the rest of a list, after these values.
@@ -42,6 +50,8 @@ pub fn next<'a>(
 ) -> Result<(), Memory>
     ensures { Leads (after_all tasks.old (listed values rest.now purpose.now machine.old)) machine.old.run.start tasks.new machine.new result }
 {
+    let mut values = values;
+    let rest = append_values(machine, &mut values, rest)?;
     match rest.split_first() {
         None => complete(tasks, machine, values, purpose),
         Some((e, rest)) => {
@@ -156,11 +166,11 @@ fn call<'a>(
             let caller = machine.run.enter(locals);
             let arrays = mem::replace(&mut machine.arrays, arrays);
             machine.funs = before;
-            tasks.push(Task::Leave {
+            tasks.push(Task::Last(Act::Leave {
                 caller,
                 arrays,
                 funs,
-            })?;
+            }))?;
             tasks.push(Task::Block(f.body.as_slice()))?;
             Ok(())
         }
@@ -168,7 +178,29 @@ fn call<'a>(
 }
 
 /// Sends an event with its delay and its target, in the order in which they are written. Missing ones are 0 and here.
+#[tactic(auto, using(crate::proofs::AtOnceLemmas::generated_given))]
 fn generate<'a>(
+    tasks: &mut Tasks<'a>,
+    machine: &mut Machine<'a>,
+    event: u32,
+    args: Items<Bits>,
+    delay: &'a Option<Expr>,
+    to: &'a Option<Expr>,
+    delay_first: bool,
+) -> Result<(), Memory>
+    ensures { Leads (after_all tasks.old (generated_with event args delay.now to.now delay_first machine.old)) machine.old.run.start tasks.new machine.new result }
+{
+    match (delay_at_once(machine, delay), target_at_once(machine, to)) {
+        (Some(delay), Some(to)) => {
+            send_event(machine, event, args, delay, to)?;
+            Ok(())
+        }
+        _ => generate_later(tasks, machine, event, args, delay, to, delay_first),
+    }
+}
+
+/// Begins the delay and the target of an event, of which one takes a task.
+fn generate_later<'a>(
     tasks: &mut Tasks<'a>,
     machine: &mut Machine<'a>,
     event: u32,
@@ -181,31 +213,18 @@ fn generate<'a>(
 {
     match (delay, to) {
         (None, None) => {
-            send(
-                machine,
-                Draft::Gen {
-                    event,
-                    args,
-                    delay: 0,
-                    to: Target::Here,
-                },
-            )?;
+            let (delay, to) = (0, Target::Here);
+            send_event(machine, event, args, delay, to)?;
             Ok(())
         }
         (Some(delay), None) => {
-            tasks.push(Task::SendAfter {
-                event,
-                args,
-                to: Target::Here,
-            })?;
+            let to = Target::Here;
+            tasks.push(Task::Last(Act::SendAfter { event, args, to }))?;
             evaluate(tasks, machine, delay)
         }
         (None, Some(to)) => {
-            tasks.push(Task::SendTo {
-                event,
-                args,
-                delay: 0,
-            })?;
+            let delay = 0;
+            tasks.push(Task::Last(Act::SendTo { event, args, delay }))?;
             evaluate(tasks, machine, to)
         }
         (Some(delay), Some(to)) => {
@@ -237,11 +256,11 @@ fn generate_for_all<'a>(
             Ok(())
         }
         Some(delay) => {
-            tasks.push(Task::SendEach {
+            tasks.push(Task::Last(Act::SendEach {
                 event,
                 args,
                 members,
-            })?;
+            }))?;
             evaluate(tasks, machine, delay)
         }
     }
@@ -270,6 +289,8 @@ pub fn next_given<'a>(
 ) -> Result<(), Memory>
     ensures { Leads (after_all tasks.old (inlined held rest.now stmts.now machine.old)) machine.old.run.start tasks.new machine.new result }
 {
+    let mut held = held;
+    let rest = append_given(machine, &mut held, rest)?;
     match rest.split_first() {
         None => enter_inlined(tasks, machine, held, stmts),
         Some((first, rest)) => {
@@ -295,7 +316,7 @@ fn enter_inlined<'a>(
     let mut locals = machine.run.copy_locals(machine.alloc)?;
     hold(&mut locals, held.as_slice());
     let caller = machine.run.enter(locals);
-    tasks.push(Task::LeaveInlined(caller))?;
+    tasks.push(Task::Last(Act::LeaveInlined(caller)))?;
     tasks.push(Task::Block(stmts))?;
     Ok(())
 }

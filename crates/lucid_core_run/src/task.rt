@@ -8,20 +8,13 @@ use lucid_core::{Expr, FunDef, Stmt, Touch};
 pub enum Task<'a> {
     /// Evaluates an expression.
     Value(&'a Expr),
-    Un(UnOp),
     /// The first operand is evaluated, the second is not.
     BinLeft(BinOp, &'a Expr),
-    /// Both operands are evaluated; this is the first.
-    BinRight(BinOp, Bits),
     CmpLeft(CmpOp, &'a Expr),
-    CmpRight(CmpOp, Bits),
-    Cast(Width),
     /// The index of a call of an array is evaluated.
     TouchIndex(&'a Touch),
     /// The argument of its first memop is evaluated, too. This is the index.
     TouchGet(&'a Touch, u64),
-    /// The arguments of both memops are evaluated. These are the index and the argument of the first.
-    TouchSet(&'a Touch, u64, Bits),
     /// Evaluates the rest of a list, after the values that are done and the last one.
     Next {
         done: Items<Bits>,
@@ -35,20 +28,8 @@ pub enum Task<'a> {
         rest: &'a [(u32, Expr)],
         stmts: &'a [Stmt],
     },
-    /// Ends an inlined call.
-    LeaveInlined(Caller),
-    /// Ends a call. The caller's arrays and functions are in force again.
-    Leave {
-        caller: Caller,
-        arrays: Items<u32>,
-        funs: &'a [FunDef],
-    },
     /// Runs the rest of a block.
     Block(&'a [Stmt]),
-    Assign(u32),
-    /// Drops the value.
-    Drop,
-    Answer,
     /// Runs the first block if the value isn't 0, otherwise the second.
     Choose(&'a [Stmt], &'a [Stmt]),
     /// The delay of an event is evaluated, its target is not.
@@ -63,6 +44,32 @@ pub enum Task<'a> {
         args: Items<Bits>,
         delay: &'a Expr,
     },
+    /// All operands are evaluated.
+    Last(Act<'a>),
+}
+
+/// The end of an expression, a statement or a body: no operand of it remains.
+#[derive(Drop)]
+pub enum Act<'a> {
+    Un(UnOp),
+    /// This is the first operand.
+    BinRight(BinOp, Bits),
+    CmpRight(CmpOp, Bits),
+    Cast(Width),
+    /// These are the index and the argument of the first memop.
+    TouchSet(&'a Touch, u64, Bits),
+    /// Ends an inlined call.
+    LeaveInlined(Caller),
+    /// Ends a call. The caller's arrays and functions are in force again.
+    Leave {
+        caller: Caller,
+        arrays: Items<u32>,
+        funs: &'a [FunDef],
+    },
+    Assign(u32),
+    /// Drops the value.
+    Drop,
+    Answer,
     /// The target of an event is evaluated.
     SendTo {
         event: u32,
