@@ -1,4 +1,5 @@
 pub mod Assigned
+pub mod Body
 pub mod Children
 pub mod Computations
 pub mod Endings

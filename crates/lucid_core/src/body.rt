@@ -1,4 +1,7 @@
 // Bodies: the statements and expressions of handlers and functions. Every width is written and every name is a number.
+ghost use Rattle.std.specs.Prelude.{IfSome};
+ghost use Rattle.lucid_core.specs.Body.{HasBranches};
+
 use lucid_base::{ArrayName, BinOp, Bits, Boxed, CmpOp, Items, MemAlu, UnOp, Width};
 
 /// A statement. Events, texts and locals go by their numbers.
@@ -50,13 +53,29 @@ pub(crate) fn give_back(stmts: Items<Stmt>) {
 #[cycle(give_back)]
 fn give_stmt_back(stmt: Stmt) {
     let mut left = stmt;
-    while let Stmt::If(_, yes, mut no) = left {
+    while let Some((yes, mut no)) = branches(left) {
         give_back(yes);
         let Some(last) = no.pop() else {
             return;
         };
         give_back(no);
         left = last;
+    }
+}
+
+/// The branches of an `If`. Drops the rest of the statement.
+fn branches(stmt: Stmt) -> Option<(Items<Stmt>, Items<Stmt>)>
+    ensures { IfSome result (λ both. HasBranches stmt both.0 both.1) }
+{
+    match stmt {
+        Stmt::If(test, yes, no) => {
+            drop(test);
+            Some((yes, no))
+        }
+        other => {
+            drop(other);
+            None
+        }
     }
 }
 
