@@ -8,14 +8,12 @@ ghost use Rattle.lucid_stages.specs.Marks.{Within};
 ghost use Rattle.lucid_layout.specs.Find.{Takes, TakesNone, Unplaced};
 
 use crate::FitError;
+use crate::filling::{Filling, bare_stages, empty_stages, sit};
 use crate::find::find;
 use lucid_base::{Items, Memory};
 use lucid_code::Code;
 use lucid_conf::Limits;
-use lucid_refusals::Known;
-use lucid_stages::{
-    Pair, Stage, Work, any_past, empty_stages, ends, floor_of, no_marks, node_table, raise, sit,
-};
+use lucid_stages::{Pair, Stage, Work, any_past, ends, floor_of, no_marks, node_table, raise};
 use lucid_tables::Table;
 use std::alloc::Global;
 
@@ -30,19 +28,19 @@ pub(crate) struct Layout {
 /// writes it, and `low` the first stage above all nodes that have their places and write it.
 fn next(
     alloc: Global,
-    known: &mut Known,
     code: &Code,
     node: &Work,
     at: u32,
     ends: &[u32],
     low: &[u32],
-    stages: &[Stage],
+    stages: &mut Vec<Filling>,
     limits: &Limits,
 ) -> Result<Option<(Pair, Table)>, Memory>
     requires ops { Within (length code.now.ops) node.now.ops }
-    requires stages { length stages.now ≡ limits.now.stages }
-    ensures none { result ≡ Ok None → TakesNone code.now.ops limits.now ends.now low.now stages.now node.now at }
-    ensures some { IfOk result (λ o. IfSome o (λ x. Takes code.now.ops limits.now ends.now low.now stages.now node.now at x.0 x.1)) }
+    requires stages { length stages.old.items ≡ limits.now.stages }
+    ensures same { stages.new.items ≡ stages.old.items }
+    ensures none { result ≡ Ok None → TakesNone code.now.ops limits.now ends.now low.now stages.old.items node.now at }
+    ensures some { IfOk result (λ o. IfSome o (λ x. Takes code.now.ops limits.now ends.now low.now stages.old.items node.now at x.0 x.1)) }
 {
     if any_past(ends, node.reads.as_slice(), at) {
         return Ok(None);
@@ -51,7 +49,7 @@ fn next(
         None => Ok(None),
         Some(table) => {
             let low = floor_of(low, node.reads.as_slice());
-            find(alloc, known, stages, low, node.is_array, &table, limits)
+            find(alloc, stages, low, node.is_array, &table, limits)
         }
     }
 }
@@ -75,19 +73,17 @@ pub(crate) fn fit(
     let ends = ends(alloc, nodes, fields)?;
     let mut low = no_marks(alloc, fields)?;
     let mut stages = empty_stages(alloc, limits.stages)?;
-    let mut known = Known::new(alloc, limits.stages)?;
     let mut pairs = Items::new(alloc);
     for (at, node) in nodes.iter().enumerate() {
         let at = at as u32;
         match next(
             alloc,
-            &mut known,
             code,
             node,
             at,
             ends.as_slice(),
             low.as_slice(),
-            stages.as_slice(),
+            &mut stages,
             limits,
         )? {
             None => return Err(FitError::Node(at)),
@@ -98,5 +94,6 @@ pub(crate) fn fit(
             }
         }
     }
+    let stages = bare_stages(alloc, stages)?;
     Ok(Layout { pairs, stages })
 }

@@ -1,8 +1,8 @@
 -- The refusals of a table that are remembered are true of it.
-use Rattle.std.proofs.Common.{◌≡◌, ℕ, zero, suc, ◌+◌, ◌<◌, ◌≤◌, List, [], ◌∷◌, ◌++◌, Bool, true, false, ◌||◌, cond, length, map, take, slice_index_or, refl, sym, ap, ◌∙◌, ⊎_elim, arith}
+use Rattle.std.proofs.Common.{◌≡◌, ℕ, ◌<◌, List, [], ◌∷◌, ◌++◌, Bool, true, false, ◌||◌, cond, length, map, slice_index_or, refl, sym, ap, ◌∙◌, ⊎_elim, arith}
 use Rattle.std.specs.List.{flat_map, list_any}
 use Rattle.std.proofs.lemmas.Bool.{or_cases, or_left, or_right, true≢false, false_from_ne_true}
-use Rattle.std.proofs.lemmas.List.{length-map, take_more_same, take_all}
+use Rattle.std.proofs.lemmas.List.{length-map}
 use Rattle.std.proofs.lemmas.List.Folds.{list_any-append, list_any_at}
 use Rattle.lucid_code.specs.declared.op.Literal.{Literal}
 use Rattle.lucid_code.specs.Guards.{opposed, contradict}
@@ -145,20 +145,6 @@ refuses counted rows patterns fields shape a more e f s h b c g i =
 numbers_append : (xs more rest : List ℕ) → with_numbers xs (more ++ rest) ≡ with_numbers (with_numbers xs more) rest
 numbers_append xs [] rest = refl
 numbers_append xs (k ∷ more) rest = numbers_append (with_number xs k) more rest
-
--- ---- patterns one by one
-
-pattern_at : (rows : List Row) (at : ℕ) (r : Row) (d : List Literal) → at < length rows → r ≡ slice_index_or rows at r → slice_index_or (patterns_of rows) at d ≡ r.pattern
-pattern_at [] at r d h e = absurd (omega (arith, h))
-pattern_at (q ∷ rows) zero r d h e = ap (λ (r : Row). r.pattern) (sym e)
-pattern_at (q ∷ rows) (suc at) r d h e = pattern_at rows at r d (omega (arith, h)) e
-
-pub patterns_turn : (rows : List Row) (patterns : List (List Literal)) (at : ℕ) (r : Row) (p : List Literal) → length patterns ≡ length rows → at < length rows → r ≡ slice_index_or rows at r → p ≡ slice_index_or patterns at p → r.pattern ≡ p →
-    take at (patterns_of rows) ≡ take at patterns → take (at + 1) (patterns_of rows) ≡ take (at + 1) patterns
-patterns_turn rows patterns at r p l h e f same t = take_more_same (patterns_of rows) patterns at p (omega (arith, length-map rows (λ (r : Row). r.pattern), h)) (omega (arith, h, l)) t (pattern_at rows at r p h e ∙ same ∙ f)
-
-pub patterns_end : (rows : List Row) (patterns : List (List Literal)) (at : ℕ) → length patterns ≡ length rows → length rows ≤ at → take at (patterns_of rows) ≡ take at patterns → patterns_of rows ≡ patterns
-patterns_end rows patterns at l h t = sym (take_all at (patterns_of rows) (omega (arith, length-map rows (λ (r : Row). r.pattern), h))) ∙ t ∙ take_all at patterns (omega (arith, h, l))
 
 pub more_fields : (p : List Literal) (ps : List (List Literal)) (xs : List ℕ) →
     with_numbers xs (flat_map (λ p. map (λ (l : Literal). l.field) p) (p ∷ ps)) ≡ with_numbers (with_numbers xs (map (λ (l : Literal). l.field) p)) (flat_map (λ p. map (λ (l : Literal). l.field) p) ps)

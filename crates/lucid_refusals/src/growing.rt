@@ -1,5 +1,5 @@
 // Tables that grow: the shapes of the rows that a table refused are remembered, so that nothing is merged in vain again.
-ghost use Rattle.std.specs.Prelude.{◌≡◌, ◌<◌, length, IfOk, IsTrue};
+ghost use Rattle.std.specs.Prelude.{◌≡◌, ◌<◌, length, IfOk, IfSome, IsTrue};
 ghost use Rattle.lucid_merge.specs.Product.{product, within};
 ghost use Rattle.lucid_merge.specs.RowCounts.{patterns_of};
 ghost use Rattle.lucid_refusals.specs.Refusal.{Refuses};
@@ -7,12 +7,13 @@ ghost use Rattle.lucid_refusals.specs.Refusal.{Refuses};
 use crate::implying::implies;
 use crate::literals::literals_of;
 use crate::refusal::Refusals;
-use crate::shape::{fields_of, patterns_of, same_patterns, shape_of};
+use crate::shape::{fields_of, patterns_of, shape_of};
 use lucid_base::{Items, Memory};
 use lucid_code::Literal;
 use lucid_merge::{merge, rows_are_counted};
 use lucid_tables::{Row, Table};
 use std::alloc::Global;
+use std::marker::Model;
 
 /// Returns whether a remembered refusal implies that the table refuses this shape.
 fn refuses_shape(alloc: Global, known: &Refusals, shape: &[Items<Literal>]) -> Result<bool, Memory>
@@ -37,6 +38,7 @@ fn is_refused(
     more: &[Row],
     rows: usize,
 ) -> Result<bool, Memory>
+    requires { IfSome known.now (λ k. patterns_of table.now ≡ k.patterns) }
     ensures { IfOk result (λ r. IsTrue r → rows < length (product table.now more.now)) }
 {
     match known {
@@ -45,18 +47,14 @@ fn is_refused(
     }
 }
 
-/// Returns whether these are refusals of this table for this number of rows.
-fn are_of(known: &Refusals, table: &[Row], rows: usize) -> bool
-    ensures rows { IsTrue result → known.now.rows ≡ rows }
-    ensures patterns { IsTrue result → patterns_of table.now ≡ known.now.patterns }
+/// Returns whether these are refusals for this number of rows.
+fn are_for(known: &Refusals, rows: usize) -> bool
+    ensures { IsTrue result → known.now.rows ≡ rows }
 {
-    if known.rows != rows {
-        return false;
-    }
-    same_patterns(known.patterns.as_slice(), table)
+    known.rows == rows
 }
 
-/// Returns whether these refusals are of this table, and one implies that it has more than `rows` rows with these.
+/// Returns whether these refusals of a table are for this number of rows, and one implies that it has more than `rows` rows with these.
 fn refuses(
     alloc: Global,
     known: &Refusals,
@@ -64,9 +62,10 @@ fn refuses(
     more: &[Row],
     rows: usize,
 ) -> Result<bool, Memory>
+    requires { patterns_of table.now ≡ known.now.patterns }
     ensures { IfOk result (λ r. IsTrue r → rows < length (product table.now more.now)) }
 {
-    if !are_of(known, table, rows) {
+    if !are_for(known, rows) {
         return Ok(false);
     }
     if !are_short(more) {
@@ -107,20 +106,21 @@ fn no_refusals(alloc: Global, table: &[Row], rows: usize) -> Result<Refusals, Me
     })
 }
 
-/// The known refusals if they are of this table and are fewer than 64, and otherwise none yet.
+/// The known refusals of a table if they are for this number of rows and are fewer than 64, and otherwise none yet.
 fn refusals_of(
     alloc: Global,
     known: Option<Refusals>,
     table: &[Row],
     rows: usize,
 ) -> Result<Refusals, Memory>
+    requires { IfSome known (λ k. patterns_of table.now ≡ k.patterns) }
     ensures rows { IfOk result (λ known. known.rows ≡ rows) }
     ensures patterns { IfOk result (λ known. patterns_of table.now ≡ known.patterns) }
 {
     let Some(known) = known else {
         return no_refusals(alloc, table, rows);
     };
-    if known.shapes.len() < 64 && are_of(&known, table, rows) {
+    if known.shapes.len() < 64 && are_for(&known, rows) {
         return Ok(known);
     }
     no_refusals(alloc, table, rows)
@@ -135,6 +135,7 @@ fn with_refusal(
 ) -> Result<Refusals, Memory>
     requires refused { known.rows < length (product table.now more.now) }
     requires patterns { patterns_of table.now ≡ known.patterns }
+    ensures { IfOk result (λ known. patterns_of table.now ≡ known.patterns) }
 {
     rows_are_counted();
     let named = known.fields.as_slice();
@@ -156,7 +157,7 @@ fn with_refusal(
     })
 }
 
-/// Remembers that a table has more than `rows` rows with these, if these are short.
+/// Remembers that a table has more than `rows` rows with these, if these are short, beside its known refusals.
 fn remember(
     alloc: Global,
     known: &mut Option<Refusals>,
@@ -164,7 +165,9 @@ fn remember(
     more: &[Row],
     rows: usize,
 ) -> Result<(), Memory>
-    requires { rows < length (product table.now more.now) }
+    requires refused { rows < length (product table.now more.now) }
+    requires patterns { IfSome known.old (λ k. patterns_of table.now ≡ k.patterns) }
+    ensures { IfSome known.new (λ k. patterns_of table.now ≡ k.patterns) }
 {
     if !are_short(more) {
         return Ok(());
@@ -174,7 +177,7 @@ fn remember(
     Ok(())
 }
 
-/// Merges a table with another, if it then has few enough rows; otherwise remembers the refusal.
+/// Merges a table with another, if it then has few enough rows; otherwise remembers the refusal beside the table's known ones.
 fn merged(
     alloc: Global,
     known: &mut Option<Refusals>,
@@ -182,7 +185,9 @@ fn merged(
     more: &Table,
     rows: usize,
 ) -> Result<Option<Table>, Memory>
-    ensures { IfOk result (λ found. found ≡ within rows (product table.now.rows more.now.rows)) }
+    requires { IfSome known.old (λ k. patterns_of table.now.rows ≡ k.patterns) }
+    ensures value { IfOk result (λ found. found ≡ within rows (product table.now.rows more.now.rows)) }
+    ensures known { IfSome known.new (λ k. patterns_of table.now.rows ≡ k.patterns) }
 {
     let own = table.rows.as_slice();
     let others = more.rows.as_slice();
@@ -198,37 +203,51 @@ fn merged(
     }
 }
 
-/// The remembered refusals of each table of each stage, by number.
+/// A table that grows, and the shapes of the rows that it refused. Contracts see the table.
 #[derive(Drop)]
-pub struct Known {
-    tables: Vec<Option<Refusals>>,
+pub struct Grown {
+    table: Table,
+    known: Option<Refusals>,
 }
 
-impl Known {
-    /// No refusals yet, for `stages` stages of 64 tables.
-    pub fn new(alloc: Global, stages: u32) -> Result<Known, Memory> {
-        let mut tables = Vec::new(alloc);
-        for _turn in 0..64 * u64::from(stages) {
-            tables.push(None)?;
-        }
-        Ok(Known { tables })
+impl Model for Grown {
+    ghost use Rattle.std.specs.Prelude.{◌≡◌, IfSome};
+    ghost use Rattle.lucid_tables.specs.declared.table.Table.{Table};
+    ghost use Rattle.lucid_merge.specs.RowCounts.{patterns_of};
+
+    ghost Value = { Table };
+
+    ghost view = { λ g. g.table };
+
+    ghost invariant = { λ g. IfSome g.known (λ k. patterns_of g.table.rows ≡ k.patterns) };
+}
+
+impl Grown {
+    /// Returns a table that refused nothing yet.
+    pub fn new(table: Table) -> Grown
+        ensures { result ≡ table }
+    {
+        Grown { table, known: None }
     }
-}
 
-/// Merges a table of a stage with another, if it then has few enough rows.
-pub fn grow(
-    alloc: Global,
-    known: &mut Known,
-    stage: u32,
-    t: u32,
-    table: &Table,
-    more: &Table,
-    rows: usize,
-) -> Result<Option<Table>, Memory>
-    ensures { IfOk result (λ found. found ≡ within rows (product table.now.rows more.now.rows)) }
-{
-    match known.tables.get_mut(64 * stage as usize + t as usize) {
-        None => merge(alloc, table, more, rows),
-        Some(known) => merged(alloc, known, table, more, rows),
+    /// Returns the table.
+    pub fn into_table(self) -> Table
+        ensures { result ≡ self }
+    {
+        let Grown { table, .. } = self;
+        table
+    }
+
+    /// Merges the table with another, if it then has few enough rows. The table itself stays.
+    pub fn grow(
+        &mut self,
+        alloc: Global,
+        more: &Table,
+        rows: usize,
+    ) -> Result<Option<Table>, Memory>
+        ensures value { IfOk result (λ found. found ≡ within rows (product self.old.rows more.now.rows)) }
+        ensures same { self.new ≡ self.old }
+    {
+        merged(alloc, &mut self.known, &self.table, more, rows)
     }
 }

@@ -67,21 +67,6 @@ pub(crate) fn same_pattern(p: &[Literal], q: &[Literal]) -> bool
     true
 }
 
-/// Whether these are the patterns of the rows.
-pub(crate) fn same_patterns(patterns: &[Items<Literal>], rows: &[Row]) -> bool
-    ensures { IsTrue result → patterns_of rows.now ≡ patterns.now }
-{
-    if patterns.len() != rows.len() {
-        return false;
-    }
-    for at in 0..rows.len() {
-        if !same_pattern(rows[at].pattern.as_slice(), patterns[at].as_slice()) {
-            return false;
-        }
-    }
-    true
-}
-
 /// The fields that the patterns of these rows name, in rising order.
 #[tactic(auto, using(crate::proofs::RefusalLemmas::more_fields))]
 pub(crate) fn fields_of(alloc: Global, rows: &[Row]) -> Result<Vec<u32>, Memory>

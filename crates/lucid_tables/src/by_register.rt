@@ -1,12 +1,13 @@
 // Stages and acts by register, made once for all pipes of a code, so that no pipe looks up the register of a field as it runs.
 ghost use Rattle.std.specs.Prelude.{◌≡◌, length, IfOk};
 ghost use Rattle.std.specs.Option.{option_map};
+ghost use Rattle.lucid_code.specs.declared.op.Act.TheVariants as act;
 ghost use Rattle.lucid_tables.specs.Registers.{registers_of, places_of};
 ghost use Rattle.lucid_tables.specs.ByRegister.{place_of, pattern_by_register, rows_by_register, tables_by_register, stages_by_register, operand_by_register, operands_by_register, act_by_register, acts_by_register};
 
 use crate::registers::register_at;
 use crate::{Row, StageCode, Table};
-use lucid_base::{Items, Memory};
+use lucid_base::{Items, MemAlu, Memory};
 use lucid_code::{Act, Code, Literal, Op, Operand};
 use std::alloc::Global;
 
@@ -111,6 +112,27 @@ fn act_by_register(alloc: Global, numbering: Numbering, act: &Act) -> Result<Act
     ensures { IfOk result (λ it. it ≡ act_by_register numbering.entry.code.now act.now) }
 {
     match act {
+        Act::Hash(xs, k) => {
+            hash_by_register(alloc, numbering, xs.as_slice(), place(numbering, *k))
+        }
+        Act::Gen {
+            slot,
+            event,
+            args,
+            delay,
+            to,
+        } => gen_by_register(
+            alloc,
+            numbering,
+            *slot,
+            *event,
+            args.as_slice(),
+            *delay,
+            *to,
+        ),
+        Act::Say { slot, form, args } => {
+            say_by_register(alloc, numbering, *slot, *form, args.as_slice())
+        }
         Act::Un(op, width, a, k) => Ok(Act::Un(
             *op,
             *width,
@@ -132,10 +154,6 @@ fn act_by_register(alloc: Global, numbering: Numbering, act: &Act) -> Result<Act
             place(numbering, *k),
         )),
         Act::Cast(a, k) => Ok(Act::Cast(operand_by_register(numbering, *a), place(numbering, *k))),
-        Act::Hash(xs, k) => Ok(Act::Hash(
-            operands_by_register(alloc, numbering, xs.as_slice())?,
-            place(numbering, *k),
-        )),
         Act::Move(a, k) => Ok(Act::Move(operand_by_register(numbering, *a), place(numbering, *k))),
         Act::Touch {
             array,
@@ -145,34 +163,80 @@ fn act_by_register(alloc: Global, numbering: Numbering, act: &Act) -> Result<Act
             set,
             set_arg,
             to,
-        } => Ok(Act::Touch {
-            array: *array,
-            index: operand_by_register(numbering, *index),
-            get: *get,
-            get_arg: operand_by_register(numbering, *get_arg),
-            set: *set,
-            set_arg: operand_by_register(numbering, *set_arg),
-            to: written_by_register(numbering, *to),
-        }),
-        Act::Gen {
-            slot,
-            event,
-            args,
-            delay,
-            to,
-        } => Ok(Act::Gen {
-            slot: *slot,
-            event: *event,
-            args: operands_by_register(alloc, numbering, args.as_slice())?,
-            delay: operand_by_register(numbering, *delay),
-            to: target_by_register(numbering, *to),
-        }),
-        Act::Say { slot, form, args } => Ok(Act::Say {
-            slot: *slot,
-            form: *form,
-            args: operands_by_register(alloc, numbering, args.as_slice())?,
-        }),
+        } => Ok(touch_by_register(
+            numbering, *array, *index, *get, *get_arg, *set, *set_arg, *to,
+        )),
     }
+}
+
+fn touch_by_register(
+    numbering: Numbering,
+    array: u32,
+    index: Operand,
+    get: MemAlu,
+    get_arg: Operand,
+    set: MemAlu,
+    set_arg: Operand,
+    to: Option<u32>,
+) -> Act
+    ensures { result ≡ act_by_register numbering.entry.code.now (act.Touch array index get get_arg set set_arg to) }
+{
+    Act::Touch {
+        array,
+        index: operand_by_register(numbering, index),
+        get,
+        get_arg: operand_by_register(numbering, get_arg),
+        set,
+        set_arg: operand_by_register(numbering, set_arg),
+        to: written_by_register(numbering, to),
+    }
+}
+
+fn hash_by_register(
+    alloc: Global,
+    numbering: Numbering,
+    xs: &[Operand],
+    to: u32,
+) -> Result<Act, Memory>
+    ensures { IfOk result (λ it. it ≡ act.Hash (operands_by_register numbering.entry.code.now xs.now) to) }
+{
+    Ok(Act::Hash(operands_by_register(alloc, numbering, xs)?, to))
+}
+
+fn gen_by_register(
+    alloc: Global,
+    numbering: Numbering,
+    slot: u32,
+    event: u32,
+    args: &[Operand],
+    delay: Operand,
+    to: Option<Operand>,
+) -> Result<Act, Memory>
+    ensures { IfOk result (λ it. it ≡ act_by_register numbering.entry.code.now (act.Gen slot event args.now delay to)) }
+{
+    Ok(Act::Gen {
+        slot,
+        event,
+        args: operands_by_register(alloc, numbering, args)?,
+        delay: operand_by_register(numbering, delay),
+        to: target_by_register(numbering, to),
+    })
+}
+
+fn say_by_register(
+    alloc: Global,
+    numbering: Numbering,
+    slot: u32,
+    form: u32,
+    args: &[Operand],
+) -> Result<Act, Memory>
+    ensures { IfOk result (λ it. it ≡ act_by_register numbering.entry.code.now (act.Say slot form args.now)) }
+{
+    Ok(Act::Say {
+        slot,
+        form,
+        args: operands_by_register(alloc, numbering, args)?,
+    })
 }
 
 fn operand_by_register(numbering: Numbering, operand: Operand) -> Operand
