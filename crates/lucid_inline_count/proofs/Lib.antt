@@ -4,3 +4,4 @@ pub mod Agrees
 pub mod LawOfCounts
 pub mod Summing
 pub mod BlocksLemmas
+pub mod HeldLemmas

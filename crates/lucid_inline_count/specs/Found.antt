@@ -123,6 +123,10 @@ either x ss ts r =
 abbrev pub ops : ℕ → Counts
 ops n = counted n n
 
+-- An event that is sent.
+abbrev pub sent : List ExprTally → Option ExprTally → Option ExprTally → List Counts → Counts
+sent xs delay to funs = plus (plus (plus (total xs funs) (optional delay funs)) (optional to funs)) (counted 1 1)
+
 -- A group takes an assignment of each argument and of its delay, and an event to each member.
 abbrev pub group : List ExprTally → Option ExprTally → List ℕ → List Counts → Counts
 group xs delay members funs =
@@ -145,8 +149,7 @@ stmt_step (Stmt-F.If x ss ts) = record {
   returns = any_returns ss || any_returns ts;
   value = any_value ss && any_value ts;
 }
-stmt_step (Stmt-F.Gen event xs delay to delay_first) = plainly (λ funs.
-    plus (plus (plus (total xs funs) (optional delay funs)) (optional to funs)) (counted 1 1))
+stmt_step (Stmt-F.Gen event xs delay to delay_first) = plainly (sent xs delay to)
 stmt_step (Stmt-F.Multi event xs delay members) = plainly (group xs delay members)
 stmt_step (Stmt-F.Say form xs) = plainly (λ funs. plus (total xs funs) (counted 1 1))
 stmt_step (Stmt-F.Return x) = record {

@@ -1,15 +1,16 @@
 // The counts of statements and blocks.
-ghost use Rattle.std.specs.Prelude.{◌≡◌, ◌++◌, IfOk, OnOk, length, map};
+ghost use Rattle.std.specs.Prelude.{◌≡◌, IfOk, OnOk, map};
 ghost use Rattle.lucid_inline_count.specs.Counts.{plus};
 ghost use Rattle.lucid_inline_count.specs.Flags.{put_back as before};
 ghost use Rattle.lucid_inline_count.specs.Found.{block_part, condition as condition_of, expr_found, names_of, part_of, stmt_tally, without_returns};
 ghost use Rattle.lucid_inline_count.specs.Branches.{held_behind};
+ghost use Rattle.lucid_inline_count.specs.Held.{Assigns, AssignsBoth};
 ghost use Rattle.lucid_inline_count.specs.Rounds.{round};
 
 use crate::body::{Body, Part};
 use crate::branches::{Open, close, either};
 use crate::counts::{Counts, count};
-use crate::exprs::{condition, expr, group, optional, total};
+use crate::exprs::{condition, expr, group, optional, sent, total};
 use crate::held::{Note, put_back, set};
 use lucid_base::Memory;
 use lucid_core::{Expr, Stmt};
@@ -38,7 +39,7 @@ pub fn block(
 ) -> Result<Part, Memory>
     ensures part { IfOk result (λ p. p ≡ block_part (map stmt_tally stmts.now) (round funs.now body.old)) }
     ensures held { OnOk result (body.new.held.items ≡ body.old.held.items) }
-    ensures assigned { OnOk result (body.new.assigned.items ≡ body.old.assigned.items ++ names_of (map stmt_tally stmts.now)) }
+    ensures assigned { OnOk result (Assigns body.old.held.items body.old.assigned.items body.new.assigned.items (names_of (map stmt_tally stmts.now))) }
 {
     let mut waiting = Vec::new(alloc);
     let mut left = stmts;
@@ -59,7 +60,7 @@ pub fn block(
 fn flat(alloc: Global, funs: &[Counts], body: &mut Body, stmts: &[Stmt]) -> Result<Part, Memory>
     ensures part { IfOk result (λ p. p ≡ block_part (map stmt_tally stmts.now) (round funs.now body.old)) }
     ensures held { OnOk result (body.new.held.items ≡ body.old.held.items) }
-    ensures assigned { OnOk result (body.new.assigned.items ≡ body.old.assigned.items ++ names_of (map stmt_tally stmts.now)) }
+    ensures assigned { OnOk result (Assigns body.old.held.items body.old.assigned.items body.new.assigned.items (names_of (map stmt_tally stmts.now))) }
 {
     let mut notes = Vec::new(alloc);
     let part = each(alloc, funs, body, &mut notes, stmts)?;
@@ -79,26 +80,17 @@ fn each(
     ensures part { IfOk result (λ p. p ≡ block_part (map stmt_tally stmts.now) (round funs.now body.old)) }
     ensures held { OnOk result (body.new.held.items ≡ held_behind (map stmt_tally stmts.now) (round funs.now body.old)) }
     ensures back { OnOk result (before notes.new.items body.new.held.items ≡ before notes.old.items body.old.held.items) }
-    ensures assigned { OnOk result (body.new.assigned.items ≡ body.old.assigned.items ++ names_of (map stmt_tally stmts.now)) }
+    ensures assigned { OnOk result (Assigns body.old.held.items body.old.assigned.items body.new.assigned.items (names_of (map stmt_tally stmts.now))) }
 {
-    let mut counts = count(0, 0);
-    let mut returns = false;
-    let mut value = false;
+    let mut all = plainly(count(0, 0));
     for s in stmts {
         let part = stmt(alloc, funs, body, s)?;
-        counts = counts.and(part.counts);
-        returns = returns || part.returns;
-        value = value || part.value;
+        all = all.and(part);
         if let Some(i) = part.sets {
             set(&mut body.held, notes, i, true)?;
         }
     }
-    Ok(Part {
-        counts,
-        sets: None,
-        returns,
-        value,
-    })
+    Ok(all)
 }
 
 /// Counts a block up to the second branch of the `if` that ends it.
@@ -114,10 +106,10 @@ fn first_branch(
     ensures front { IfOk result (λ o. o.front ≡ block_part (map stmt_tally front.now) (round funs.now body.old)) }
     ensures yes { IfOk result (λ o. o.yes ≡ block_part (map stmt_tally yes.now) (round funs.now body.new)) }
     ensures tested { IfOk result (λ o. o.tested ≡ plus (condition_of (expr_found e.now) funs.now) o.yes.counts) }
-    ensures from { IfOk result (λ o. o.from ≡ length (body.old.assigned.items ++ names_of (map stmt_tally front.now))) }
     ensures back { IfOk result (λ o. before o.notes.items body.new.held.items ≡ body.old.held.items) }
     ensures held { OnOk result (body.new.held.items ≡ held_behind (map stmt_tally front.now) (round funs.now body.old)) }
-    ensures assigned { OnOk result (body.new.assigned.items ≡ (body.old.assigned.items ++ names_of (map stmt_tally front.now)) ++ names_of (map stmt_tally yes.now)) }
+    ensures assigned { IfOk result (λ o. AssignsBoth o.from body.old.held.items body.new.held.items body.old.assigned.items body.new.assigned.items
+        (names_of (map stmt_tally front.now)) (names_of (map stmt_tally yes.now))) }
 {
     let mut notes = Vec::new(alloc);
     let front = each(alloc, funs, body, &mut notes, front)?;
@@ -133,19 +125,18 @@ fn first_branch(
 }
 
 #[cycle(blocks)]
+#[tactic(auto, using(crate::proofs::HeldLemmas::assigns_none, crate::proofs::HeldLemmas::assigns_one, std::proofs::lemmas::Grind::common_steps))]
 fn stmt(alloc: Global, funs: &[Counts], body: &mut Body, s: &Stmt) -> Result<Part, Memory>
     ensures part { IfOk result (λ p. p ≡ part_of (stmt_tally s.now) (round funs.now body.old)) }
     ensures held { OnOk result (body.new.held.items ≡ body.old.held.items) }
-    ensures assigned { OnOk result (body.new.assigned.items ≡ body.old.assigned.items ++ (stmt_tally s.now).names) }
+    ensures assigned { OnOk result (Assigns body.old.held.items body.old.assigned.items body.new.assigned.items (stmt_tally s.now).names) }
 {
     match s {
         Stmt::Assign(i, e) => {
             body.assigned.push(*i)?;
             Ok(Part {
-                counts: expr(funs, e).and(count(1, 1)),
                 sets: Some(*i),
-                returns: false,
-                value: false,
+                ..plainly(expr(funs, e).and(count(1, 1)))
             })
         }
         Stmt::Drop(e) => Ok(plainly(expr(funs, e).and(count(0, 1)))),
@@ -154,14 +145,7 @@ fn stmt(alloc: Global, funs: &[Counts], body: &mut Body, s: &Stmt) -> Result<Par
             let yes = block(alloc, funs, body, yes.as_slice())?;
             let no = block(alloc, funs, body, no.as_slice())?;
             let tested = condition(funs, e).and(yes.counts);
-            either(
-                alloc,
-                &mut body.held,
-                tested,
-                yes,
-                no,
-                &body.assigned[from..],
-            )
+            either(alloc, body, tested, yes, no, from)
         }
         Stmt::Gen {
             event: _,
@@ -169,14 +153,7 @@ fn stmt(alloc: Global, funs: &[Counts], body: &mut Body, s: &Stmt) -> Result<Par
             delay,
             to,
             delay_first: _,
-        } => {
-            let args = total(funs, args.as_slice());
-            Ok(plainly(
-                args.and(optional(funs, delay))
-                    .and(optional(funs, to))
-                    .and(count(1, 1)),
-            ))
-        }
+        } => Ok(plainly(sent(funs, args.as_slice(), delay, to))),
         Stmt::Multi {
             event: _,
             args,
@@ -185,10 +162,9 @@ fn stmt(alloc: Global, funs: &[Counts], body: &mut Body, s: &Stmt) -> Result<Par
         } => Ok(plainly(group(funs, args.as_slice(), delay, members.as_slice()))),
         Stmt::Say { form: _, args } => Ok(plainly(total(funs, args.as_slice()).and(count(1, 1)))),
         Stmt::Return(e) => Ok(Part {
-            counts: optional(funs, e).and(count(0, 1)),
-            sets: None,
             returns: true,
             value: e.is_some(),
+            ..plainly(optional(funs, e).and(count(0, 1)))
         }),
     }
 }

@@ -1,6 +1,6 @@
 // The counts of expressions.
 ghost use Rattle.std.specs.Prelude.{◌≡◌, map, option_map};
-ghost use Rattle.lucid_inline_count.specs.Found.{condition as condition_of, expr_found, group as group_of, ops, optional as optional_of, total as total_of, touch_found};
+ghost use Rattle.lucid_inline_count.specs.Found.{condition as condition_of, expr_found, group as group_of, ops, optional as optional_of, sent as sent_of, total as total_of, touch_found};
 ghost use Rattle.lucid_inline_count.specs.Counts.{counts_at};
 
 use crate::counts::{Counts, count};
@@ -71,6 +71,16 @@ pub fn condition(funs: &[Counts], e: &Expr) -> Counts
         _ => 0,
     };
     expr(funs, e).and(count(moves, 1))
+}
+
+/// Counts an event that is sent.
+pub fn sent(funs: &[Counts], args: &[Expr], delay: &Option<Expr>, to: &Option<Expr>) -> Counts
+    ensures { result ≡ sent_of (map expr_found args.now) (option_map expr_found delay.now) (option_map expr_found to.now) funs.now }
+{
+    total(funs, args)
+        .and(optional(funs, delay))
+        .and(optional(funs, to))
+        .and(count(1, 1))
 }
 
 /// A group takes an assignment of each argument and of its delay, and an event to each member.
