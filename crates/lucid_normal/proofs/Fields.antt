@@ -1,10 +1,14 @@
--- The widths of inputs, and the operands of the parameters, one after another.
-use Rattle.std.proofs.Common.{◌≡◌, ◌<◌, ◌≤◌, ◌+◌, ◌-◌, ℕ, List, [], ◌∷◌, Option, Some, None, Bool, true, false, if◌then◌else◌, nat_lt, arith, drop, get_or, length, take, refl, ap, ap₂, sym, ◌∙◌}
+-- The widths of inputs, the operands of the parameters, and the operations of handlers, one after another.
+use Rattle.std.proofs.Common.{◌≡◌, ◌<◌, ◌≤◌, ◌+◌, ◌-◌, ℕ, List, [], ◌∷◌, Option, Some, None, Bool, true, false, if◌then◌else◌, nat_lt, arith, drop, get_or, length, take, ◌++◌, map, refl, ap, ap₂, sym, ◌∙◌}
 use Rattle.std.proofs.lemmas.Bool.{ltb-false, ltb-true}
-use Rattle.std.proofs.lemmas.List.{drop_all, drop_more, take_rest}
+use Rattle.std.proofs.lemmas.List.{append_assoc, drop_all, drop_more, take_rest}
+use Rattle.lucid_code.specs.declared.op.Op.{Op}
 use Rattle.lucid_code.specs.declared.op.Operand.TheVariants.{Field}
+use Rattle.lucid_core.specs.Parts.{CoreParts}
+use Rattle.lucid_core.specs.declared.defs.HandlerDef.{HandlerDef}
 use Rattle.lucid_normal_spec.specs.declared.env.Typed.{Typed}
-use Rattle.lucid_normal_spec.specs.Program.{held_from, widest}
+use Rattle.lucid_normal_spec.specs.Program.{codes_of, held_from, start, widest}
+use Rattle.lucid_normal_spec.specs.Translate.{body_code, guarded, is}
 
 widest_none : (xs : List ℕ) → widest xs [] ≡ xs
 widest_none [] = refl
@@ -35,3 +39,19 @@ held_next k k' i params locals w false r next made is there at =
 pub held_end : (k : ℕ) (params : List ℕ) → held_from k params [] ≡ []
 held_end k [] = refl
 held_end k (w ∷ ws) = refl
+
+-- The operations of one handler, and then those of the rest.
+module _ (parts : CoreParts) (items hs : List HandlerDef) (same : items ≡ hs) (i : ℕ) (h : HandlerDef) (there : i < length items) (is_at : h ≡ get_or items i h) (w w' : List ℕ)
+    (made : w' ≡ (body_code h.body (start parts w h)).env.widths) where
+  next : drop i hs ≡ h ∷ drop (i + 1) hs
+  next = sym (ap (drop i) same) ∙ drop_more items i h there ∙ ap (λ x. x ∷ drop (i + 1) items) (sym is_at) ∙ ap (λ l. h ∷ drop (i + 1) l) same
+
+  pub widths_next : (codes_of parts w' (drop (i + 1) hs)).widths ≡ (codes_of parts w (drop i hs)).widths
+  widths_next = ap (λ v. (codes_of parts v (drop (i + 1) hs)).widths) made ∙ sym (ap (λ l. (codes_of parts w l).widths) next)
+
+  pub ops_next : (ops ops' : List Op) → ops' ≡ ops ++ map (guarded (is 0 h.event)) (body_code h.body (start parts w h)).ops →
+      ops' ++ (codes_of parts w' (drop (i + 1) hs)).ops ≡ ops ++ (codes_of parts w (drop i hs)).ops
+  ops_next ops ops' added =
+      ap₂ (λ o v. o ++ (codes_of parts v (drop (i + 1) hs)).ops) added made
+      ∙ append_assoc ops _ _
+      ∙ sym (ap (λ l. ops ++ (codes_of parts w l).ops) next)

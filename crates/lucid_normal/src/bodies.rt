@@ -9,10 +9,11 @@ ghost use Rattle.lucid_normal.specs.Given.{given_codes};
 use lucid_base::{Items, Memory};
 use lucid_code::Operand;
 use lucid_core::{Expr, Stmt, Touch};
+use lucid_normal_join::{begin, join, turn};
 use lucid_normal_spec::{Env, Typed};
 use lucid_normal_steps::{
-    Context, Work, answer, answer_nothing, assign, begin, binary, bit, call_array, cast, compare,
-    enter, hash, held_at, input, join, leave, needed, needs_move, say, send, turn, unary, within,
+    Context, Work, answer, answer_nothing, assign, binary, bit, call_array, cast, compare, enter,
+    hash, held_at, input, leave, needed, needs_move, say, send, unary, within,
 };
 
 /// The operand of the expression's value, if it has one.

@@ -1,4 +1,2 @@
 pub mod Added
-pub mod Changes
-pub mod Ends
 pub mod Notes

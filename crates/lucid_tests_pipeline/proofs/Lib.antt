@@ -1,1 +1,1 @@
-mod Totals
+mod FlightsLemmas

@@ -1,26 +1,54 @@
-// Flights: packets that overlap, step by step, compared with results worked by hand.
-ghost use Rattle.std.specs.Prelude.{◌≡◌, ◌<◌};
+// Packets that overlap in one pipe, step by step, with results worked by hand. A pipe that lets a packet into a taken slot or past another,
+// runs a stage twice, or gives another event back fails here.
+ghost use Rattle.std.specs.Prelude.{◌≡◌, IfSome};
 ghost use Rattle.lucid_code.specs.Inputs.{IsInput};
-ghost use Rattle.lucid_tests_pipeline.specs.Totals.{totals};
 
-use crate::placed::totals;
-use lucid_base::{Args, Event, Memory, Out};
+use crate::codes::{Does, Given, code};
+use lucid_base::{Args, Bits, Event, Memory, Out};
+use lucid_code::{Code, Operand};
+use lucid_conf::Limits;
+use lucid_layout::place;
 use lucid_pipe::{MemWatch, NoWatch, Passed, Pipe, Stuck, Watch};
 use lucid_tables::Placed;
 use std::alloc::Global;
 use std::test::Fail;
 
-/// A step: an event of this argument enters, the packet of a slot moves, a look at the one cell of an array, or a count of the packets.
+/// Each packet adds its argument to the first array, stores the total in the second, and prints the total with its argument and the total
+/// before. Each operation has a stage of its own, since it reads what the one before it writes.
+const TOTALS: Given = Given {
+    fields: &[32, 32, 32, 16, 16, 16],
+    arrays: 2,
+    cell: 16,
+    ops: &[
+        (&[], 0, Does::Count(0, 3, 4)),
+        (&[], 1, Does::Swap(1, 4, 5)),
+        (&[], 2, Does::Say(&[Operand::Field(4), Operand::Field(5)])),
+    ],
+};
+
+/// As many stages as operations.
+const LIMITS: Limits = Limits {
+    stages: 3,
+    tables: 1,
+    rows: 1,
+    arrays: 1,
+    arms: 1,
+    bits: 16384,
+    recirc: 0,
+};
+
+/// A step: an event of this argument enters, the packet of a slot moves, a look at the first cell of an array by an index past its size, or a
+/// count of the packets.
 #[derive(Clone, Copy)]
 enum Step {
-    Enter(u16),
+    Enter(u64),
     Go(usize),
     Look(u32),
     Count,
 }
 
 /// The outcome of a step; of a packet that left, the two numbers that it printed.
-#[derive(Clone, Copy, Debug, PartialEq, Eq)]
+#[derive(Clone, Copy, PartialEq, Eq)]
 enum Came {
     In,
     Busy,
@@ -32,24 +60,31 @@ enum Came {
     Other,
 }
 
-/// The event of this argument. It is an input of the code, at switch 1.
-#[tactic(auto, using(crate::proofs::Totals::input))]
-fn event(argument: u16) -> Event
-    ensures { IsInput totals 1 result }
+/// The event of this argument, if the code takes one. It is an input of the code, at switch 1.
+#[tactic(auto, using(crate::proofs::FlightsLemmas::one))]
+fn event(code: &Code, argument: u64) -> Option<Event>
+    ensures { IfSome result (λ e. IsInput code.now 1 e) }
 {
-    Event {
-        id: 0,
-        args: Args::from_slice(&[u64::from(argument)]),
+    let fields = code.fields();
+    if code.inputs().args < 1 || fields.len() < 4 {
+        return None;
     }
+    Some(Event {
+        id: 0,
+        args: Args::from_slice(&[Bits::low(fields[3], argument).value]),
+    })
 }
 
-fn enter(pipe: &mut Pipe, argument: u16) -> Came
-    requires { pipe.old.placed.code ≡ totals }
+fn enter(pipe: &mut Pipe, code: &Code, argument: u64) -> Came
+    requires { pipe.old.placed.code ≡ code.now }
     ensures { pipe.new.placed ≡ pipe.old.placed }
 {
-    match pipe.enter(event(argument), 7, 1) {
+    let Some(event) = event(code, argument) else {
+        return Came::Other;
+    };
+    match pipe.enter(event, 7, 1) {
         Ok(()) => Came::In,
-        Err(busy) => if busy.event == event(argument) {
+        Err(busy) => if busy.event == event {
             Came::Busy
         } else {
             Came::Other
@@ -85,31 +120,30 @@ fn go(pipe: &mut Pipe, k: usize) -> Came
     }
 }
 
-fn does(pipe: &mut Pipe, step: Step) -> Came
-    requires { pipe.old.placed.code ≡ totals }
+fn does(pipe: &mut Pipe, code: &Code, step: Step) -> Came
+    requires { pipe.old.placed.code ≡ code.now }
     ensures { pipe.new.placed ≡ pipe.old.placed }
 {
     match step {
-        Step::Enter(argument) => enter(pipe, argument),
+        Step::Enter(argument) => enter(pipe, code, argument),
         Step::Go(k) => go(pipe, k),
-        Step::Look(array) => Came::Is(pipe.look(array, 5)),
+        Step::Look(array) => Came::Is(pipe.look(array, 4)),
         Step::Count => Came::Is(pipe.packets() as u64),
     }
 }
 
-/// The number of the first step that came out otherwise.
-fn first_wrong(pipe: &mut Pipe, steps: &[(Step, Came)]) -> Option<usize>
-    requires { pipe.old.placed.code ≡ totals }
+/// Returns whether all steps have their outcomes.
+fn all_come(pipe: &mut Pipe, code: &Code, steps: &[(Step, Came)]) -> bool
+    requires { pipe.old.placed.code ≡ code.now }
     ensures { pipe.new.placed ≡ pipe.old.placed }
 {
     for at in 0..steps.len() {
         let (step, expected) = steps[at];
-        let came = does(pipe, step);
-        if came != expected {
-            return Some(at);
+        if does(pipe, code, step) != expected {
+            return false;
         }
     }
-    None
+    true
 }
 
 /// Two packets: the second is refused while the first stands in slot 0, and follows it a stage behind.
@@ -137,24 +171,14 @@ const TWO: [(Step, Came); 21] = [
     (Step::Look(2), Came::Is(0)),
 ];
 
-/// The number of the first step of `TWO` that came out otherwise, and the number of arrays of the pipe after them.
-fn two_fly(alloc: Global, placed: &Placed) -> Result<(Option<usize>, usize), Memory>
-    requires { placed.now.code ≡ totals }
-{
+/// Returns whether the steps of two packets have their outcomes, and the pipe has two arrays after them.
+fn two_fly(alloc: Global, placed: &Placed) -> Result<bool, Memory> {
     let mut pipe = Pipe::new(alloc, placed)?;
-    let wrong = first_wrong(&mut pipe, &TWO);
-    let rows = pipe.rows(alloc)?;
-    Ok((wrong, rows.len()))
-}
-
-#[test]
-fn the_second_packet_sees_the_first(rt: HostRuntime) -> Result<(), Fail> {
-    let found = totals(rt.alloc())?;
-    assert!(rt; found.is_some());
-    if let Some(placed) = found {
-        assert_eq!(rt; two_fly(rt.alloc(), &placed)?, (None, 2));
+    if !all_come(&mut pipe, placed.code(), &TWO) {
+        return Ok(false);
     }
-    Ok(())
+    let rows = pipe.rows(alloc)?;
+    Ok(rows.len() == 2)
 }
 
 /// Packets that fill all slots.
@@ -211,20 +235,20 @@ fn was_taken(watch: &MemWatch, sight: usize, k: u32) -> bool {
     }
 }
 
-/// Returns whether the steps come out as they should, with a sight after `FILLS` and one after `TURNS`.
-fn full_moves(pipe: &mut Pipe, watch: &mut MemWatch) -> bool
-    requires { pipe.old.placed.code ≡ totals }
+/// Returns whether the steps have their outcomes, with a sight after `FILLS` and one after `TURNS`.
+fn full_moves(pipe: &mut Pipe, code: &Code, watch: &mut MemWatch) -> bool
+    requires { pipe.old.placed.code ≡ code.now }
 {
-    if first_wrong(pipe, &FILLS).is_some() {
+    if !all_come(pipe, code, &FILLS) {
         return false;
     }
     watch.see(2, pipe);
-    if first_wrong(pipe, &TURNS).is_some() {
+    if !all_come(pipe, code, &TURNS) {
         return false;
     }
     watch.see(2, pipe);
     NoWatch.see(2, pipe);
-    first_wrong(pipe, &ENDS).is_none()
+    all_come(pipe, code, &ENDS)
 }
 
 /// Returns whether there are two sights, with packets in these places.
@@ -238,20 +262,34 @@ fn both_are_seen(watch: &MemWatch) -> bool {
 }
 
 /// Returns whether a full pipe moves from its end, and a watch sees it.
-fn full_flies(alloc: Global, placed: &Placed) -> Result<bool, Memory>
-    requires { placed.now.code ≡ totals }
-{
+fn full_flies(alloc: Global, placed: &Placed) -> Result<bool, Memory> {
     let mut pipe = Pipe::new(alloc, placed)?;
     let mut watch = MemWatch::new(alloc);
-    Ok(full_moves(&mut pipe, &mut watch) && both_are_seen(&watch))
+    Ok(full_moves(&mut pipe, placed.code(), &mut watch) && both_are_seen(&watch))
+}
+
+/// Places the code by first fit.
+fn totals(alloc: Global) -> Result<Option<Placed>, Memory> {
+    match code(alloc, &TOTALS)? {
+        None => Ok(None),
+        Some(code) => match place(alloc, &code, &LIMITS) {
+            Ok(placed) => Ok(Some(placed)),
+            Err(_) => Ok(None),
+        },
+    }
+}
+
+/// Returns whether two packets, and as many as there are stages, move as they should.
+fn fly(alloc: Global) -> Result<(bool, bool), Memory> {
+    match totals(alloc)? {
+        None => Ok((false, false)),
+        Some(placed) => Ok((two_fly(alloc, &placed)?, full_flies(alloc, &placed)?)),
+    }
 }
 
 #[test]
-fn a_pipe_that_is_full_moves_from_its_end(rt: HostRuntime) -> Result<(), Fail> {
-    let found = totals(rt.alloc())?;
-    assert!(rt; found.is_some());
-    if let Some(placed) = found {
-        assert!(rt; full_flies(rt.alloc(), &placed)?);
-    }
+fn packets_that_overlap_are_as_they_are_alone(rt: HostRuntime) -> Result<(), Fail> {
+    let (two, full) = fly(rt.alloc())?;
+    assert!(rt; two && full, "two packets: {two}, a full pipe: {full}");
     Ok(())
 }

@@ -1,128 +1,226 @@
-// Programs whose layouts are worked by hand. Handlers have event 1, and field 3 is their argument.
-use crate::layout_codes::{code, equal, get, put, send, sum};
+// Layouts that are worked by hand: which nodes share a table or a stage, and each limit met and exceeded by one.
+use crate::codes::{BRANCHES, Does, EVENT, Given, code, many};
 use crate::layouts_shown::layout;
-use lucid_base::{CmpOp, Memory, Width};
-use lucid_code::{Act, Code, Operand};
+use lucid_base::Memory;
+use lucid_code::{Literal, Operand};
 use std::alloc::Global;
 use std::test::Fail;
 
-/// Whether the argument is 0, in field 5.
-fn is_zero() -> Act {
-    Act::Cmp(
-        CmpOp::Eq,
-        Width::int(),
-        Operand::Field(3),
-        Operand::Fixed(0),
-        5,
-    )
-}
-
-/// `int n = 0; if (v == 0) { n = Array.get(x, 0); } else { n = Array.get(x, 1); } generate out(n);`
-fn both_branches(alloc: Global) -> Result<Option<Code>, Memory> {
-    let always = [equal(0, 1)];
-    let yes = [equal(0, 1), equal(5, 1)];
-    let no = [equal(0, 1), equal(5, 0)];
-    let zero = Operand::Fixed(0);
-    let mut ops = Vec::new(alloc);
-    put(alloc, &mut ops, &always, 0, Act::Move(zero, 4))?;
-    put(alloc, &mut ops, &always, 0, is_zero())?;
-    put(alloc, &mut ops, &yes, 0, get(0, 0, Some(6)))?;
-    put(alloc, &mut ops, &yes, 1, Act::Move(Operand::Field(6), 7))?;
-    put(alloc, &mut ops, &no, 0, get(0, 1, Some(8)))?;
-    put(alloc, &mut ops, &no, 1, Act::Move(Operand::Field(8), 9))?;
-    put(alloc, &mut ops, &yes, 1, Act::Move(Operand::Field(7), 10))?;
-    put(alloc, &mut ops, &no, 1, Act::Move(Operand::Field(9), 10))?;
-    let sent = send(alloc, 10)?;
-    put(alloc, &mut ops, &always, 1, sent)?;
-    code(alloc, 11, Some(5), 1, ops)
-}
-
-#[test]
-fn calls_of_both_branches_are_one_node(rt: HostRuntime) -> Result<(), Fail> {
-    let alloc = rt.alloc();
-    let code = both_branches(alloc)?;
-    let cases: [(&[u8], &str); 5] = [
-        (
-            b"{}",
-            "0.0 [ 0 1 ]; 1.0 [ 2 ][ 4 ]; array 0; 2.0 [ 3 ][ 5 ]; 3.0 [ 6 ][ 7 ]; 4.0 [ 8 ]; ",
-        ),
-        (
-            b"{\"stages\":5,\"rows\":2,\"tables\":1,\"arrays\":1,\"arms\":2,\"bits\":321}",
-            "0.0 [ 0 1 ]; 1.0 [ 2 ][ 4 ]; array 0; 2.0 [ 3 ][ 5 ]; 3.0 [ 6 ][ 7 ]; 4.0 [ 8 ]; ",
-        ),
-        (b"{\"rows\":1}", "node 2"),
-        (b"{\"stages\":4}", "node 7"),
-        (b"{\"arms\":1}", "arms 0"),
-    ];
-    for (limits, expected) in cases {
-        let text = layout(alloc, &code, limits)?;
-        assert_eq!(rt; text.as_str(), expected);
-    }
-    Ok(())
-}
-
 /// `generate seen(Array.get(x, 0));`
-fn reading(alloc: Global) -> Result<Option<Code>, Memory> {
-    let guard = [equal(0, 1)];
-    let mut ops = Vec::new(alloc);
-    put(alloc, &mut ops, &guard, 0, get(0, 0, Some(4)))?;
-    let sent = send(alloc, 4)?;
-    put(alloc, &mut ops, &guard, 1, sent)?;
-    code(alloc, 5, None, 1, ops)
-}
-
-#[test]
-fn a_reader_stands_behind_its_writer(rt: HostRuntime) -> Result<(), Fail> {
-    let alloc = rt.alloc();
-    let code = reading(alloc)?;
-    let cases: [(&[u8], &str); 4] = [
-        (b"{\"stages\":2}", "0.0 [ 0 ]; array 0; 1.0 [ 1 ]; "),
-        (b"{\"stages\":1}", "node 1"),
-        (b"{\"bits\":160}", "0.0 [ 0 ]; array 0; 1.0 [ 1 ]; "),
-        (b"{\"bits\":159,\"stages\":1}", "bits 160"),
-    ];
-    for (limits, expected) in cases {
-        let text = layout(alloc, &code, limits)?;
-        assert_eq!(rt; text.as_str(), expected);
-    }
-    Ok(())
-}
+const READING: Given = Given {
+    fields: &[32, 32, 32, 32, 32],
+    arrays: 1,
+    cell: 32,
+    ops: &[
+        (&[EVENT], 0, Does::Get(0, 0, Some(4))),
+        (
+            &[EVENT],
+            1,
+            Does::Send(0, &[Operand::Field(4)], Operand::Fixed(0), None),
+        ),
+    ],
+};
 
 /// `((i + i) + (i + i)) + ((i + i) + (i + i))`, sent out.
-fn tower(alloc: Global) -> Result<Option<Code>, Memory> {
-    let guard = [equal(0, 1)];
-    let sums: [(u32, u32, u32); 7] = [
-        (3, 3, 4),
-        (3, 3, 5),
-        (4, 5, 6),
-        (3, 3, 7),
-        (3, 3, 8),
-        (7, 8, 9),
-        (6, 9, 10),
-    ];
-    let mut ops = Vec::new(alloc);
-    for (a, b, to) in sums {
-        put(alloc, &mut ops, &guard, 0, sum(a, b, to))?;
-    }
-    let sent = send(alloc, 10)?;
-    put(alloc, &mut ops, &guard, 0, sent)?;
-    code(alloc, 11, None, 0, ops)
+const TOWER: Given = Given {
+    fields: &[32, 32, 32, 32, 32, 32, 32, 32, 32, 32, 32],
+    arrays: 0,
+    cell: 32,
+    ops: &[
+        (
+            &[EVENT],
+            0,
+            Does::Add(32, Operand::Field(3), Operand::Field(3), 4),
+        ),
+        (
+            &[EVENT],
+            0,
+            Does::Add(32, Operand::Field(3), Operand::Field(3), 5),
+        ),
+        (
+            &[EVENT],
+            0,
+            Does::Add(32, Operand::Field(4), Operand::Field(5), 6),
+        ),
+        (
+            &[EVENT],
+            0,
+            Does::Add(32, Operand::Field(3), Operand::Field(3), 7),
+        ),
+        (
+            &[EVENT],
+            0,
+            Does::Add(32, Operand::Field(3), Operand::Field(3), 8),
+        ),
+        (
+            &[EVENT],
+            0,
+            Does::Add(32, Operand::Field(7), Operand::Field(8), 9),
+        ),
+        (
+            &[EVENT],
+            0,
+            Does::Add(32, Operand::Field(6), Operand::Field(9), 10),
+        ),
+        (
+            &[EVENT],
+            0,
+            Does::Send(0, &[Operand::Field(10)], Operand::Fixed(0), None),
+        ),
+    ],
+};
+
+/// That the argument is 1.
+const ONE: Literal = Literal {
+    field: 3,
+    equal: true,
+    value: 1,
+};
+
+/// That the argument is not 1.
+const NOT_ONE: Literal = Literal {
+    field: 3,
+    equal: false,
+    value: 1,
+};
+
+/// That the argument is 2.
+const TWO: Literal = Literal {
+    field: 3,
+    equal: true,
+    value: 2,
+};
+
+/// Two operations that act for two values of the argument.
+const VALUES: Given = Given {
+    fields: &[32, 32, 32, 32, 32, 32],
+    arrays: 0,
+    cell: 32,
+    ops: &[
+        (&[ONE], 0, Does::Move(Operand::Fixed(1), 4)),
+        (&[TWO], 0, Does::Move(Operand::Fixed(1), 5)),
+    ],
+};
+
+/// A call of each of two arrays.
+const ARRAYS: Given = Given {
+    fields: &[32, 32, 32, 32],
+    arrays: 2,
+    cell: 32,
+    ops: &[
+        (&[], 1, Does::Get(1, 0, None)),
+        (&[], 0, Does::Get(0, 0, None)),
+    ],
+};
+
+/// A row for the value that the first guard excludes, and none for the second operation, whose guard asks for two values.
+const ODD: Given = Given {
+    fields: &[32, 32, 32, 32, 32, 32],
+    arrays: 0,
+    cell: 32,
+    ops: &[
+        (&[NOT_ONE], 0, Does::Move(Operand::Fixed(1), 4)),
+        (&[ONE, TWO], 0, Does::Move(Operand::Fixed(1), 5)),
+    ],
+};
+
+/// Codes, each with the limits of a target and its layout, or the cause why it has none.
+const ROWS: [(&Given, &str, &str); 19] = [
+    // The calls of both branches are one node.
+    (
+        &BRANCHES,
+        "{}",
+        "0.0 [ 0 1 ]; 1.0 [ 2 ][ 4 ]; array 0; 2.0 [ 3 ][ 5 ]; 3.0 [ 6 ][ 7 ]; 4.0 [ 8 ]; ",
+    ),
+    (
+        &BRANCHES,
+        r#"{"stages":5,"rows":2,"tables":1,"arrays":1,"arms":2,"bits":321}"#,
+        "0.0 [ 0 1 ]; 1.0 [ 2 ][ 4 ]; array 0; 2.0 [ 3 ][ 5 ]; 3.0 [ 6 ][ 7 ]; 4.0 [ 8 ]; ",
+    ),
+    (&BRANCHES, r#"{"rows":1}"#, "node 2"),
+    (&BRANCHES, r#"{"stages":4}"#, "node 7"),
+    (&BRANCHES, r#"{"arms":1}"#, "arms 0"),
+    // A reader is in a stage after its writer.
+    (
+        &READING,
+        r#"{"stages":2}"#,
+        "0.0 [ 0 ]; array 0; 1.0 [ 1 ]; ",
+    ),
+    (&READING, r#"{"stages":1}"#, "node 1"),
+    (
+        &READING,
+        r#"{"bits":160}"#,
+        "0.0 [ 0 ]; array 0; 1.0 [ 1 ]; ",
+    ),
+    (&READING, r#"{"bits":159,"stages":1}"#, "bits 160"),
+    // Sums of sums take a stage each.
+    (
+        &TOWER,
+        "{}",
+        "0.0 [ 0 1 3 4 ]; 1.0 [ 2 5 ]; 2.0 [ 6 ]; 3.0 [ 7 ]; ",
+    ),
+    (&TOWER, r#"{"stages":3}"#, "node 7"),
+    // Rows, tables and stages are filled in turn.
+    (
+        &VALUES,
+        r#"{"rows":2,"tables":1,"stages":1}"#,
+        "0.0 [ 0 ][ 1 ]; ",
+    ),
+    (
+        &VALUES,
+        r#"{"rows":1,"tables":2,"stages":1}"#,
+        "0.0 [ 0 ]; 0.1 [ 1 ]; ",
+    ),
+    (
+        &VALUES,
+        r#"{"rows":1,"tables":1,"stages":2}"#,
+        "0.0 [ 0 ]; 1.0 [ 1 ]; ",
+    ),
+    (&VALUES, r#"{"rows":1,"tables":1,"stages":1}"#, "node 1"),
+    // A stage has so many arrays.
+    (
+        &ARRAYS,
+        r#"{"arrays":2,"stages":1}"#,
+        "0.0 [ 1 0 ]; array 0; array 1; ",
+    ),
+    (
+        &ARRAYS,
+        r#"{"arrays":1,"stages":2}"#,
+        "0.0 [ 1 ]; array 0; 1.0 [ 0 ]; array 1; ",
+    ),
+    (&ARRAYS, r#"{"arrays":1,"stages":1}"#, "node 1"),
+    // An operation that never acts takes no row.
+    (&ODD, "{}", "0.0 [ ][ 0 ]; "),
+];
+
+/// Returns whether the code has this layout, or none for this cause.
+fn is_laid_out(alloc: Global, given: &Given, limits: &str, expected: &str) -> Result<bool, Memory> {
+    let code = code(alloc, given)?;
+    let text = layout(alloc, &code, limits)?;
+    Ok(text.as_str() == expected)
 }
 
 #[test]
-fn sums_of_sums_take_a_stage_each(rt: HostRuntime) -> Result<(), Fail> {
-    let alloc = rt.alloc();
-    let code = tower(alloc)?;
-    let cases: [(&[u8], &str); 2] = [
-        (
-            b"{}",
-            "0.0 [ 0 1 3 4 ]; 1.0 [ 2 5 ]; 2.0 [ 6 ]; 3.0 [ 7 ]; ",
-        ),
-        (b"{\"stages\":3}", "node 7"),
-    ];
-    for (limits, expected) in cases {
-        let text = layout(alloc, &code, limits)?;
-        assert_eq!(rt; text.as_str(), expected);
+fn each_code_has_its_layout(rt: HostRuntime) -> Result<(), Fail> {
+    for (given, limits, expected) in ROWS {
+        assert!(rt;
+            is_laid_out(rt.alloc(), given, limits, expected)?,
+            "{expected} within {limits}"
+        );
     }
+    Ok(())
+}
+
+/// Returns whether code of this many operations is refused for this cause.
+fn is_refused(alloc: Global, count: u32, limits: &str, cause: &str) -> Result<bool, Memory> {
+    let code = many(alloc, count)?;
+    let text = layout(alloc, &code, limits)?;
+    Ok(text.as_str() == cause)
+}
+
+#[test]
+fn operations_are_counted_first(rt: HostRuntime) -> Result<(), Fail> {
+    assert!(rt; is_refused(rt.alloc(), 4_097, r#"{"bits":1}"#, "ops 4097")?);
+    assert!(rt; is_refused(rt.alloc(), 4_096, r#"{"bits":131199}"#, "bits 131200")?);
     Ok(())
 }

@@ -1,0 +1,261 @@
+// Passes on code that is worked by hand. A `Copies` that looks through a move to a narrower field, or a `Direct` that goes on with its own
+// result, fails here.
+use crate::codes::{APART, BRANCHES, Does, Given, Line, TOGETHER, YES, code};
+use lucid_base::Memory;
+use lucid_code::{Act, Code, Op, Operand};
+use lucid_pass::{Dead, Pass, run_passes_told};
+use lucid_pass_rewrites::{Copies, Direct, Fold};
+use std::alloc::{AllocError, Global};
+use std::test::Fail;
+
+/// Each act that computes on 44, which is 300 in the 8 bits of field 4, with its outs and prints.
+const COMPUTED: Given = Given {
+    fields: &[32, 32, 32, 32, 8, 32, 8, 32, 8],
+    arrays: 0,
+    cell: 32,
+    ops: &[
+        (&[], 0, Does::Move(Operand::Fixed(300), 4)),
+        (
+            &[],
+            0,
+            Does::Hash(&[Operand::Field(4), Operand::Fixed(1)], 5),
+        ),
+        (&[], 0, Does::Negate(8, Operand::Field(4), 6)),
+        (&[], 0, Does::Cast(Operand::Field(4), 7)),
+        (
+            &[],
+            0,
+            Does::Add(8, Operand::Field(4), Operand::Fixed(250), 8),
+        ),
+        (
+            &[],
+            0,
+            Does::Say(&[Operand::Field(5), Operand::Field(6), Operand::Field(7)]),
+        ),
+        (
+            &[],
+            0,
+            Does::Send(
+                1,
+                &[Operand::Field(8)],
+                Operand::Field(8),
+                Some(Operand::Field(8)),
+            ),
+        ),
+    ],
+};
+
+/// The argument is moved to field 4, which is sent.
+const MOVED: [Line; 2] = [
+    (&[], 0, Does::Move(Operand::Field(3), 4)),
+    (
+        &[],
+        0,
+        Does::Send(0, &[Operand::Field(4)], Operand::Fixed(0), None),
+    ),
+];
+
+/// A move from 8 to 16 bits.
+const WIDER: Given = Given {
+    fields: &[32, 32, 32, 8, 16],
+    arrays: 0,
+    cell: 32,
+    ops: &MOVED,
+};
+
+/// A move from 8 to 8 bits.
+const ALIKE: Given = Given {
+    fields: &[32, 32, 32, 8, 8],
+    arrays: 0,
+    cell: 32,
+    ops: &MOVED,
+};
+
+/// A move from 16 to 8 bits.
+const NARROWER: Given = Given {
+    fields: &[32, 32, 32, 16, 8],
+    arrays: 0,
+    cell: 32,
+    ops: &MOVED,
+};
+
+/// Field 4 is whether the argument is 3, and field 5 whether field 4 is 1. If so, event 0 is sent.
+const COMPARED: Given = Given {
+    fields: &[32, 32, 32, 32, 1, 1],
+    arrays: 0,
+    cell: 32,
+    ops: &[
+        (&[], 0, Does::IsEqual(32, 3, 3, 4)),
+        (&[], 0, Does::IsEqual(1, 4, 1, 5)),
+        (&[YES], 0, Does::Send(0, &[], Operand::Fixed(0), None)),
+    ],
+};
+
+/// An operation, the number of one of its operands, and the number or the field that is there.
+type Read = (usize, usize, Operand);
+
+/// FNV-1a of the words 44 and 1, by another program; its low 32 bits are printed.
+const NUMBERS: [Read; 8] = [
+    (1, 0, Operand::Fixed(14_220_950_139_069_100_840)),
+    (2, 0, Operand::Fixed(212)),
+    (3, 0, Operand::Fixed(44)),
+    (4, 0, Operand::Fixed(38)),
+    (5, 0, Operand::Fixed(1_069_642_536)),
+    (5, 1, Operand::Fixed(212)),
+    (5, 2, Operand::Fixed(44)),
+    (6, 0, Operand::Fixed(38)),
+];
+
+/// The fields that are read once `Copies` has run. Field 10 gets one of two.
+const FIELDS: [Read; 3] = [
+    (6, 0, Operand::Field(6)),
+    (7, 0, Operand::Field(8)),
+    (8, 0, Operand::Field(10)),
+];
+
+fn is_same(a: Operand, b: Operand) -> bool {
+    match (a, b) {
+        (Operand::Fixed(a), Operand::Fixed(b)) => a == b,
+        (Operand::Field(a), Operand::Field(b)) => a == b,
+        _ => false,
+    }
+}
+
+/// Returns the operand of this number of an operation that moves, says or sends.
+fn operand(op: &Op, at: usize) -> Option<Operand> {
+    match &op.act {
+        Act::Move(a, _) => Some(*a),
+        Act::Say { args, .. } => args.as_slice().get(at).copied(),
+        Act::Gen { args, .. } => args.as_slice().get(at).copied(),
+        _ => None,
+    }
+}
+
+/// Returns whether an operation has this operand.
+fn is_there(code: &Code, read: Read) -> bool {
+    let (at, number, expected) = read;
+    match code.ops().get(at) {
+        None => false,
+        Some(op) => match operand(op, number) {
+            None => false,
+            Some(found) => is_same(found, expected),
+        },
+    }
+}
+
+fn all_are_there(code: &Code, reads: &[Read]) -> bool {
+    reads.iter().all(|read| is_there(code, *read))
+}
+
+/// Returns whether the pass removes no operation of the code, and its result has these operands.
+fn makes<P: Pass>(
+    alloc: Global,
+    pass: &mut P,
+    given: &Given,
+    reads: &[Read],
+) -> Result<bool, Memory> {
+    let Some(code) = code(alloc, given)? else {
+        return Ok(false);
+    };
+    let new = pass.run(alloc, &code)?;
+    Ok(pass.removed() == 0 && new.ops().len() == code.ops().len() && all_are_there(&new, reads))
+}
+
+/// Codes with moves, and what they read once `Copies` has run.
+const MOVES: [(&Given, &[Read]); 4] = [
+    (&BRANCHES, &FIELDS),
+    (&WIDER, &[(1, 0, Operand::Field(3))]),
+    (&ALIKE, &[(1, 0, Operand::Field(3))]),
+    (&NARROWER, &[(1, 0, Operand::Field(4))]),
+];
+
+#[test]
+fn numbers_and_moved_fields_are_put_in(rt: HostRuntime) -> Result<(), Fail> {
+    assert!(rt; makes(rt.alloc(), &mut Fold::new(), &COMPUTED, &NUMBERS)?);
+    for (given, reads) in MOVES {
+        assert!(rt; makes(rt.alloc(), &mut Copies::new(), given, reads)?);
+    }
+    Ok(())
+}
+
+/// Returns whether the code has this many operations, and the guard of this one asks first that a field has a value.
+fn asks(code: &Code, count: usize, at: usize, field: u32, value: u64) -> bool {
+    match code.ops().get(at) {
+        None => false,
+        Some(op) => match op.guard.as_slice().first() {
+            None => false,
+            Some(literal) => {
+                code.ops().len() == count && literal.field == field && literal.value == value
+            }
+        },
+    }
+}
+
+/// Returns whether a literal that one run of `Direct` puts in is replaced by the next run alone.
+fn two_runs_ask(alloc: Global, code: &Code) -> Result<bool, Memory> {
+    let mut direct = Direct::new();
+    let once = direct.run(alloc, code)?;
+    let twice = direct.run(alloc, &once)?;
+    Ok(asks(&once, 2, 1, 4, 1) && asks(&twice, 1, 0, 3, 3) && direct.removed() == 2)
+}
+
+fn direct_reads_once(alloc: Global) -> Result<bool, Memory> {
+    match code(alloc, &COMPARED)? {
+        None => Ok(false),
+        Some(code) => two_runs_ask(alloc, &code),
+    }
+}
+
+#[test]
+fn direct_reads_the_code_once(rt: HostRuntime) -> Result<(), Fail> {
+    assert!(rt; direct_reads_once(rt.alloc())?);
+    Ok(())
+}
+
+fn is_valid(alloc: Global, given: &Given) -> Result<bool, Memory> {
+    Ok(code(alloc, given)?.is_some())
+}
+
+#[test]
+fn two_calls_of_an_array_have_contradicting_guards(rt: HostRuntime) -> Result<(), Fail> {
+    assert!(rt; is_valid(rt.alloc(), &APART)? && !is_valid(rt.alloc(), &TOGETHER)?);
+    Ok(())
+}
+
+/// `Dead`, `Fold`, and `Dead` again.
+fn listed(alloc: Global) -> Result<Vec<Box<dyn Pass>>, AllocError> {
+    let mut passes: Vec<Box<dyn Pass>> = Vec::new(alloc);
+    passes.push(Box::new(alloc, Dead::new())?)?;
+    passes.push(Box::new(alloc, Fold::new())?)?;
+    passes.push(Box::new(alloc, Dead::new())?)?;
+    Ok(passes)
+}
+
+/// Returns whether the passes of the list remove these numbers of operations.
+fn remove(
+    alloc: Global,
+    passes: &mut Vec<Box<dyn Pass>>,
+    given: &Given,
+    expected: &[u64],
+) -> Result<bool, Memory> {
+    match code(alloc, given)? {
+        None => Ok(false),
+        Some(code) => {
+            let (_, told) = run_passes_told(alloc, passes, code)?;
+            Ok(told.as_slice() == expected)
+        }
+    }
+}
+
+/// Returns whether `Dead` removes one operation of the branches, and those that `Fold` made useless of what computes.
+fn order_tells(alloc: Global) -> Result<bool, Memory> {
+    let mut passes = listed(alloc)?;
+    let is_one = remove(alloc, &mut passes, &BRANCHES, &[1, 0, 0])?;
+    Ok(is_one && remove(alloc, &mut passes, &COMPUTED, &[0, 0, 5])?)
+}
+
+#[test]
+fn the_order_of_passes_tells_what_goes(rt: HostRuntime) -> Result<(), Fail> {
+    assert!(rt; order_tells(rt.alloc())?);
+    Ok(())
+}
