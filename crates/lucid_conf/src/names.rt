@@ -3,6 +3,7 @@ ghost use Rattle.std.specs.Prelude.{◌≡◌, ℕ, List, OnOk, IfOk, Some, if�
 ghost use Rattle.std.specs.Str.{bytes_eq};
 ghost use Rattle.std.specs.HashMap.{get_by_text};
 ghost use Rattle.lucid_conf.specs.Named.{event_names, array_names, NumbersLast};
+ghost use Rattle.lucid_seed.specs.Started.{seeded_by};
 
 use indexmap::IndexMap;
 use lucid_base::{ArrayDef, Id, Memory};
@@ -13,8 +14,10 @@ use std::alloc::Global;
 /// Seeded by the names that it has, so that names which collide in it can't be chosen beforehand.
 pub(crate) type Names = IndexMap<String, u32, Seeded>;
 
-// Makes the hashers of a table of these events.
-fn seeded_by_events(events: &[EventDef]) -> Seeded {
+// Makes the hashers of a table of these events, seeded by their names.
+fn seeded_by_events(events: &[EventDef]) -> Seeded
+    ensures { result.start ≡ seeded_by (event_names events.now) }
+{
     let mut seed = Seed::new();
     for event in events {
         seed.add(event.name.bytes());
@@ -22,8 +25,10 @@ fn seeded_by_events(events: &[EventDef]) -> Seeded {
     seed.hashers()
 }
 
-// Makes the hashers of a table of these arrays.
-fn seeded_by_arrays(arrays: &[ArrayDef]) -> Seeded {
+// Makes the hashers of a table of these arrays, seeded by their names.
+fn seeded_by_arrays(arrays: &[ArrayDef]) -> Seeded
+    ensures { result.start ≡ seeded_by (array_names arrays.now) }
+{
     let mut seed = Seed::new();
     for array in arrays {
         seed.add(array.name.bytes());

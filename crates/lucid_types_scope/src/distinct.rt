@@ -1,6 +1,8 @@
 // Whether numbers are distinct: those of the cases of a `match`, and the members of a group.
-ghost use Rattle.std.specs.Prelude.{◌≡◌, IfOk};
+ghost use Rattle.std.specs.Int.{to_le_bytes, w64};
+ghost use Rattle.std.specs.Prelude.{◌≡◌, IfOk, map};
 ghost use Rattle.lucid_base.specs.Numbers.{all_differ};
+ghost use Rattle.lucid_seed.specs.Started.{seeded_by as started_by};
 
 use lucid_base::Memory;
 use lucid_seed::{Seed, Seeded};
@@ -8,7 +10,9 @@ use std::alloc::Global;
 use std::collections::HashSet;
 
 // Makes the hashers of a table of these numbers.
-fn seeded_by(numbers: &[u64]) -> Seeded {
+fn seeded_by(numbers: &[u64]) -> Seeded
+    ensures { result.start ≡ started_by (map (to_le_bytes w64) numbers.now) }
+{
     let mut seed = Seed::new();
     for number in numbers {
         seed.add(&number.to_le_bytes());
