@@ -304,10 +304,36 @@ fn update(
 {
     let (a, w) = names::array(scope, n)?;
     let j = free(alloc, scope, i)?;
-    let get = names::memop(scope, w, m)?;
-    let c = expression(alloc, scope, ValueType::Int(w), x)?;
-    let set = names::memop(scope, w, k)?;
-    let d = expression(alloc, scope, ValueType::Int(w), y)?;
+    let get = match names::memop(scope, w, m) {
+        Ok(get) => get,
+        Err(fault) => {
+            drop(j);
+            return Err(fault);
+        }
+    };
+    let c = match expression(alloc, scope, ValueType::Int(w), x) {
+        Ok(c) => c,
+        Err(fault) => {
+            drop(j);
+            return Err(fault);
+        }
+    };
+    let set = match names::memop(scope, w, k) {
+        Ok(set) => set,
+        Err(fault) => {
+            drop(j);
+            drop(c);
+            return Err(fault);
+        }
+    };
+    let d = match expression(alloc, scope, ValueType::Int(w), y) {
+        Ok(d) => d,
+        Err(fault) => {
+            drop(j);
+            drop(c);
+            return Err(fault);
+        }
+    };
     Ok((Some(w), touching(a, j, get, c, set, d, true)))
 }
 

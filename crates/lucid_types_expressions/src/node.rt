@@ -69,6 +69,7 @@ pub fn word(c: Expr, t: ValueType) -> Result<Expr, Fault>
     if same_type(ValueType::Int(Width::int()), t) {
         Ok(c)
     } else {
+        drop(c);
         Err(Fault::NoRule)
     }
 }
@@ -96,11 +97,12 @@ pub fn hashed(w: u64, cs: Items<Expr>, t: ValueType) -> Result<Expr, Fault>
 pub fn casted(alloc: Global, w: u64, c: Expr, t: ValueType) -> Result<Expr, Fault>
     ensures { Gives result (cast_core w (Some c) t) }
 {
+    let c = Boxed::new(alloc, c)?;
     match Width::new(w) {
         None => Err(Fault::NoRule),
         Some(width) => {
             if same_type(ValueType::Int(width), t) {
-                Ok(Expr::Cast(width, Boxed::new(alloc, c)?))
+                Ok(Expr::Cast(width, c))
             } else {
                 Err(Fault::NoRule)
             }
@@ -113,11 +115,15 @@ pub fn call_value(answer: Option<ValueType>, c: Expr, t: ValueType) -> Result<Ex
     ensures { Gives result (value_of t (answer, c)) }
 {
     match answer {
-        None => Err(Fault::NoRule),
+        None => {
+            drop(c);
+            Err(Fault::NoRule)
+        }
         Some(u) => {
             if same_type(u, t) {
                 Ok(c)
             } else {
+                drop(c);
                 Err(Fault::NoRule)
             }
         }
@@ -134,11 +140,15 @@ pub fn touch_value(
     ensures { Gives result (touch_value t (answer, c)) }
 {
     match answer {
-        None => Err(Fault::NoRule),
+        None => {
+            drop(c);
+            Err(Fault::NoRule)
+        }
         Some(w) => {
             if same_type(ValueType::Int(w), t) {
                 Ok(Expr::Array(Boxed::new(alloc, c)?))
             } else {
+                drop(c);
                 Err(Fault::NoRule)
             }
         }

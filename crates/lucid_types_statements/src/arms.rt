@@ -1,5 +1,6 @@
 // The arms of a `match`.
 ghost use Rattle.std.specs.Prelude.{◌≡◌, ◌∷◌, [], ◌<◌, IfOk, length, map};
+ghost use Rattle.lucid_base.specs.Numbers.{all_differ};
 ghost use Rattle.lucid_core.specs.declared.body.Stmt.TheVariants as core;
 ghost use Rattle.lucid_types_spec.specs.Block.{before, is_number};
 ghost use Rattle.lucid_types_statements.specs.Arms.{Begins};
@@ -7,6 +8,7 @@ ghost use Rattle.lucid_types_statements.specs.Assembly.{chained};
 ghost use Rattle.lucid_types_scope.specs.Numbered.{numbered_of};
 
 use crate::assembly::either;
+use crate::simple::new_local;
 use lucid_base::{Bits, Boxed, CmpOp, Items, Memory, Width};
 use lucid_core::{Expr, Stmt};
 use lucid_parse_tree::{E, S};
@@ -31,6 +33,14 @@ fn numbers(alloc: Global, cases: &[(u64, Items<S>)]) -> Result<Vec<u64>, Memory>
         numbers.push(case.0)?;
     }
     Ok(numbers)
+}
+
+/// Whether no two cases have one number.
+fn differ(alloc: Global, cases: &[(u64, Items<S>)]) -> Result<bool, Memory>
+    ensures { IfOk result (λ differ. differ ≡ all_differ (map (λ z. z.0) cases.now)) }
+{
+    let numbers = numbers(alloc, cases)?;
+    are_distinct(alloc, &numbers)
 }
 
 /// The choices between these arms on a local, and the body that runs if none is met.
@@ -97,7 +107,7 @@ pub fn behind_test(alloc: Global, local: u32, c: Expr, body: Body) -> Result<Bod
 pub struct Tested {
     pub local: u32,
     pub width: Width,
-    pub value: Expr,
+    pub value: Boxed<Expr>,
 }
 
 /// Its value goes into a local of its own. NoRule if there is no case, or two have one number, or it has no value.
@@ -113,16 +123,14 @@ pub fn begin(
     if cases.is_empty() {
         return Err(Fault::NoRule);
     }
-    let numbers = numbers(alloc, cases)?;
-    if !are_distinct(alloc, &numbers)? {
+    if !differ(alloc, cases)? {
         return Err(Fault::NoRule);
     }
     match Width::new(free_width(scope, test)) {
         None => Err(Fault::NoRule),
         Some(width) => {
-            let value = free(alloc, scope, test)?;
-            let local = numbering.next_local()?;
-            numbering.add_local(width)?;
+            let value = Boxed::new(alloc, free(alloc, scope, test)?)?;
+            let local = new_local(numbering, width)?;
             Ok(Tested {
                 local,
                 width,

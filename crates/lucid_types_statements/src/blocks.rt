@@ -11,7 +11,7 @@ ghost use Rattle.lucid_types_statements.specs.Kept.{Keeps};
 
 use crate::arms::{Arm, Tested, begin, behind_test, chain};
 use crate::assembly::{assemble, chosen};
-use crate::simple::{assign, declare, does, drop_call, drop_touch, generate, give_back, print};
+use crate::simple::{assign, declare, drop_call, drop_touch, generate, give_back, print};
 use lucid_base::{Id, Items, Memory, Width};
 use lucid_core::{Ending, Expr};
 use lucid_parse_tree::{C, E, No, S, Ty};
@@ -36,16 +36,16 @@ fn statement(
     match x {
         S::Declare(t, n, x) => declared(alloc, scope, numbering, *t, n, x),
         S::Assign(n, x) => {
-            let step = assign(alloc, scope, n, x)?;
-            Ok(does(alloc, step)?)
+            let part = assign(alloc, scope, n, x)?;
+            Ok(part)
         }
         S::Call(n, xs) => {
-            let step = drop_call(alloc, scope, n, xs.as_slice())?;
-            Ok(does(alloc, step)?)
+            let part = drop_call(alloc, scope, n, xs.as_slice())?;
+            Ok(part)
         }
         S::Array(a) => {
-            let step = drop_touch(alloc, scope, a.get())?;
-            Ok(does(alloc, step)?)
+            let part = drop_touch(alloc, scope, a.get())?;
+            Ok(part)
         }
         S::Cond(c) => choice(alloc, answer, scope, numbering, c.get()),
         S::Return(x) => {
@@ -53,8 +53,8 @@ fn statement(
             Ok(Part::Does(body))
         }
         S::Generate(x) => {
-            let step = generate(alloc, scope, x)?;
-            Ok(does(alloc, step)?)
+            let part = generate(alloc, scope, x)?;
+            Ok(part)
         }
         S::Printf(text, xs) => {
             let body = print(alloc, scope, numbering, text, xs.as_slice())?;
@@ -132,10 +132,22 @@ fn choice(
     ensures kept { OnOk result (Keeps scope.old scope.new) }
 {
     let test = expression(alloc, scope, ValueType::Bool, &c.test)?;
-    let yes = block(alloc, answer, scope, numbering, c.yes.as_slice())?;
-    let no = second(alloc, answer, scope, numbering, &c.no)?;
-    let part = chosen(alloc, test, yes, no)?;
-    Ok(part)
+    match block(alloc, answer, scope, numbering, c.yes.as_slice()) {
+        Ok(yes) => match second(alloc, answer, scope, numbering, &c.no) {
+            Ok(no) => {
+                let part = chosen(alloc, test, yes, no)?;
+                Ok(part)
+            }
+            Err(fault) => {
+                drop(test);
+                Err(fault)
+            }
+        },
+        Err(fault) => {
+            drop(test);
+            Err(fault)
+        }
+    }
 }
 
 /// The part after the first block of a choice.
@@ -224,7 +236,7 @@ fn joined(alloc: Global, tested: Tested, arms: Items<Arm>, last: Body) -> Result
         value,
     } = tested;
     let body = chain(alloc, local, width, arms, last)?;
-    behind_test(alloc, local, value, body)
+    behind_test(alloc, local, value.into_inner(), body)
 }
 
 /// A declared local, whose name is added to the scope.

@@ -1,15 +1,16 @@
 // The event of a `generate`.
-ghost use Rattle.std.specs.Prelude.{◌≡◌, IfOk, map};
+ghost use Rattle.std.specs.Prelude.{◌≡◌, Some, is_some, IfOk, map};
 ghost use Rattle.std.specs.Option.{option_copied};
+ghost use Rattle.lucid_types_spec.specs.declared.body.Destination.TheVariants.{Group, Switch};
 ghost use Rattle.lucid_types_spec.specs.Names.{seen};
 ghost use Rattle.lucid_types_spec.specs.Sends.{sent};
 ghost use Rattle.lucid_types_spec.specs.Types.{ints};
 ghost use Rattle.lucid_types_laws.specs.Reading.{reading};
-ghost use Rattle.lucid_types_laws.specs.Sending.{delayed, event_at, located, named_group, sending_of};
+ghost use Rattle.lucid_types_laws.specs.Sending.{delayed, event_at, is_here, located, named_group, sending_of};
 ghost use Rattle.lucid_types_expressions.specs.Gives.{Gives};
 
 use lucid_base::{Id, Items, Memory, Width};
-use lucid_core::Stmt;
+use lucid_core::{Expr, Stmt};
 use lucid_parse_tree::{E, V};
 use lucid_types_expressions::{Fault, bare, free, given};
 use lucid_types_laws::Arguments;
@@ -68,30 +69,21 @@ fn int_params(alloc: Global, widths: &[Width]) -> Result<Items<Param>, Memory>
 fn delay(alloc: Global, scope: &Scope, sending: Sending, y: &E) -> Result<Sending, Fault>
     ensures { Gives result (delayed (reading y.now) scope.now sending) }
 {
-    let Sending {
-        event,
-        args,
-        delay,
-        to,
-        delay_first,
-    } = sending;
-    match delay {
-        Some(_) => Err(Fault::NoRule),
-        None => {
-            let ticks = free(alloc, scope, y)?;
-            Ok(Sending {
-                event,
-                args,
-                delay: Some(ticks),
-                to,
-                delay_first,
-            })
+    if sending.delay.is_some() {
+        drop(sending);
+        return Err(Fault::NoRule);
+    }
+    match free(alloc, scope, y) {
+        Ok(ticks) => Ok(delayed_by(sending, ticks)),
+        Err(fault) => {
+            drop(sending);
+            Err(fault)
         }
     }
 }
 
-fn locate(alloc: Global, scope: &Scope, sending: Sending, y: &E) -> Result<Sending, Fault>
-    ensures { Gives result (located (reading y.now) scope.now sending) }
+fn delayed_by(sending: Sending, ticks: Expr) -> Sending
+    ensures { result ≡ record sending { delay = Some ticks } }
 {
     let Sending {
         event,
@@ -100,31 +92,85 @@ fn locate(alloc: Global, scope: &Scope, sending: Sending, y: &E) -> Result<Sendi
         to,
         delay_first,
     } = sending;
-    match to {
-        Destination::Here => match members(scope, y) {
-            Some(members) => {
-                let members = Items::from_slice(alloc, members)?;
-                Ok(Sending {
-                    event,
-                    args,
-                    delay,
-                    to: Destination::Group(members),
-                    delay_first,
-                })
-            }
-            None => {
-                let switch = free(alloc, scope, y)?;
-                let delay_first = delay.is_some();
-                Ok(Sending {
-                    event,
-                    args,
-                    delay,
-                    to: Destination::Switch(switch),
-                    delay_first,
-                })
+    drop(delay);
+    Sending {
+        event,
+        args,
+        delay: Some(ticks),
+        to,
+        delay_first,
+    }
+}
+
+fn locate(alloc: Global, scope: &Scope, sending: Sending, y: &E) -> Result<Sending, Fault>
+    ensures { Gives result (located (reading y.now) scope.now sending) }
+{
+    if !is_here(&sending.to) {
+        drop(sending);
+        return Err(Fault::NoRule);
+    }
+    match members(scope, y) {
+        Some(members) => match Items::from_slice(alloc, members) {
+            Ok(members) => Ok(sent_to_group(sending, members)),
+            Err(_) => {
+                drop(sending);
+                Err(Fault::Memory)
             }
         },
-        _ => Err(Fault::NoRule),
+        None => match free(alloc, scope, y) {
+            Ok(switch) => Ok(sent_to_switch(sending, switch)),
+            Err(fault) => {
+                drop(sending);
+                Err(fault)
+            }
+        },
+    }
+}
+
+fn is_here(to: &Destination) -> bool
+    ensures { result ≡ is_here to.now }
+{
+    matches!(to, Destination::Here)
+}
+
+fn sent_to_group(sending: Sending, members: Items<u32>) -> Sending
+    ensures { result ≡ record sending { to = Group members } }
+{
+    let Sending {
+        event,
+        args,
+        delay,
+        to,
+        delay_first,
+    } = sending;
+    drop(to);
+    Sending {
+        event,
+        args,
+        delay,
+        to: Destination::Group(members),
+        delay_first,
+    }
+}
+
+fn sent_to_switch(sending: Sending, switch: Expr) -> Sending
+    ensures { result ≡ record sending { to = Switch switch; delay_first = is_some sending.delay } }
+{
+    let Sending {
+        event,
+        args,
+        delay,
+        to,
+        delay_first: _,
+    } = sending;
+    drop(to);
+    let delay_first = delay.is_some();
+    Sending {
+        event,
+        args,
+        delay,
+        to: Destination::Switch(switch),
+        delay_first,
     }
 }
 

@@ -1,17 +1,19 @@
 // Statements without blocks.
-ghost use Rattle.std.specs.Prelude.{◌≡◌, IfOk};
-ghost use Rattle.lucid_types_spec.specs.Block.{Numbered, one};
+ghost use Rattle.std.specs.Prelude.{◌≡◌, ◌∷◌, IfOk, OnOk, length};
+ghost use Rattle.lucid_types_spec.specs.declared.scope.Entry.TheVariants as entry;
+ghost use Rattle.lucid_types_spec.specs.Block.{Numbered, one, one_local};
+ghost use Rattle.lucid_types_spec.specs.Names.{called};
+ghost use Rattle.lucid_types_spec.specs.Types.{width_of};
 ghost use Rattle.lucid_core.specs.declared.ending.Ending.TheVariants.{Never};
 ghost use Rattle.lucid_types_laws.specs.declared.part.Part.TheVariants.{Does};
-ghost use Rattle.lucid_types_laws.specs.Statement.{assigned, call_dropped, declared, generated, printed, returned, touch_dropped};
-ghost use Rattle.lucid_types_expressions.specs.Gives.{Gives};
+ghost use Rattle.lucid_types_laws.specs.Statement.{assigned, call_dropped, declared, generated, printed, returned, simple, touch_dropped};
 ghost use Rattle.lucid_types_scope.specs.Numbered.{numbered_of};
 ghost use Rattle.lucid_types_statements.specs.Bodies.{Leaves, Takes};
 
 use crate::print_holes::holes;
 use crate::sendings::{self, sending};
 use crate::types::{type_of, width_of};
-use lucid_base::{Boxed, Id, Items, Memory};
+use lucid_base::{Boxed, Id, Items, Memory, Width};
 use lucid_core::{Ending, Expr, Stmt};
 use lucid_parse_tree::{A, E, Ty, V};
 use lucid_types_expressions::{Fault, all_free, call, expression, touch};
@@ -30,7 +32,7 @@ pub fn one(alloc: Global, step: Stmt, ending: Ending) -> Result<Body, Memory>
 }
 
 /// A statement that never returns.
-pub fn does(alloc: Global, step: Stmt) -> Result<Part, Memory>
+fn does(alloc: Global, step: Stmt) -> Result<Part, Memory>
     ensures { IfOk result (λ part. part ≡ Does (one step Never)) }
 {
     let body = one(alloc, step, Ending::Never)?;
@@ -52,53 +54,83 @@ pub fn declare(
         None => Err(Fault::NoRule),
         Some(t) => {
             let c = expression(alloc, scope, t, x)?;
-            let local = numbering.next_local()?;
-            let part = does(alloc, Stmt::Assign(local, c))?;
-            numbering.add_local(width_of(t))?;
-            scope.enter(Named {
-                name: n.copy(alloc)?,
-                entry: Entry::Local(local, t),
-            })?;
-            Ok(part)
+            match enter_local(alloc, scope, numbering, n, t) {
+                Ok(local) => Ok(does(alloc, Stmt::Assign(local, c))?),
+                Err(_) => {
+                    drop(c);
+                    Err(Fault::Memory)
+                }
+            }
         }
     }
 }
 
+/// Adds a local of this name and type, and returns its number.
+fn enter_local(
+    alloc: Global,
+    scope: &mut Scope,
+    numbering: &mut Numbering,
+    n: &Id,
+    t: ValueType,
+) -> Result<u32, Memory>
+    ensures local { IfOk result (λ i. i ≡ length numbering.old.locals) }
+    ensures names { IfOk result (λ i. scope.new ≡ called n.now (entry.Local i t) ∷ scope.old) }
+    ensures numbered { OnOk result (numbered_of numbering.new ≡ one_local (width_of t) (numbered_of numbering.old)) }
+{
+    let local = new_local(numbering, width_of(t))?;
+    scope.enter(Named {
+        name: n.copy(alloc)?,
+        entry: Entry::Local(local, t),
+    })?;
+    Ok(local)
+}
+
+/// Adds a local of this width, and returns its number.
+pub fn new_local(numbering: &mut Numbering, width: Width) -> Result<u32, Memory>
+    ensures local { IfOk result (λ i. i ≡ length numbering.old.locals) }
+    ensures numbered { OnOk result (numbered_of numbering.new ≡ one_local width (numbered_of numbering.old)) }
+{
+    let local = numbering.next_local()?;
+    numbering.add_local(width)?;
+    Ok(local)
+}
+
 /// An assignment. NoRule if the name is no local's, or the value doesn't have its type.
-pub fn assign(alloc: Global, scope: &Scope, n: &Id, x: &E) -> Result<Stmt, Fault>
-    ensures { Gives result (assigned n.now x.now scope.now) }
+pub fn assign(alloc: Global, scope: &Scope, n: &Id, x: &E) -> Result<Part, Fault>
+    ensures { (m : Numbered) → Takes result scope.now m (simple scope.now m (assigned n.now x.now scope.now)) }
 {
     match scope.find(n) {
         Some(Entry::Local(local, t)) => {
             let c = expression(alloc, scope, *t, x)?;
-            Ok(Stmt::Assign(*local, c))
+            Ok(does(alloc, Stmt::Assign(*local, c))?)
         }
         _ => Err(Fault::NoRule),
     }
 }
 
 /// A call of a function, whose value is dropped.
-pub fn drop_call(alloc: Global, scope: &Scope, n: &Id, xs: &[E]) -> Result<Stmt, Fault>
-    ensures { Gives result (call_dropped n.now xs.now scope.now) }
+pub fn drop_call(alloc: Global, scope: &Scope, n: &Id, xs: &[E]) -> Result<Part, Fault>
+    ensures { (m : Numbered) → Takes result scope.now m (simple scope.now m (call_dropped n.now xs.now scope.now)) }
 {
     let (_, c) = call(alloc, scope, n, xs)?;
-    Ok(Stmt::Drop(c))
+    Ok(does(alloc, Stmt::Drop(c))?)
 }
 
 /// A call of an array, whose value is dropped.
-pub fn drop_touch(alloc: Global, scope: &Scope, x: &A) -> Result<Stmt, Fault>
-    ensures { Gives result (touch_dropped x.now scope.now) }
+pub fn drop_touch(alloc: Global, scope: &Scope, x: &A) -> Result<Part, Fault>
+    ensures { (m : Numbered) → Takes result scope.now m (simple scope.now m (touch_dropped x.now scope.now)) }
 {
     let (_, c) = touch(alloc, scope, x)?;
-    Ok(Stmt::Drop(Expr::Array(Boxed::new(alloc, c)?)))
+    let c = Boxed::new(alloc, c)?;
+    Ok(does(alloc, Stmt::Drop(Expr::Array(c)))?)
 }
 
 /// A `generate` statement.
-pub fn generate(alloc: Global, scope: &Scope, x: &V) -> Result<Stmt, Fault>
-    ensures { Gives result (generated x.now scope.now) }
+pub fn generate(alloc: Global, scope: &Scope, x: &V) -> Result<Part, Fault>
+    ensures { (m : Numbered) → Takes result scope.now m (simple scope.now m (generated x.now scope.now)) }
 {
     let out = sending(alloc, scope, x)?;
-    Ok(sendings::sent(out))
+    Ok(does(alloc, sendings::sent(out))?)
 }
 
 /// A print. NoRule if its arguments are not as many as its text has `%d`.
