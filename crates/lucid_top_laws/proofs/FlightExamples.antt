@@ -28,7 +28,6 @@ use Rattle.lucid_core.specs.declared.body.Expr.TheFolds.{fold-roll-Expr, fold-ro
 use Rattle.lucid_core.specs.Computations.{Computation, Effect, Frame, State}
 use Rattle.lucid_core.specs.ExamplePrograms.{plus}
 use Rattle.lucid_core.specs.Meaning.{effect_of, expr_step, stmt_step, touch_of, touch_step, value_of}
-use Rattle.lucid_core.specs.Parts.{CoreParts}
 use Rattle.lucid_core.specs.Step.{Stepped, step}
 use Rattle.lucid_core.proofs.Folds.{folds}
 use Rattle.lucid_effects_spec.specs.Size.{flat_size}

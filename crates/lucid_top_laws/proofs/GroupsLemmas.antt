@@ -1,5 +1,5 @@
 -- The step of a program that sends to no group does not depend on the meaning of such a send.
-use Rattle.std.proofs.Common.{◌≡◌, ℕ, zero, suc, List, [], ◌∷◌, ◌++◌, Bool, true, ◌&&◌, Option, None, Some, fold, map, refl, sym, ap, ap₂, subst, ◌∙◌, option_map, option_to_list, slice_get}
+use Rattle.std.proofs.Common.{◌≡◌, ℕ, zero, suc, List, [], ◌∷◌, ◌++◌, Bool, true, Option, None, Some, fold, map, refl, sym, ap, ap₂, subst, ◌∙◌, option_map, option_to_list, slice_get}
 use Rattle.std.specs.List.{list_all}
 use Rattle.std.specs.Option.{option_and_then}
 use Rattle.std.proofs.lemmas.Bool.{and_parts}

@@ -233,16 +233,16 @@ is_typed = (
 
 -- ---- the order of its array
 
-expr_ends : (y : Expr-F Expr Stmt Touch) (fs : List FunEnd) (N : Numbering) (c : ℕ) → expr_end (roll-Expr y) fs N c ≡ walk.expr_step ends_walk (map-Expr Expr Stmt Touch End End End expr_end stmt_end touch_end y) fs N c
+pub expr_ends : (y : Expr-F Expr Stmt Touch) (fs : List FunEnd) (N : Numbering) (c : ℕ) → expr_end (roll-Expr y) fs N c ≡ walk.expr_step ends_walk (map-Expr Expr Stmt Touch End End End expr_end stmt_end touch_end y) fs N c
 expr_ends y fs N c = ap (λ (f : End). f fs N c) (fold-roll-Expr End End End (walk.expr_step ends_walk) (walk.stmt_step ends_walk) (walk.touch_step ends_walk) y)
 
-stmt_ends : (y : Stmt-F Expr Stmt Touch) (fs : List FunEnd) (N : Numbering) (c : ℕ) → stmt_end (roll-Stmt y) fs N c ≡ walk.stmt_step ends_walk (map-Stmt Expr Stmt Touch End End End expr_end stmt_end touch_end y) fs N c
+pub stmt_ends : (y : Stmt-F Expr Stmt Touch) (fs : List FunEnd) (N : Numbering) (c : ℕ) → stmt_end (roll-Stmt y) fs N c ≡ walk.stmt_step ends_walk (map-Stmt Expr Stmt Touch End End End expr_end stmt_end touch_end y) fs N c
 stmt_ends y fs N c = ap (λ (f : End). f fs N c) (fold-roll-Stmt End End End (walk.expr_step ends_walk) (walk.stmt_step ends_walk) (walk.touch_step ends_walk) y)
 
-touch_ends : (y : Touch-F Expr Stmt Touch) (fs : List FunEnd) (N : Numbering) (c : ℕ) → touch_end (roll-Touch y) fs N c ≡ walk.touch_step ends_walk (map-Touch Expr Stmt Touch End End End expr_end stmt_end touch_end y) fs N c
+pub touch_ends : (y : Touch-F Expr Stmt Touch) (fs : List FunEnd) (N : Numbering) (c : ℕ) → touch_end (roll-Touch y) fs N c ≡ walk.touch_step ends_walk (map-Touch Expr Stmt Touch End End End expr_end stmt_end touch_end y) fs N c
 touch_ends y fs N c = ap (λ (f : End). f fs N c) (fold-roll-Touch End End End (walk.expr_step ends_walk) (walk.stmt_step ends_walk) (walk.touch_step ends_walk) y)
 
-ruleset ends = (expr_ends, stmt_ends, touch_ends)
+pub ruleset ends = (expr_ends, stmt_ends, touch_ends)
 
 abbrev body : Body
 body = record { decl = 4; funs = []; body = steps }

@@ -3,6 +3,10 @@ mod Declares
 mod Empty
 mod Entering
 mod FlightExamples
+mod GeneratedCore
+mod GeneratedProgram
+mod GeneratedSettings
+mod GeneratedTree
 mod GroupTreesLemmas
 mod GroupsLemmas
 mod HandlerExamples
@@ -11,12 +15,15 @@ mod MatchesLemmas
 pub mod Moving
 mod OursLemmas
 pub mod Packets
+mod ParsingLemmas
 mod Programs
 mod ReadingLemmas
 mod Settings
 mod SpellingLemmas
+mod SummariesLemmas
 mod TemplateExamples
 mod TemplatesLemmas
+mod TextLengths
 mod ThereCyclesLemmas
 mod ThereFitLemmas
 mod ThereLemmas

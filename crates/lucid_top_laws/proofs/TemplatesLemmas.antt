@@ -1,5 +1,5 @@
 -- A text that is its own expansion is read as it is.
-use Rattle.std.proofs.Common.{◌≡◌, ◌≤◌, ◌↔◌, List, Result, Ok, Err, length, subst}
+use Rattle.std.proofs.Common.{◌≤◌, List, Result, Ok, Err, length, subst}
 use Rattle.lucid_core.specs.Parts.{CoreParts}
 use Rattle.lucid_lex.specs.declared.token.Token.{Token}
 use Rattle.lucid_lex.specs.Reading.{Reads}

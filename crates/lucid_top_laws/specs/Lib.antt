@@ -6,4 +6,5 @@ pub mod Matches
 pub mod Moves
 pub mod Packet
 pub mod Room
+pub mod Summaries
 pub mod Templates

@@ -14,6 +14,7 @@ ghost use Rattle.lucid_top_laws.specs.Matches.{MatchesAreApart};
 ghost use Rattle.lucid_top_laws.specs.Moves.{MovesRunWhole};
 ghost use Rattle.lucid_top_laws.specs.Packet.{AuditsRunWhole, FitsRunWhole, RunsWhole};
 ghost use Rattle.lucid_top_laws.specs.Room.{NodesLackRoom, OursKeepNodes};
+ghost use Rattle.lucid_top_laws.specs.Summaries.{BenchSummarizes};
 ghost use Rattle.lucid_top_laws.specs.Templates.{IsPlain};
 
 use lucid_audit::audits_are_one;
@@ -129,6 +130,12 @@ pub fn answers_are_there()
     paths_decide();
     layouts_are_there();
 }
+
+/// A law: `bench` is answered with the line that summarizes the log of `run pipe` over the texts that `gen` writes, or with the same
+/// refusal.
+pub fn bench_summarizes_a_run()
+    ensures { BenchSummarizes }
+{}
 
 /// A law: if no statement of a program sends to a group, its step is that of the language without groups. It is the same whatever such a
 /// send means.

@@ -3,9 +3,11 @@ ghost use Rattle.std.specs.Prelude.{◌≡◌, [], ◌∷◌, Ok, codes};
 ghost use Rattle.lucid_log_tally.specs.Bench.{bench_line};
 ghost use Rattle.lucid_top.specs.Answer.{Answers};
 ghost use Rattle.lucid_top_laws.specs.Calls.{expand, once, over_an_event, run_pipe, run_whole};
+ghost use Rattle.lucid_top_laws.specs.Summaries.{AreRead};
 
 use lucid_base::Span;
 use lucid_lex::{Kind, Sign, Token, Word};
+use lucid_parse_spec::declarations_are_read_as_spelled;
 use lucid_size::plain_text_stays;
 
 /// The tokens of `event e();`.
@@ -105,3 +107,17 @@ pub fn limits_are_generated()
     ensures { Answers (over_an_event (codes "gen" ∷ codes "limits" ∷ codes "1" ∷ codes "1" ∷ []))
         (Ok (codes "{\"stages\":32,\"tables\":64,\"rows\":1024,\"bits\":65536}\n")) }
 {}
+
+/// `gen scene 1 1` is answered with a scenario of two linked pairs of switches and one event.
+pub fn a_scene_is_generated()
+    ensures { Answers (over_an_event (codes "gen" ∷ codes "scene" ∷ codes "1" ∷ codes "1" ∷ []))
+        (Ok (codes "{\"switches\":4,\"stop\":1000,\"links\":[[0,1,1],[2,3,2]],\"events\":[{\"at\":74,\"switch\":1,\"name\":\"e4\",\"args\":[870,34]}]}\n")) }
+{}
+
+/// The texts of `bench 69426392 1` are read: a program text of 1,035 tokens, with its tree, its core and the order of its arrays, the
+/// limits, and a scenario of one event.
+pub fn generated_texts_are_read()
+    ensures { AreRead 69426392 1 }
+{
+    declarations_are_read_as_spelled();
+}
