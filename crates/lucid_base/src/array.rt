@@ -5,7 +5,7 @@ use crate::{Id, Memory, Width};
 use std::alloc::Global;
 
 /// A declared array: `size` cells of `width` bits each.
-#[derive(Debug, Drop)]
+#[derive(Drop)]
 pub struct ArrayDef {
     pub name: Id,
     pub width: Width,

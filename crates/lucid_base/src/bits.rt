@@ -5,7 +5,7 @@ ghost use Rattle.lucid_base.specs.Bool.{bit_of};
 use crate::Width;
 
 /// A number of `width` bits. A bool is such a number of width 1.
-#[derive(Clone, Copy, Debug, PartialEq, Eq)]
+#[derive(Clone, Copy, PartialEq, Eq)]
 pub struct Bits {
     pub width: Width,
     pub value: u64,

@@ -14,7 +14,7 @@ pub struct Cells {
 }
 
 /// The old value of a cell and the answer of the call.
-#[derive(Clone, Copy, Debug)]
+#[derive(Clone, Copy)]
 pub struct Touched {
     pub held: u64,
     pub answer: Bits,

@@ -5,7 +5,7 @@ ghost use Rattle.lucid_base.specs.Memop.{operand_of, side_of, apply_of, memop_va
 use crate::{BinOp, Bits, CmpOp, Width, apply_bin, compare};
 
 /// An operand of a memop: the stored number, the argument, or a number of the program, which counts by its low bits.
-#[derive(Clone, Copy, Debug, PartialEq, Eq)]
+#[derive(Clone, Copy, PartialEq, Eq)]
 pub enum MemArg {
     Stored,
     Arg,
@@ -13,14 +13,14 @@ pub enum MemArg {
 }
 
 /// The result on one side of a memop's test: an operand, or an operation on two.
-#[derive(Clone, Copy, Debug, PartialEq, Eq)]
+#[derive(Clone, Copy, PartialEq, Eq)]
 pub enum MemSide {
     One(MemArg),
     Two(BinOp, MemArg, MemArg),
 }
 
 /// A memop over cells of `width` bits: `yes` if the test holds or there is none, else `no`.
-#[derive(Clone, Copy, Debug, PartialEq, Eq)]
+#[derive(Clone, Copy, PartialEq, Eq)]
 pub struct MemAlu {
     pub width: Width,
     pub test: Option<(CmpOp, MemArg, MemArg)>,

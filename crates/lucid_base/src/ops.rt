@@ -5,7 +5,7 @@ ghost use Rattle.lucid_base.specs.Ops.{un_of, bin_of, cmp_of, low_of, IsShiftBy}
 use crate::{Bits, Width};
 
 /// Operations on one operand. Neg, Flip, Shl and Shr are `-`, `~`, `<<` and `>>`, the last two by a fixed amount.
-#[derive(Clone, Copy, Debug, PartialEq, Eq)]
+#[derive(Clone, Copy, PartialEq, Eq)]
 pub enum UnOp {
     Neg,
     Flip,
@@ -14,7 +14,7 @@ pub enum UnOp {
 }
 
 /// Operations on two operands of one width. SatAdd and SatSub are `|+|` and `|-|`, which stop at the ends of the width.
-#[derive(Clone, Copy, Debug, PartialEq, Eq)]
+#[derive(Clone, Copy, PartialEq, Eq)]
 pub enum BinOp {
     Add,
     Sub,
@@ -26,7 +26,7 @@ pub enum BinOp {
 }
 
 /// How two operands of one width compare, as unsigned numbers.
-#[derive(Clone, Copy, Debug, PartialEq, Eq)]
+#[derive(Clone, Copy, PartialEq, Eq)]
 pub enum CmpOp {
     Eq,
     Ne,

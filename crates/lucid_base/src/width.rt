@@ -6,7 +6,7 @@ use std::marker::Model;
 
 /// A number of bits from 1 to 64, which contracts see as that number. It is kept in a word, so that a number with its width has no bytes
 /// that mean nothing and is copied by words.
-#[derive(Clone, Copy, Debug, PartialEq, Eq)]
+#[derive(Clone, Copy, PartialEq, Eq)]
 pub struct Width {
     bits: u64,
 }

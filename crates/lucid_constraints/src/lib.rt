@@ -1,7 +1,7 @@
 // The order in which arrays are called: the constraints of a function, kept without repeats. Substituting a caller's arrays for a
 // function's parameters preserves the constraints. There is no cycle exactly if the names have a strictly rising numbering.
-// Used by lucid_effects_spec, lucid_effects_laws, lucid_effects, lucid_pass_laws and lucid_top_laws. Promises of the program rest on its
-// definitions (docs/TRUSTED.md). Bodies and proofs may change; a public clause may only get stronger.
+// Used by lucid_effects_spec, lucid_effects_laws, lucid_effects and lucid_top_laws. Promises of the program rest on its definitions
+// (docs/TRUSTED.md). Bodies and proofs may change; a public clause may only get stronger.
 #![tactic(auto)]
 
 mod cover;

@@ -1,5 +1,5 @@
 // The text of a step: a line, and the block of a packet that left.
-ghost use Rattle.std.specs.Prelude.{◌≡◌, ◌<◌, ◌++◌, ◌%◌, length, OnOk, OnErr};
+ghost use Rattle.std.specs.Prelude.{◌≡◌, ◌<◌, ◌++◌, ◌%◌, Some, length, slice_get, OnOk, OnErr};
 ghost use Rattle.lucid_io.specs.Puts.{PutsAll, PutsPart};
 ghost use Rattle.lucid_log.specs.Cell.{array_name};
 ghost use Rattle.std.specs.Prelude.{codes, decimal};
@@ -59,7 +59,6 @@ pub(crate) fn put_moved<S: Sink>(
 }
 
 /// Writes the text of a step.
-#[tactic(auto, using(crate::proofs::Putting::looked_some))]
 pub(crate) fn put_happened<S: Sink>(
     sink: &mut S,
     core: &Core,
@@ -98,7 +97,6 @@ pub(crate) fn put_out<S: Sink>(
 }
 
 /// Writes the line of a look.
-#[tactic(auto, using(crate::proofs::Putting::looked_some))]
 fn put_looked<S: Sink>(
     sink: &mut S,
     core: &Core,
@@ -110,8 +108,15 @@ fn put_looked<S: Sink>(
     ensures all { OnOk result (PutsAll S.written S.faults sink.old sink.new (happened_text core.now (Looked array cell value))) }
     ensures part { OnErr result (PutsPart S.written S.faults sink.old sink.new (happened_text core.now (Looked array cell value))) }
 {
-    let found = &core.arrays()[array as usize];
-    put_look(sink, found, cell, value)
+    put_look(sink, array_of(core, array), cell, value)
+}
+
+#[tactic(auto, using(crate::proofs::Putting::array_is))]
+fn array_of(core: &Core, array: u32) -> &ArrayDef
+    requires { array < length core.now.arrays }
+    ensures { slice_get core.now.arrays array ≡ Some result.now }
+{
+    &core.arrays()[array as usize]
 }
 
 /// The same, of an array.

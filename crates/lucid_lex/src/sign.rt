@@ -3,7 +3,7 @@ ghost use Rattle.std.specs.Prelude.{◌≡◌};
 ghost use Rattle.lucid_lex.specs.Sign.{sign_text, sign_at};
 
 /// A sign: an operator, a bracket or a mark between parts.
-#[derive(Clone, Copy, Debug, PartialEq, Eq)]
+#[derive(Clone, Copy, PartialEq, Eq)]
 pub enum Sign {
     /// `|+|`
     SatAdd,

@@ -8,7 +8,7 @@ use lucid_base::Span;
 use std::alloc::AllocFailed;
 
 /// The kind of a token. Two names, and two texts, differ only by their bytes, which are in the text at the span.
-#[derive(Clone, Copy, Debug)]
+#[derive(Clone, Copy)]
 pub enum Kind {
     /// A name, which is no reserved word.
     Name,

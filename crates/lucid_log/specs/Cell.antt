@@ -11,7 +11,3 @@ line_of switch name cell value =
 -- The name of an array; none where there is no such array.
 abbrev pub array_name : CoreParts → ℕ → List ℕ
 array_name core array = option_map_or (λ a. a.name) (slice_get core.arrays array) []
-
--- The line of a cell of a core's array.
-abbrev pub cell_text : CoreParts → ℕ → ℕ → ℕ → ℕ → List ℕ
-cell_text core switch array cell value = line_of switch (array_name core array) cell value

@@ -1,38 +1,10 @@
 // The line of a cell.
-ghost use Rattle.std.specs.Prelude.{◌≡◌, ◌<◌, ◌++◌, length, OnOk, OnErr};
-ghost use Rattle.lucid_io.specs.Puts.{PutsAll, PutsPart, Leaves};
-ghost use Rattle.lucid_log.specs.Cell.{array_name, cell_text, line_of};
+ghost use Rattle.std.specs.Prelude.{◌++◌, OnOk, OnErr};
+ghost use Rattle.lucid_io.specs.Puts.{PutsPart, Leaves};
+ghost use Rattle.lucid_log.specs.Cell.{line_of};
 
 use crate::pieces::{Piece, hold_pieces};
-use lucid_core::Core;
-use lucid_io::{ROOM, Room, Sink, WriteFault, release};
-
-/// Writes the line of a cell of a declared array (`cell_text`): all of it, or a proper prefix of it if the sink's count of faults rose in this call.
-pub fn put_cell<S: Sink>(
-    sink: &mut S,
-    core: &Core,
-    switch: u32,
-    array: u32,
-    cell: u64,
-    value: u64,
-) -> Result<(), WriteFault>
-    requires { array < length core.now.arrays }
-    ensures all { OnOk result (PutsAll S.written S.faults sink.old sink.new (cell_text core.now switch array cell value)) }
-    ensures part { OnErr result (PutsPart S.written S.faults sink.old sink.new (cell_text core.now switch array cell value)) }
-{
-    let mut room = Room::<ROOM>::new();
-    let name = name_of(core, array);
-    hold_line(sink, &mut room, switch, name, cell, value)?;
-    release(sink, &mut room)
-}
-
-// The name of a declared array.
-fn name_of(core: &Core, array: u32) -> &[u8]
-    requires { array < length core.now.arrays }
-    ensures { result.now ≡ array_name core.now array }
-{
-    core.arrays()[array as usize].name.bytes()
-}
+use lucid_io::{Room, Sink, WriteFault};
 
 // The line of a cell of the array of this name.
 pub(crate) fn hold_line<'a, S: Sink, const N: usize>(

@@ -13,7 +13,6 @@ mod filled;
 mod pieces;
 
 pub use block::put_block;
-pub use cell::put_cell;
 pub use cells::{ArrayCells, put_cells};
 pub use ending::put_ending;
 pub use pieces::{Piece, put_numbered, put_pieces};

@@ -21,58 +21,16 @@ use Rattle.lucid_pipe.specs.Packets.{Packet}
 use Rattle.lucid_pipe.specs.Pipe.{PipeParts}
 use Rattle.lucid_pipe.specs.Rows.{array_cells, by_array}
 use Rattle.lucid_pipe_laws.proofs.Stream.{settles_to}
+use Rattle.lucid_pipe_laws.proofs.Sights.{flight_law, stage_law}
 use Rattle.lucid_pipe_laws.specs.Rows.{Row, Steps, after_first, row, settled}
-use Rattle.lucid_pipe_laws.specs.Moves.{through}
-use Rattle.lucid_pipe_laws.specs.Sights.{FlightLaw, KeepsTag, StageLaw, pasts}
-use Rattle.lucid_pipe_laws.specs.Stream.{cells_at, next, picture, ran}
+use Rattle.lucid_pipe_laws.specs.Sights.{KeepsTag, pasts}
+use Rattle.lucid_pipe_laws.specs.Stream.{cells_at, next, picture}
 use Rattle.lucid_tables.specs.Placed.{PlacedParts, stage_of}
 use Rattle.lucid_tables.specs.declared.stage.StageCode.{StageCode}
 use Rattle.lucid_net.specs.Holds.{Holds, entry_by, entry_of}
 use Rattle.lucid_net.specs.Pipes.{IsPiped, IsReady, Piped}
 use Rattle.lucid_net.specs.Rows.{pipe_at}
 use Rattle.lucid_net.proofs.Piping.{pipe_between, rows_between}
-
-module _ {T : Type 0} where
-  pasts-same : (f g : ℕ → Option T) (t k : ℕ) → ((e : ℕ) → f e ≡ g e) → pasts f t k ≡ pasts g t k
-  pasts-same f g t zero same = refl
-  pasts-same f g zero (suc k) same = ap (λ (l : List (Option T)). None ∷ l) (pasts-same f g zero k same)
-  pasts-same f g (suc t) (suc k) same = ap (λ (o : Option T). o ∷ pasts f t k) (same t) ∙ ap (λ (l : List (Option T)). g t ∷ l) (pasts-same f g t k same)
-
-module _ {C P T : Type 0} where
-  tag_through : (f : C → P → C × P) (tag : P → T) (c : C) (o : Option P) → ((c : C) (p : P) → tag (f c p).1 ≡ tag p) → option_map tag (through f c o).1 ≡ option_map tag o
-  tag_through f tag c None keeps = refl
-  tag_through f tag c (Some p) keeps = ap (λ (x : T). Some x) (keeps c p)
-
-  flight_law : (step : Steps C P) (tag : P → T) → FlightLaw step tag
-  flight_law step tag keeps [] run t = refl
-  flight_law step tag keeps (c ∷ cs) run zero =
-      ap (λ (l : List (Option T)). None ∷ l) (flight_law (after_first step) tag (λ k. keeps (suc k)) cs (next (step 0) c run) zero
-      ∙ pasts-same (λ e. option_map tag (next (step 0) c run e)) (λ e. option_map tag (run e)) zero (length cs) (λ e. tag_through (step 0) tag (ran (step 0) c run e) (run e) (keeps 0)))
-  flight_law step tag keeps (c ∷ cs) run (suc t) =
-      ap (λ (l : List (Option T)). option_map tag (run t) ∷ l) (flight_law (after_first step) tag (λ k. keeps (suc k)) cs (next (step 0) c run) t
-      ∙ pasts-same (λ e. option_map tag (next (step 0) c run e)) (λ e. option_map tag (run e)) t (length cs) (λ e. tag_through (step 0) tag (ran (step 0) c run e) (run e) (keeps 0)))
-
-module _ {C P : Type 0} where
-  stage_law : (step : Steps C P) → StageLaw step
-  stage_law step [] run t k d lt = absurd (omega (arith, lt))
-  stage_law step (c ∷ cs) run zero zero d lt = ap (ran (step 0) c run) none
-    where
-      none : zero ≡ zero - suc zero
-      none = omega arith
-  stage_law step (c ∷ cs) run (suc t) zero d lt = ap (ran (step 0) c run) one
-    where
-      one : t ≡ suc t - suc zero
-      one = omega arith
-  stage_law step (c ∷ cs) run zero (suc k) d lt =
-      stage_law (after_first step) cs (next (step 0) c run) zero k d (omega (arith, lt)) ∙ ap (λ (j : ℕ). get_or (cells_at (after_first step) cs (next (step 0) c run) j) k d.cells) none
-    where
-      none : zero - suc k ≡ zero - suc (suc k)
-      none = omega arith
-  stage_law step (c ∷ cs) run (suc t) (suc k) d lt =
-      stage_law (after_first step) cs (next (step 0) c run) t k d (omega (arith, lt)) ∙ ap (λ (j : ℕ). get_or (cells_at (after_first step) cs (next (step 0) c run) j) k d.cells) one
-    where
-      one : t - suc k ≡ suc t - suc (suc k)
-      one = omega arith
 
 -- ---- the packets in flight
 

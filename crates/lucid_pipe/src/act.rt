@@ -1,12 +1,17 @@
 // An act of a stage, on registers and cells.
-ghost use Rattle.std.specs.Prelude.{◌≡◌, length};
-ghost use Rattle.lucid_code.specs.Run.{run_act};
+ghost use Rattle.std.specs.Prelude.{◌≡◌, ◌≤◌, length};
+ghost use Rattle.lucid_base.specs.Bool.{bit_of};
+ghost use Rattle.lucid_base.specs.Ops.{bin_of, cmp_of, low_of, un_of};
+ghost use Rattle.lucid_base.specs.declared.event.Out.TheVariants as out;
+ghost use Rattle.lucid_code.specs.Run.{run_act, target_of, value, values};
 ghost use Rattle.lucid_pipe.specs.Blocks.{on_registers, CanAct};
 
 use crate::read::{arguments, hash, put, target, value};
 use crate::sent::Sent;
-use lucid_base::{Bits, Cells, Event, Out, Width, apply_bin, apply_un, compare};
-use lucid_code::Act;
+use lucid_base::{
+    BinOp, Bits, Cells, CmpOp, Event, Out, UnOp, Width, apply_bin, apply_un, compare,
+};
+use lucid_code::{Act, Operand};
 
 /// Does an act on the registers. Each register has its width.
 pub(crate) fn act(
@@ -23,23 +28,16 @@ pub(crate) fn act(
 {
     match act {
         Act::Un(op, width, a, k) => {
-            let a = Bits::low(*width, value(registers, *a));
-            put(widths, registers, *k, apply_un(*op, a).value);
+            let v = unary(registers, *op, *width, *a);
+            put(widths, registers, *k, v);
         }
         Act::Bin(op, width, a, b, k) => {
-            let a = Bits::low(*width, value(registers, *a));
-            let b = Bits::low(*width, value(registers, *b));
-            put(widths, registers, *k, apply_bin(*op, a, b).value);
+            let v = binary(registers, *op, *width, *a, *b);
+            put(widths, registers, *k, v);
         }
         Act::Cmp(op, width, a, b, k) => {
-            let a = Bits::low(*width, value(registers, *a));
-            let b = Bits::low(*width, value(registers, *b));
-            put(
-                widths,
-                registers,
-                *k,
-                Bits::from_bool(compare(*op, a, b)).value,
-            );
+            let v = comparison(registers, *op, *width, *a, *b);
+            put(widths, registers, *k, v);
         }
         Act::Cast(a, k) => {
             let v = value(registers, *a);
@@ -82,17 +80,57 @@ pub(crate) fn act(
             delay,
             to,
         } => {
-            let event = Event {
-                id: *event,
-                args: arguments(registers, args.as_slice()),
-            };
-            let delay = value(registers, *delay);
-            let to = target(registers, *to);
-            sent.put(*slot, Out::Gen { event, delay, to });
+            let out = generated(registers, *event, args.as_slice(), *delay, *to);
+            sent.put(*slot, out);
         }
         Act::Say { slot, form, args } => {
             let args = arguments(registers, args.as_slice());
             sent.put(*slot, Out::Say { form: *form, args });
         }
+    }
+}
+
+fn unary(registers: &[u64], op: UnOp, width: Width, a: Operand) -> u64
+    ensures { result ≡ un_of op width (low_of width (value registers.now a)) }
+{
+    apply_un(op, Bits::low(width, value(registers, a))).value
+}
+
+fn binary(registers: &[u64], op: BinOp, width: Width, a: Operand, b: Operand) -> u64
+    ensures { result ≡ bin_of op width (low_of width (value registers.now a)) (low_of width (value registers.now b)) }
+{
+    let a = Bits::low(width, value(registers, a));
+    let b = Bits::low(width, value(registers, b));
+    apply_bin(op, a, b).value
+}
+
+/// Returns 1 if the comparison holds.
+fn comparison(registers: &[u64], op: CmpOp, width: Width, a: Operand, b: Operand) -> u64
+    ensures { result ≡ bit_of (cmp_of op (low_of width (value registers.now a)) (low_of width (value registers.now b))) }
+{
+    let a = Bits::low(width, value(registers, a));
+    let b = Bits::low(width, value(registers, b));
+    Bits::from_bool(compare(op, a, b)).value
+}
+
+/// Returns the out of an event with these arguments.
+fn generated(
+    registers: &[u64],
+    event: u32,
+    args: &[Operand],
+    delay: Operand,
+    to: Option<Operand>,
+) -> Out
+    requires { length args.now ≤ 8 }
+    ensures { result ≡ out.Gen (record { id = event; args = values registers.now args.now }) (value registers.now delay) (target_of registers.now to) }
+{
+    let event = Event {
+        id: event,
+        args: arguments(registers, args),
+    };
+    Out::Gen {
+        event,
+        delay: value(registers, delay),
+        to: target(registers, to),
     }
 }

@@ -5,7 +5,7 @@
 // Definitions: Rows has stages with their packets, a whole pass and the settled state of a pipe. Moves has the moves: one packet moves, one
 // enters, all move. Picture and Places determine the pipe by the entered events and the number of packets that traversed each stage. Stream
 // and Sights are about pipes in which all packets move once a tick.
-// Used by lucid_pipe, lucid_drive, lucid_net_laws, lucid_net and lucid_top_laws. Promises of the program rest on its definitions
+// Used by lucid_pipe, lucid_drive, lucid_net_laws and lucid_net. Promises of the program rest on its definitions
 // (docs/TRUSTED.md). Proofs may change; a law may only get stronger.
 #![tactic(auto)]
 

@@ -1,5 +1,5 @@
 // The command of the words of a call, read by place.
-ghost use Rattle.std.specs.Prelude.{◌≡◌, ◌+◌, ◌<◌, ◌^◌, All, IfSome, length, map, string_bytes};
+ghost use Rattle.std.specs.Prelude.{◌≡◌, ◌+◌, ◌<◌, ◌^◌, ◌∷◌, All, IfSome, length, map, string_bytes};
 ghost use Rattle.lucid_top_words.specs.Command.{HasCount, audit_words, bench_words, command_of, check_words, drive_words, expand_words};
 ghost use Rattle.lucid_top_words.specs.Command.{gen_words, kind_of, layout_words, once_words, snap_words};
 ghost use Rattle.lucid_top_words.specs.Command.{placed_mode as placed_mode_of, run_mode as mode_of, run_words, files_of};
@@ -180,19 +180,7 @@ impl Command {
         ensures counted { IfSome result HasCount }
     {
         match words {
-            [verb, rest @ ..] => match verb.as_str() {
-                "check" => read_check(rest),
-                "once" => read_once(rest),
-                "expand" => read_expand(rest),
-                "layout" => read_layout(rest),
-                "run" => read_run(rest),
-                "drive" => read_drive(rest),
-                "audit" => read_audit(rest),
-                "snap" => read_snap(rest),
-                "gen" => read_gen(rest),
-                "bench" => read_bench(rest),
-                _ => None,
-            },
+            [verb, rest @ ..] => read_verb(verb.as_str(), rest),
             [] => None,
         }
     }
@@ -213,6 +201,27 @@ impl Command {
             Command::Audit => &AUDIT_FILES,
             Command::Gen { .. } | Command::Bench { .. } => &[],
         }
+    }
+}
+
+/// Returns the command of a verb and the words behind it.
+fn read_verb(verb: &str, words: &[String]) -> Option<Command>
+    ensures command { result ≡ command_of (verb.now ∷ map string_bytes words.now) }
+    ensures there { IfSome result (λ c. All (λ file. file.word < 1 + length words.now) (files_of c)) }
+    ensures counted { IfSome result HasCount }
+{
+    match verb {
+        "check" => read_check(words),
+        "once" => read_once(words),
+        "expand" => read_expand(words),
+        "layout" => read_layout(words),
+        "run" => read_run(words),
+        "drive" => read_drive(words),
+        "audit" => read_audit(words),
+        "snap" => read_snap(words),
+        "gen" => read_gen(words),
+        "bench" => read_bench(words),
+        _ => None,
     }
 }
 

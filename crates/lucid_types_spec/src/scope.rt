@@ -2,14 +2,14 @@
 use lucid_base::{ArrayName, Bits, Id, Items, MemAlu, Width};
 
 /// The type of a value: a number of this width, or a truth.
-#[derive(Clone, Copy, Debug, PartialEq, Eq)]
+#[derive(Clone, Copy, PartialEq, Eq)]
 pub enum ValueType {
     Int(Width),
     Bool,
 }
 
 /// A parameter of a function: a value, or an array with cells of this width.
-#[derive(Clone, Copy, Debug, PartialEq, Eq)]
+#[derive(Clone, Copy, PartialEq, Eq)]
 pub enum Param {
     Value(ValueType),
     Array(Width),
