@@ -1,7 +1,8 @@
-"""Texts and files at their limits, on a stack of 8 MiB: the calls of tests/deep.rows, with seconds and memory.
+"""Texts and files at their limits: the calls of tests/deep.rows, with seconds and memory, and again on a stack of 1 MiB.
 
-Prints a line of a table for each call. Fails on a call that ends by a signal, takes over two minutes, or ends otherwise than its row says.
-`--only WORD` makes the calls whose title has the word; `--fill` writes missing sums, as of rows. Sees nothing of shapes that have no row.
+Prints a line of a table for each call. Fails on a call that ends by a signal, takes over two minutes, or ends otherwise than its row says
+or than on the larger stack. A walk that takes a few hundred bytes of stack more for each `if` fails at 1 MiB. `--only WORD` makes the calls
+whose title has the word; `--fill` writes missing sums, as of rows. Sees nothing of shapes that have no row.
 """
 from __future__ import annotations
 
@@ -12,6 +13,15 @@ from harness import TESTS, Ended, Group, compile_c, measure, table
 from rowfile import Row
 
 from .rows import fill, read_all
+
+SMALL_STACK = 1024  # KiB
+# Rows that need more: the flat form of each nests thousands deep, or the words of the call take a quarter of the stack.
+LARGE = {
+    "a chain of 1,700 functions that do nothing, placed",
+    "a chain of 2,100 functions that do nothing, placed",
+    "40 functions with calls 62 deep, the last of the one before, placed",
+    "an event with 30,000 arguments",
+}
 
 
 def run(group: Group) -> None:
@@ -31,8 +41,12 @@ def line_of(group: Group, spent: Path, row: Row) -> List[object]:
     folder.mkdir()
     for name, text in row.files.items():
         (folder / name).write_bytes(text)
-    it = measure(spent, [group.options.program, *row.words], folder)
+    call = [group.options.program, *row.words]
+    it = measure(spent, call, folder)
     group.check(f"tests/deep.rows:{row.line}: {row.title}", row.holds(it.ended), it.ended)
+    if row.title not in LARGE:
+        small = measure(spent, ["/bin/sh", "-c", f'ulimit -s {SMALL_STACK}; exec "$0" "$@"', *call], folder).ended
+        group.check(f"tests/deep.rows:{row.line}: {row.title}: the same on a stack of {SMALL_STACK} KiB", small == it.ended, small)
     words = " ".join(row.words)[:40]
     return [f"{row.title}: `{words}`", row.bytes_read(), ending(it.ended), f"{it.seconds:.2f}", it.megabytes]
 
