@@ -108,6 +108,8 @@ class Shape:
         return [(name, spelled_out(texts[name].replace("@", str(size)))) for name in texts if name in self.words]
 
 
+# How often a call beyond its bound is called again.
+AGAIN = 5
 # The bounds on a processor, about twice the seconds and the memory that were measured. Lower them as the program gets quicker.
 SHAPES = {
     "8 matches of 4 behind 20 tests": Shape(lambda n: guarded(n, 4), LAYOUT, 20, 0.5, 20, True, growth=2.3),
@@ -127,7 +129,7 @@ SHAPES = {
     "128 sends behind an else": Shape(ELSE_SENDS, LAYOUT, 128, 0.5, 20, True),
     "512 sends behind an else": Shape(ELSE_SENDS, LAYOUT, 512, 1, 40),
     "512 sends behind tests of 8 parameters": Shape(TESTED_SENDS, LAYOUT, 64, 1, 20, growth=3.0),
-    "2,048 sends behind tests of 8 parameters": Shape(TESTED_SENDS, LAYOUT, 256, 5, 60),
+    "2,048 sends behind tests of 8 parameters": Shape(TESTED_SENDS, LAYOUT, 256, 4, 60, growth=3.0),
     "10,000 early returns": Shape(EARLY, CHECK, 10000, 1, 100, True),
     "a chain of 1,000 functions": Shape(CHAIN, LAYOUT, 1000, 1, 60, True, limits="{}"),
     "4,900 names with one beginning": Shape(NAMES, CHECK, 4900, 2, 100, True),
@@ -151,14 +153,20 @@ def run(group: Group) -> None:
 
 
 def spend(group: Group, spent: Path, shape: Shape, size: int, seconds: int) -> Tuple[Spent, int]:
-    """Writes the files of a shape at a size, and measures its call, of the quick ones the quickest of three; also returns the bytes."""
+    """Writes the files of a shape at a size, and measures its call; also returns the bytes.
+
+    A quick call is the quickest of three. One beyond its bound is called again, up to five times, since a busy machine makes calls slower.
+    """
     files = shape.files(size)
     for name, text in files:
         group.file(name, text)
     words = [group.options.program, *shape.words]
-    first = measure(spent, words, group.room, seconds)
-    again = [best(spent, words, 2, group.room, seconds)] if first.seconds < 2 else []
-    return min([first, *again], key=lambda it: it.seconds), sum(len(text) for _, text in files)
+    took = [measure(spent, words, group.room, seconds)]
+    if took[0].seconds < 2:
+        took.append(best(spent, words, 2, group.room, seconds))
+    while len(took) <= AGAIN and shape.seconds < min(it.seconds for it in took) < seconds:
+        took.append(measure(spent, words, group.room, seconds))
+    return min(took, key=lambda it: it.seconds), sum(len(text) for _, text in files)
 
 
 def line_of(group: Group, spent: Path, name: str, shape: Shape) -> List[object]:
