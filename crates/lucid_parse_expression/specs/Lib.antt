@@ -1,3 +1,4 @@
+pub mod Nodes
 pub mod Reads
 pub mod Tokens
 pub mod Within

@@ -1,4 +1,5 @@
 // Calls on arrays: the method, and then its arguments, which are read as a list of expressions and taken apart here.
+ghost use Rattle.lucid_parse_expression.specs.Nodes as nodes;
 ghost use Rattle.lucid_parse_expression.specs.Reads.{Reads, Gives};
 ghost use Rattle.lucid_parse_expression.specs.Tokens.{said};
 ghost use Rattle.lucid_parse_spec.specs.declared.method.Method.TheVariants as methods;
@@ -6,7 +7,7 @@ ghost use Rattle.lucid_parse_spec.specs.ReadExpression as spec;
 
 use crate::error::Stop;
 use crate::lexeme::Lexeme;
-use crate::parts::expect;
+use crate::parts::{ended, expect};
 use crate::tokens::Tokens;
 use lucid_base::{Boxed, Id, Items};
 use lucid_lex::Sign;
@@ -22,23 +23,25 @@ pub(crate) fn array_method(tokens: Tokens) -> Result<(Method, Tokens), Stop>
     let rest = expect(Sign::Dot, tokens)?;
     match rest.split() {
         Some((Lexeme::Name(name), rest)) => match Method::of(name.bytes) {
-            Some(method) => {
-                let rest = expect(Sign::OpenParen, rest)?;
-                Ok((method, rest))
-            }
+            Some(method) => ended(Sign::OpenParen, (method, rest)),
             None => Err(Stop::NoTree),
         },
         _ => Err(Stop::NoTree),
     }
 }
 
-/// The call by this method with these expressions, all of them. It is boxed at once, since a proof pays much for each path that drops a
-/// call by value.
-pub(crate) fn array_of(alloc: Global, method: Method, given: Items<E>) -> Result<Boxed<A>, Stop>
-    ensures { Gives result (spec.array_of method given) }
+/// The call by this method with the expressions that were read, all of them. It is boxed at once, since a proof pays much for each path
+/// that drops a call by value.
+pub(crate) fn array_of<'a>(
+    alloc: Global,
+    method: Method,
+    read: (Items<E>, Tokens<'a>),
+) -> Result<(Boxed<A>, Tokens<'a>), Stop>
+    ensures { Reads result (nodes.array_call method (read.entry.0, said read.entry.1)) }
 {
+    let (given, rest) = read;
     let call = call_of(method, given)?;
-    Ok(Boxed::new(alloc, call)?)
+    Ok((Boxed::new(alloc, call)?, rest))
 }
 
 #[tactic(auto, unfolding(lucid_parse_spec::specs::ReadExpression::array_of))]
@@ -78,6 +81,7 @@ fn get_call(name: Id, index: E, given: Items<E>) -> Result<A, Stop>
     if given.is_empty() {
         Ok(A::Get(name, index))
     } else {
+        drop(index);
         Err(Stop::NoTree)
     }
 }
@@ -86,32 +90,52 @@ fn get_call(name: Id, index: E, given: Items<E>) -> Result<A, Stop>
 fn set_call(name: Id, index: E, given: Items<E>) -> Result<A, Stop>
     ensures { Gives result (spec.array_with name index methods.Set given) }
 {
-    let value = last(given)?;
-    Ok(A::Set(name, index, value))
+    match last(given) {
+        Ok(value) => Ok(A::Set(name, index, value)),
+        Err(stop) => {
+            drop(index);
+            Err(stop)
+        }
+    }
 }
 
 #[tactic(auto, unfolding(lucid_parse_spec::specs::ReadExpression::array_with))]
 fn getm_call(name: Id, index: E, given: Items<E>) -> Result<A, Stop>
     ensures { Gives result (spec.array_with name index methods.Getm given) }
 {
-    let (memop, argument) = last_memop(given)?;
-    Ok(A::Getm(name, index, memop, argument))
+    match last_memop(given) {
+        Ok((memop, argument)) => Ok(A::Getm(name, index, memop, argument)),
+        Err(stop) => {
+            drop(index);
+            Err(stop)
+        }
+    }
 }
 
 #[tactic(auto, unfolding(lucid_parse_spec::specs::ReadExpression::array_with))]
 fn setm_call(name: Id, index: E, given: Items<E>) -> Result<A, Stop>
     ensures { Gives result (spec.array_with name index methods.Setm given) }
 {
-    let (memop, argument) = last_memop(given)?;
-    Ok(A::Setm(name, index, memop, argument))
+    match last_memop(given) {
+        Ok((memop, argument)) => Ok(A::Setm(name, index, memop, argument)),
+        Err(stop) => {
+            drop(index);
+            Err(stop)
+        }
+    }
 }
 
 #[tactic(auto, unfolding(lucid_parse_spec::specs::ReadExpression::array_with))]
 fn update_call(name: Id, index: E, given: Items<E>) -> Result<A, Stop>
     ensures { Gives result (spec.array_with name index methods.Update given) }
 {
-    let (get, set) = last_memops(given)?;
-    Ok(A::Update(name, index, get.0, get.1, set.0, set.1))
+    match last_memops(given) {
+        Ok((get, set)) => Ok(A::Update(name, index, get.0, get.1, set.0, set.1)),
+        Err(stop) => {
+            drop(index);
+            Err(stop)
+        }
+    }
 }
 
 /// The last expression, which is the only one.
@@ -123,6 +147,7 @@ fn last(given: Items<E>) -> Result<E, Stop>
     if left.is_empty() {
         Ok(last)
     } else {
+        drop(last);
         Err(Stop::NoTree)
     }
 }
@@ -143,8 +168,13 @@ fn last_memops(given: Items<E>) -> Result<((Id, E), (Id, E)), Stop>
     ensures { Gives result (spec.last_memops given) }
 {
     let (get, given) = memop_part(given)?;
-    let set = last_memop(given)?;
-    Ok((get, set))
+    match last_memop(given) {
+        Ok(set) => Ok((get, set)),
+        Err(stop) => {
+            drop(get);
+            Err(stop)
+        }
+    }
 }
 
 /// A memop and its argument.
@@ -165,7 +195,10 @@ fn first_name(given: Items<E>) -> Result<(Id, Items<E>), Stop>
     let (first, given) = first(given)?;
     match first {
         E::Name(name) => Ok((name, given)),
-        _ => Err(Stop::NoTree),
+        other => {
+            drop(other);
+            Err(Stop::NoTree)
+        }
     }
 }
 

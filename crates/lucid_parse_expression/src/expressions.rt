@@ -8,11 +8,12 @@ ghost use Rattle.lucid_parse_spec.specs.ReadExpression as spec;
 
 use crate::array::{array_method, array_of};
 use crate::ascii::Ascii;
+use crate::commas::{added, one};
 use crate::error::Stop;
 use crate::lexeme::Lexeme;
 use crate::nodes::{array, called, cast, hash, in_parentheses, infix, prefixed, shifted};
 use crate::operator::next_within;
-use crate::parts::{after, expect, expect_name, width, width_if};
+use crate::parts::{after, ended, expect, expect_name, width, width_if};
 use crate::tokens::Tokens;
 use lucid_base::{Boxed, Id, Items};
 use lucid_lex::{Sign, Word};
@@ -53,8 +54,7 @@ pub fn array_call(alloc: Global, tokens: Tokens) -> Result<(Boxed<A>, Tokens), S
     ensures { Reads result (spec.whole_array_call (said tokens.entry)) }
 {
     let (method, rest) = array_method(tokens)?;
-    let (given, rest) = arguments(alloc, tokens.len(), rest)?;
-    Ok((array_of(alloc, method, given)?, rest))
+    array_of(alloc, method, arguments(alloc, tokens.len(), rest)?)
 }
 
 /// An expression of at least this level.
@@ -100,10 +100,15 @@ fn grown(
 {
     match next {
         Next::Infix(op) => {
-            let (right, rest) = expression_at(alloc, depth, right_level(op), tokens)?;
-            Ok((infix(alloc, op, left, right)?, rest))
+            match expression_at(alloc, depth, right_level(op), tokens) {
+                Ok(right) => infix(alloc, op, left, right),
+                Err(stop) => {
+                    drop(left);
+                    Err(stop)
+                }
+            }
         }
-        Next::Shift(up, by) => Ok((shifted(alloc, left, up, by)?, tokens)),
+        Next::Shift(up, by) => shifted(alloc, up, by, (left, tokens)),
     }
 }
 
@@ -124,20 +129,19 @@ fn operand(alloc: Global, depth: usize, tokens: Tokens) -> Result<(E, Tokens), S
         }
         Some((Lexeme::Word(Word::Hash), rest)) => {
             let (width, rest) = hash_head(rest)?;
-            let (operands, rest) = arguments(alloc, depth, rest)?;
-            Ok((hash(width, operands)?, rest))
+            hash(width, arguments(alloc, depth, rest)?)
         }
         Some((Lexeme::Word(Word::ArrayCalls), rest)) => {
             let (method, rest) = array_method(rest)?;
-            let (given, rest) = arguments(alloc, depth, rest)?;
-            Ok((array(alloc, method, given)?, rest))
+            array(alloc, method, arguments(alloc, depth, rest)?)
         }
         Some((Lexeme::Sign(Sign::OpenParen), rest)) => in_parens(alloc, depth, rest),
         Some((Lexeme::Sign(sign), rest)) => match pre_of(sign) {
-            Some(pre) => {
-                let (operand, rest) = expression_at(alloc, depth, unary_level(), rest)?;
-                Ok((prefixed(alloc, pre, operand)?, rest))
-            }
+            Some(pre) => prefixed(
+                alloc,
+                pre,
+                expression_at(alloc, depth, unary_level(), rest)?,
+            ),
             None => Err(Stop::NoTree),
         },
         _ => Err(Stop::NoTree),
@@ -157,10 +161,7 @@ fn named<'a>(
 {
     match after(Sign::OpenParen, tokens) {
         None => Ok((E::Name(Id::new(alloc, name.bytes)?), tokens)),
-        Some(rest) => {
-            let (arguments, rest) = arguments(alloc, depth, rest)?;
-            Ok((called(alloc, name, arguments)?, rest))
-        }
+        Some(rest) => called(alloc, name, arguments(alloc, depth, rest)?),
     }
 }
 
@@ -172,11 +173,7 @@ fn arguments(alloc: Global, depth: usize, tokens: Tokens) -> Result<(Items<E>, T
 {
     match after(Sign::CloseParen, tokens) {
         Some(rest) => Ok((Items::new(alloc), rest)),
-        None => {
-            let (all, rest) = expressions(alloc, depth, tokens)?;
-            let rest = expect(Sign::CloseParen, rest)?;
-            Ok((all, rest))
-        }
+        None => ended(Sign::CloseParen, expressions(alloc, depth, tokens)?),
     }
 }
 
@@ -186,15 +183,14 @@ fn arguments(alloc: Global, depth: usize, tokens: Tokens) -> Result<(Items<E>, T
 fn expressions(alloc: Global, depth: usize, tokens: Tokens) -> Result<(Items<E>, Tokens), Stop>
     ensures { Reads result (separated (spec.expression_at depth disjunction) (said tokens.entry)) }
 {
-    let (first, mut rest) = expression_at(alloc, depth, DISJUNCTION, tokens)?;
-    let mut all = Items::new(alloc);
-    all.push(first)?;
+    let (mut all, mut rest) = one(alloc, expression_at(alloc, depth, DISJUNCTION, tokens)?)?;
     for _turn in 0..rest.len() {
         match after(Sign::Comma, rest) {
             None => return Ok((all, rest)),
             Some(more) => {
-                let (next, after) = expression_at(alloc, depth, DISJUNCTION, more)?;
-                all.push(next)?;
+                let next = expression_at(alloc, depth, DISJUNCTION, more)?;
+                let (longer, after) = added(all, next)?;
+                all = longer;
                 rest = after;
             }
         }
@@ -218,9 +214,7 @@ fn expect_time(tokens: Tokens) -> Result<Tokens, Stop>
 fn hash_head(tokens: Tokens) -> Result<(u64, Tokens), Stop>
     ensures { Reads result (spec.hash_head (said tokens.entry)) }
 {
-    let (width, rest) = width(tokens)?;
-    let rest = expect(Sign::OpenParen, rest)?;
-    Ok((width, rest))
+    ended(Sign::OpenParen, width(tokens)?)
 }
 
 /// Behind an open parenthesis: the type of a cast and its operand, or an expression.
@@ -231,15 +225,16 @@ fn in_parens(alloc: Global, depth: usize, tokens: Tokens) -> Result<(E, Tokens),
 {
     match tokens.split() {
         Some((Lexeme::Word(Word::Int), rest)) => {
-            let (width, rest) = width_if(rest)?;
-            let rest = expect(Sign::CloseParen, rest)?;
-            let (operand, rest) = expression_at(alloc, depth, unary_level(), rest)?;
-            Ok((cast(alloc, width, operand)?, rest))
+            let (width, rest) = ended(Sign::CloseParen, width_if(rest)?)?;
+            cast(
+                alloc,
+                width,
+                expression_at(alloc, depth, unary_level(), rest)?,
+            )
         }
         _ => {
-            let (inner, rest) = expression_at(alloc, depth, DISJUNCTION, tokens)?;
-            let rest = expect(Sign::CloseParen, rest)?;
-            Ok((in_parentheses(alloc, inner)?, rest))
+            let inner = expression_at(alloc, depth, DISJUNCTION, tokens)?;
+            in_parentheses(alloc, ended(Sign::CloseParen, inner)?)
         }
     }
 }

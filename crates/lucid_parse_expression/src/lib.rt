@@ -21,7 +21,7 @@ pub use error::Stop;
 pub use expressions::{array_call, call_arguments, expression, operands};
 pub use lexeme::Lexeme;
 pub use parts::{
-    after, after_name, array_type, expect, expect_name, expect_word, name, number, some, ty,
+    after, after_name, array_type, ended, expect, expect_name, expect_word, name, number, some, ty,
     typed_name,
 };
 pub use tokens::Tokens;

@@ -1,67 +1,109 @@
-// Expressions made of parsed parts: each allocates for its parts. They are outside the cycle of expressions, whose proof grows with each
-// value that is live while a call may fail.
-ghost use Rattle.std.specs.Prelude.{Some, option_map};
-ghost use Rattle.lucid_parse_expression.specs.Reads.{Gives};
+// Expressions made of parsed parts: each allocates for its parts, and takes and gives the rest of the tokens. They are outside the cycle of
+// expressions, whose proof grows with each value that is live while a call may fail, and with each such call.
+ghost use Rattle.std.specs.Prelude.{Some};
+ghost use Rattle.lucid_parse_expression.specs.Nodes as spec;
+ghost use Rattle.lucid_parse_expression.specs.Reads.{Reads};
+ghost use Rattle.lucid_parse_expression.specs.Tokens.{said};
 ghost use Rattle.lucid_parse_tree.specs.declared.tree.E.TheVariants as e;
-ghost use Rattle.lucid_parse_spec.specs.Reader as reader;
-ghost use Rattle.lucid_parse_spec.specs.ReadExpression as spec;
 
 use crate::array::array_of;
 use crate::ascii::Ascii;
 use crate::error::Stop;
 use crate::parts::some;
+use crate::tokens::Tokens;
 use lucid_base::{Boxed, Id, Items};
 use lucid_parse_spec::Method;
 use lucid_parse_tree::{E, Infix, Pre};
 use std::alloc::Global;
 
-pub(crate) fn infix(alloc: Global, op: Infix, left: E, right: E) -> Result<E, Stop>
-    ensures { Gives result (Some (e.Infix op left right)) }
+pub(crate) fn infix<'a>(
+    alloc: Global,
+    op: Infix,
+    left: E,
+    right: (E, Tokens<'a>),
+) -> Result<(E, Tokens<'a>), Stop>
+    ensures { Reads result (Some (e.Infix op left right.entry.0, said right.entry.1)) }
 {
-    let left = Boxed::new(alloc, left)?;
-    Ok(E::Infix(op, left, Boxed::new(alloc, right)?))
+    let (right, rest) = right;
+    let left = Boxed::new(alloc, left);
+    let right = Boxed::new(alloc, right);
+    Ok((E::Infix(op, left?, right?), rest))
 }
 
-pub(crate) fn shifted(alloc: Global, left: E, up: bool, by: u64) -> Result<E, Stop>
-    ensures { Gives result (Some (e.Shift left up by)) }
+pub(crate) fn shifted<'a>(
+    alloc: Global,
+    up: bool,
+    by: u64,
+    left: (E, Tokens<'a>),
+) -> Result<(E, Tokens<'a>), Stop>
+    ensures { Reads result (Some (e.Shift left.entry.0 up by, said left.entry.1)) }
 {
-    Ok(E::Shift(Boxed::new(alloc, left)?, up, by))
+    let (left, rest) = left;
+    Ok((E::Shift(Boxed::new(alloc, left)?, up, by), rest))
 }
 
-pub(crate) fn prefixed(alloc: Global, pre: Pre, operand: E) -> Result<E, Stop>
-    ensures { Gives result (Some (e.Prefix pre operand)) }
+pub(crate) fn prefixed<'a>(
+    alloc: Global,
+    pre: Pre,
+    operand: (E, Tokens<'a>),
+) -> Result<(E, Tokens<'a>), Stop>
+    ensures { Reads result (Some (e.Prefix pre operand.entry.0, said operand.entry.1)) }
 {
-    Ok(E::Prefix(pre, Boxed::new(alloc, operand)?))
+    let (operand, rest) = operand;
+    Ok((E::Prefix(pre, Boxed::new(alloc, operand)?), rest))
 }
 
-pub(crate) fn cast(alloc: Global, width: Option<u64>, operand: E) -> Result<E, Stop>
-    ensures { Gives result (Some (e.Cast width operand)) }
+pub(crate) fn cast<'a>(
+    alloc: Global,
+    width: Option<u64>,
+    operand: (E, Tokens<'a>),
+) -> Result<(E, Tokens<'a>), Stop>
+    ensures { Reads result (Some (e.Cast width operand.entry.0, said operand.entry.1)) }
 {
-    Ok(E::Cast(width, Boxed::new(alloc, operand)?))
+    let (operand, rest) = operand;
+    Ok((E::Cast(width, Boxed::new(alloc, operand)?), rest))
 }
 
-pub(crate) fn in_parentheses(alloc: Global, inner: E) -> Result<E, Stop>
-    ensures { Gives result (Some (e.Paren inner)) }
+pub(crate) fn in_parentheses<'a>(
+    alloc: Global,
+    inner: (E, Tokens<'a>),
+) -> Result<(E, Tokens<'a>), Stop>
+    ensures { Reads result (Some (e.Paren inner.entry.0, said inner.entry.1)) }
 {
-    Ok(E::Paren(Boxed::new(alloc, inner)?))
+    let (inner, rest) = inner;
+    Ok((E::Paren(Boxed::new(alloc, inner)?), rest))
 }
 
-pub(crate) fn called<'a>(alloc: Global, name: Ascii<'a>, arguments: Items<E>) -> Result<E, Stop>
-    ensures { Gives result (Some (e.Call name.entry.bytes.now arguments)) }
+pub(crate) fn called<'a>(
+    alloc: Global,
+    name: Ascii<'a>,
+    arguments: (Items<E>, Tokens<'a>),
+) -> Result<(E, Tokens<'a>), Stop>
+    ensures { Reads result (Some (e.Call name.entry.bytes.now arguments.entry.0, said arguments.entry.1)) }
 {
-    Ok(E::Call(Id::new(alloc, name.bytes)?, arguments))
+    let (arguments, rest) = arguments;
+    Ok((E::Call(Id::new(alloc, name.bytes)?, arguments), rest))
 }
 
 /// A hash has an operand at least.
-pub(crate) fn hash(width: u64, operands: Items<E>) -> Result<E, Stop>
-    ensures { Gives result (option_map (λ all. e.Hash width all) (reader.some operands)) }
+pub(crate) fn hash<'a>(
+    width: u64,
+    operands: (Items<E>, Tokens<'a>),
+) -> Result<(E, Tokens<'a>), Stop>
+    ensures { Reads result (spec.hash width (operands.entry.0, said operands.entry.1)) }
 {
-    Ok(E::Hash(width, some(operands)?))
+    let (operands, rest) = operands;
+    Ok((E::Hash(width, some(operands)?), rest))
 }
 
 /// The call on an array by this method that is given these expressions.
-pub(crate) fn array(alloc: Global, method: Method, given: Items<E>) -> Result<E, Stop>
-    ensures { Gives result (option_map (λ call. e.Array call) (spec.array_of method given)) }
+pub(crate) fn array<'a>(
+    alloc: Global,
+    method: Method,
+    given: (Items<E>, Tokens<'a>),
+) -> Result<(E, Tokens<'a>), Stop>
+    ensures { Reads result (spec.array method (given.entry.0, said given.entry.1)) }
 {
-    Ok(E::Array(array_of(alloc, method, given)?))
+    let (call, rest) = array_of(alloc, method, given)?;
+    Ok((E::Array(call), rest))
 }

@@ -2,7 +2,7 @@
 // and gives the rest with it, or says that there is no such part: `NoTree`, or None if the part may be left out.
 ghost use Rattle.std.specs.Prelude.{◌≡◌, option_map};
 ghost use Rattle.lucid_parse_spec.specs.Reader as spec;
-ghost use Rattle.lucid_parse_expression.specs.Reads.{Reads, Gives, Leaves};
+ghost use Rattle.lucid_parse_expression.specs.Reads.{Reads, Gives, Leaves, ended};
 ghost use Rattle.lucid_parse_expression.specs.Tokens.{said};
 
 use crate::error::Stop;
@@ -31,6 +31,15 @@ pub fn expect(sign: Sign, tokens: Tokens) -> Result<Tokens, Stop>
         Some(rest) => Ok(rest),
         None => Err(Stop::NoTree),
     }
+}
+
+/// The part that was read, if the sign follows it.
+pub fn ended<'a, T: Drop>(sign: Sign, read: (T, Tokens<'a>)) -> Result<(T, Tokens<'a>), Stop>
+    ensures { Reads result (ended sign (read.entry.0, said read.entry.1)) }
+{
+    let (part, rest) = read;
+    let rest = expect(sign, rest)?;
+    Ok((part, rest))
 }
 
 /// The tokens after the word.
@@ -110,9 +119,7 @@ pub fn some<T: Drop>(items: Items<T>) -> Result<Items<T>, Stop>
 fn width_end(tokens: Tokens) -> Result<(u64, Tokens), Stop>
     ensures { Reads result (spec.width_end (said tokens.entry)) }
 {
-    let (n, rest) = number(tokens)?;
-    let rest = expect(Sign::ShiftRight, rest)?;
-    Ok((n, rest))
+    ended(Sign::ShiftRight, number(tokens)?)
 }
 
 /// `<<NUMBER>>`

@@ -16,11 +16,23 @@ expression_at-loop-turn-init t c =
 pub expression_at-loop-turn-preserved : goal.expression_at-loop-turn-preserved
 unfolding climb
 expression_at-loop-turn-preserved t c =
-    let turn = one_more (λ n. climb (expression_at (c.args.depth - 1)) c.args.least n c.loop-turn.tight c.loop-turn.left (said c.loop-turn.rest)) _ c.loop-turn._turn c.loop-turn-test.true c.loop-turn.invariant in
+    let turn = one_more
+        (λ n. climb (expression_at (c.args.depth - 1)) c.args.least n c.loop-turn.tight c.loop-turn.left (said c.loop-turn.rest))
+        _ c.loop-turn._turn c.loop-turn-test.true c.loop-turn.invariant in
     first_of (search rules, grind (arith, common_steps))
 
 pub expressions-loop-turn-preserved : goal.expressions-loop-turn-preserved
 unfolding repeat
 expressions-loop-turn-preserved t c =
-    let turn = one_more (λ n. repeat (after_comma (expression_at c.args.depth 1)) n c.loop-turn.all (said c.loop-turn.rest)) _ c.loop-turn._turn c.loop-turn-test.true c.loop-turn.invariant in
+    let turn = one_more
+        (λ n. repeat (after_comma (expression_at c.args.depth 1)) n c.loop-turn.all (said c.loop-turn.rest))
+        _ c.loop-turn._turn c.loop-turn-test.true c.loop-turn.invariant in
+    first_of (search rules, grind (arith, common_steps))
+
+pub expressions-returns-in_err-next-in-Some : goal.expressions-returns-in_err-next-in-Some
+unfolding repeat
+expressions-returns-in_err-next-in-Some t c =
+    let turn = one_more
+        (λ n. repeat (after_comma (expression_at c.args.depth 1)) n c.loop-turn.all (said c.loop-turn.rest))
+        _ c.loop-turn._turn c.loop-turn-test.true c.loop-turn.invariant in
     first_of (search rules, grind (arith, common_steps))
