@@ -225,7 +225,7 @@ option_same : {A : Type 0} (x : Option A) → option_map (λ y. y) x ≡ x
 option_same None = refl
 option_same (Some x) = refl
 
-with_same : (a : Act) → with_operands (λ o. o) a ≡ a
+pub with_same : (a : Act) → with_operands (λ o. o) a ≡ a
 with_same (act.Un op w a k) = refl
 with_same (act.Bin op w a b k) = refl
 with_same (act.Cmp op w a b k) = refl
