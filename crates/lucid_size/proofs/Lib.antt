@@ -20,4 +20,4 @@ mod Dealing
 mod Written
 mod Least
 mod Converse
-mod Plain
+pub mod Plain
