@@ -36,14 +36,53 @@ pub(crate) fn write_whole(
     requires within { All (λ i. i.template < length bodies.now) found.now }
     ensures { IfOk result (λ out. out.items ≡ joined (written_from text.now tokens.now underscores names.now (widths_in found.now) 0 0 templates.now) []) }
 {
-    let dealt = deal(alloc, found, bodies.len())?;
     let mut out = Vec::new(alloc);
+    match write_parts(
+        alloc,
+        &mut out,
+        text,
+        tokens,
+        names,
+        templates,
+        bodies,
+        found,
+        underscores,
+    ) {
+        Ok(()) => Ok(out),
+        Err(error) => {
+            drop(out);
+            Err(error)
+        }
+    }
+}
+
+/// Writes the parts of the text, in their order.
+fn write_parts(
+    alloc: Global,
+    out: &mut Vec<u8>,
+    text: &[u8],
+    tokens: &[Token],
+    names: &Names,
+    templates: &[Template],
+    bodies: &[Items<Step>],
+    found: &[Instance],
+    underscores: usize,
+) -> Result<(), Memory>
+    requires reads { Reads text.now tokens.now }
+    requires order { AreInOrder tokens.now 0 templates.now }
+    requires bodies { bodies.now ≡ map (parts.body_steps text.now names.now tokens.now) templates.now }
+    requires same { length bodies.now ≡ length templates.now }
+    requires in_text { All (All (InText text.now)) bodies.now }
+    requires within { All (λ i. i.template < length bodies.now) found.now }
+    ensures { OnOk result (out.new.items ≡ out.old.items ++ joined (written_from text.now tokens.now underscores names.now (widths_in found.now) 0 0 templates.now) []) }
+{
+    let dealt = deal(alloc, found, bodies.len())?;
     let mut from = 0;
     for at in 0..templates.len() {
         let template = templates[at];
-        write_between(
+        write_outside(
             alloc,
-            &mut out,
+            out,
             text,
             tokens,
             names,
@@ -51,29 +90,50 @@ pub(crate) fn write_whole(
             from,
             template.first,
         )?;
-        write_gap(&mut out, text, tokens, template.first)?;
         let widths = rising(alloc, dealt[at].as_slice())?;
-        write_instances(
-            &mut out,
+        let written = write_instances(
+            out,
             text,
             underscores,
             bodies[at].as_slice(),
             widths.as_slice(),
-        )?;
+        );
+        drop(widths);
+        written?;
         from = template.end;
     }
-    write_between(
+    let written = write_outside(
         alloc,
-        &mut out,
+        out,
         text,
         tokens,
         names,
         underscores,
         from,
         tokens.len(),
-    )?;
-    write_gap(&mut out, text, tokens, tokens.len())?;
-    Ok(out)
+    );
+    drop(dealt);
+    written
+}
+
+/// Writes the tokens outside all templates from one number up to another, with the blanks and comments behind them.
+fn write_outside(
+    alloc: Global,
+    out: &mut Vec<u8>,
+    text: &[u8],
+    tokens: &[Token],
+    names: &Names,
+    underscores: usize,
+    first: usize,
+    end: usize,
+) -> Result<(), Memory>
+    requires reads { Reads text.now tokens.now }
+    requires order { first ≤ end }
+    requires within { end ≤ length tokens.now }
+    ensures { OnOk result (out.new.items ≡ out.old.items ++ (joined (pieces_of text.now underscores 0 (parts.steps_between text.now names.now None tokens.now first end)) [] ++ (parts.gap_before text.now tokens.now end).bytes)) }
+{
+    write_between(alloc, out, text, tokens, names, underscores, first, end)?;
+    write_gap(out, text, tokens, end)
 }
 
 /// Writes the tokens outside all templates from one number up to another.
@@ -96,7 +156,9 @@ fn write_between(
     let mut steps = Items::new(alloc);
     add_steps(alloc, &mut steps, names, None, text, tokens, first, end)?;
     steps_stand(text, tokens, names, first, end, steps.as_slice());
-    write_steps(out, text, underscores, 0, steps.as_slice())
+    let written = write_steps(out, text, underscores, 0, steps.as_slice());
+    drop(steps);
+    written
 }
 
 /// A law: the steps outside all templates are in the text. Nothing runs.

@@ -6,7 +6,7 @@ use lucid_base::Id;
 use std::alloc::{AllocError, AllocFailed};
 
 /// Why a text has no expansion. The causes are tried in this order.
-#[derive(Debug, Drop)]
+#[derive(Drop)]
 pub enum SizeError {
     /// A template has no name before its first `{`, no `{`, or no `}` that closes it. Its `fun` is the token with this number, from 1.
     Broken(usize),

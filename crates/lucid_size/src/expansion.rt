@@ -61,32 +61,23 @@ fn written_out(alloc: Global, text: &[u8], tokens: &[Token]) -> Result<Vec<u8>, 
     ensures twice { (name : List ℕ) → IsErrOf result (Twice name) → IsTwice text.now tokens.now name }
     ensures too_big { IsErrOf result TooBig → IsTooBig text.now tokens.now }
 {
-    let templates = templates(alloc, tokens)?;
-    templates_stand(text, tokens, templates.as_slice());
-    let names = names_of(alloc, text, tokens, templates.as_slice())?;
-    let parts = parts_of(alloc, text, tokens, &names, templates.as_slice())?;
-    parts_stand(
-        text,
-        tokens,
-        templates.as_slice(),
-        parts.outside.as_slice(),
-        parts.bodies.as_slice(),
-    );
+    let cut = templates(alloc, tokens)?;
+    let templates = cut.as_slice();
+    templates_stand(text, tokens, templates);
+    let names = names_of(alloc, text, tokens, templates)?;
+    let parts = parts_of(alloc, text, tokens, &names, templates)?;
+    let outside = parts.outside.as_slice();
+    let bodies = parts.bodies.as_slice();
+    parts_stand(text, tokens, templates, outside, bodies);
     let underscores = underscores_in(text, tokens);
-    let found = found_in(
-        alloc,
-        text,
-        parts.outside.as_slice(),
-        parts.bodies.as_slice(),
-        underscores,
-    )?;
+    let found = found_in(alloc, text, outside, bodies, underscores)?;
     let out = write_whole(
         alloc,
         text,
         tokens,
         &names,
-        templates.as_slice(),
-        parts.bodies.as_slice(),
+        templates,
+        bodies,
         found.as_slice(),
         underscores,
     )?;

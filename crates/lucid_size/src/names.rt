@@ -1,5 +1,5 @@
 // The names of the templates of a text.
-ghost use Rattle.std.specs.Prelude.{◌≡◌, ◌∷◌, ◌++◌, [], All, IfErr, IfOk, None, OnOk, bytes_eq, position};
+ghost use Rattle.std.specs.Prelude.{◌≡◌, ◌<◌, ◌∷◌, ◌++◌, [], All, IfErr, IfOk, None, OnOk, bytes_eq, option_map, position};
 ghost use Rattle.lucid_lex.specs.Reading.{IsTokenOf};
 ghost use Rattle.lucid_size.specs.Expansion.{first_repeat};
 ghost use Rattle.lucid_size.specs.Names.{Repeats};
@@ -54,8 +54,25 @@ impl Names {
         self.places.get(name).copied()
     }
 
+    /// Adds a name, unless it is there.
+    fn add_new(&mut self, alloc: Global, bytes: &[u8]) -> Result<(), SizeError>
+        requires { All (λ b. b < 128) bytes.now }
+        ensures added { OnOk result (self.new ≡ self.old ++ bytes.now ∷ []) }
+        ensures new { OnOk result (position (bytes_eq bytes.now) self.old ≡ None) }
+        ensures err { IfErr result (λ e. Repeats (option_map (λ _. bytes.now) (position (bytes_eq bytes.now) self.old)) e) }
+    {
+        let name = Id::new(alloc, bytes)?;
+        if self.place_of(&name).is_some() {
+            return Err(SizeError::Twice { name });
+        }
+        let added = self.add(alloc, &name);
+        drop(name);
+        added?;
+        Ok(())
+    }
+
     /// Adds a name that is new.
-    pub(crate) fn add(&mut self, alloc: Global, name: &Id) -> Result<(), Memory>
+    fn add(&mut self, alloc: Global, name: &Id) -> Result<(), Memory>
         requires { position (bytes_eq name.now) self.old ≡ None }
         ensures { OnOk result (self.new ≡ self.old ++ name.now ∷ []) }
     {
@@ -65,8 +82,9 @@ impl Names {
         self.names.push(form)?;
         match self.places.insert(key, place) {
             Ok(_) => Ok(()),
-            Err(_) => {
-                self.names.pop();
+            Err(failed) => {
+                drop(failed);
+                drop(self.names.pop());
                 Err(Memory)
             }
         }
@@ -88,11 +106,13 @@ pub(crate) fn names_of(
 {
     let mut names = Names::new(alloc, Seeded::by(text));
     for template in templates {
-        let name = Id::new(alloc, text_of(text, tokens[template.name]))?;
-        if names.place_of(&name).is_some() {
-            return Err(SizeError::Twice { name });
+        match names.add_new(alloc, text_of(text, tokens[template.name])) {
+            Ok(()) => {}
+            Err(error) => {
+                drop(names);
+                return Err(error);
+            }
         }
-        names.add(alloc, &name)?;
     }
     Ok(names)
 }

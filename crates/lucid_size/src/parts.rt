@@ -1,5 +1,5 @@
 // A text, cut into its templates and the parts outside them.
-ghost use Rattle.std.specs.Prelude.{◌≡◌, ◌≤◌, All, IfOk, Ok, length, map};
+ghost use Rattle.std.specs.Prelude.{◌≡◌, ◌≤◌, ◌++◌, All, IfOk, Ok, OnOk, length, map};
 ghost use Rattle.lucid_lex.specs.Reading.{IsTokenOf, Reads};
 ghost use Rattle.lucid_size.specs.Parts as spec;
 ghost use Rattle.lucid_size.specs.Places.{AreInOrder, InText, IsWhole};
@@ -34,13 +34,38 @@ pub(crate) fn parts_of(
     ensures outside { IfOk result (λ p. p.outside ≡ spec.outside_from text.now names.now tokens.now 0 templates.now) }
     ensures bodies { IfOk result (λ p. p.bodies.items ≡ map (spec.body_steps text.now names.now tokens.now) templates.now) }
 {
-    let mut outside = Items::new(alloc);
-    let mut bodies = Vec::new(alloc);
+    let mut cut = Parts {
+        outside: Items::new(alloc),
+        bodies: Vec::new(alloc),
+    };
+    match add_parts(alloc, &mut cut, text, tokens, names, templates) {
+        Ok(()) => Ok(cut),
+        Err(error) => {
+            drop(cut);
+            Err(error)
+        }
+    }
+}
+
+/// Adds the parts of a text.
+fn add_parts(
+    alloc: Global,
+    cut: &mut Parts,
+    text: &[u8],
+    tokens: &[Token],
+    names: &Names,
+    templates: &[Template],
+) -> Result<(), Memory>
+    requires stand { All (IsTokenOf text.now) tokens.now }
+    requires order { AreInOrder tokens.now 0 templates.now }
+    ensures outside { OnOk result (cut.new.outside ≡ cut.old.outside ++ spec.outside_from text.now names.now tokens.now 0 templates.now) }
+    ensures bodies { OnOk result (cut.new.bodies.items ≡ cut.old.bodies.items ++ map (spec.body_steps text.now names.now tokens.now) templates.now) }
+{
     let mut from = 0;
     for template in templates {
         add_steps(
             alloc,
-            &mut outside,
+            &mut cut.outside,
             names,
             None,
             text,
@@ -48,20 +73,20 @@ pub(crate) fn parts_of(
             from,
             template.first,
         )?;
-        bodies.push(body_steps(alloc, text, tokens, names, *template)?)?;
+        let body = body_steps(alloc, text, tokens, names, *template)?;
+        cut.bodies.push(body)?;
         from = template.end;
     }
     add_steps(
         alloc,
-        &mut outside,
+        &mut cut.outside,
         names,
         None,
         text,
         tokens,
         from,
         tokens.len(),
-    )?;
-    Ok(Parts { outside, bodies })
+    )
 }
 
 /// Returns the steps of a template's tokens after its first `>>`.
@@ -77,10 +102,32 @@ fn body_steps(
     ensures { IfOk result (λ steps. steps ≡ spec.body_steps text.now names.now tokens.now template) }
 {
     let mut steps = Items::new(alloc);
+    match add_body(alloc, &mut steps, text, tokens, names, template) {
+        Ok(()) => Ok(steps),
+        Err(error) => {
+            drop(steps);
+            Err(error)
+        }
+    }
+}
+
+/// Adds the steps of a template's body.
+fn add_body(
+    alloc: Global,
+    steps: &mut Items<Step>,
+    text: &[u8],
+    tokens: &[Token],
+    names: &Names,
+    template: Template,
+) -> Result<(), Memory>
+    requires stand { All (IsTokenOf text.now) tokens.now }
+    requires whole { IsWhole tokens.now template }
+    ensures { OnOk result (steps.new ≡ steps.old ++ spec.body_steps text.now names.now tokens.now template) }
+{
     let width = text_of(text, tokens[template.first + 2]);
     add_steps(
         alloc,
-        &mut steps,
+        steps,
         names,
         Some(width),
         text,
@@ -96,15 +143,14 @@ fn body_steps(
     })?;
     add_steps(
         alloc,
-        &mut steps,
+        steps,
         names,
         Some(width),
         text,
         tokens,
         template.name + 1,
         template.end,
-    )?;
-    Ok(steps)
+    )
 }
 
 /// A law: the templates of a text follow one another. Nothing runs.

@@ -1,6 +1,7 @@
 // The replacements of the tokens of a part of a text.
-ghost use Rattle.std.specs.Prelude.{◌≡◌, ◌≤◌, ◌++◌, ◌<◌, All, IfOk, None, OnOk, Some, length, option_map};
+ghost use Rattle.std.specs.Prelude.{◌≡◌, ◌≤◌, ◌++◌, ◌<◌, ◌&&◌, All, IfOk, None, OnOk, Some, length, option_map};
 ghost use Rattle.lucid_lex.specs.Reading.{IsTokenOf};
+ghost use Rattle.lucid_size.specs.Kinds as kinds;
 ghost use Rattle.lucid_size.specs.Parts as parts;
 ghost use Rattle.lucid_size.specs.Steps as spec;
 
@@ -100,9 +101,7 @@ fn use_at(
 {
     match tokens {
         [f, a, n, b, p, ..] => {
-            if is_name(f.kind)
-                && (opens_width(a.kind) && (closes_width(b.kind) && opens_paren(p.kind)))
-            {
+            if is_use(f.kind, a.kind, b.kind, p.kind) {
                 use_of(alloc, names, text_of(text, *f), size_of(text, width, *n))
             } else {
                 Ok(None)
@@ -110,6 +109,13 @@ fn use_at(
         }
         _ => Ok(None),
     }
+}
+
+/// Returns whether these are a name, `<<`, `>>` and `(`.
+fn is_use(name: Kind, left: Kind, right: Kind, paren: Kind) -> bool
+    ensures { result ≡ (kinds.is_name name && (kinds.opens_width left && (kinds.closes_width right && kinds.opens_paren paren))) }
+{
+    is_name(name) && (opens_width(left) && (closes_width(right) && opens_paren(paren)))
 }
 
 /// The use of the template with this name at this size, if there are both.
@@ -123,7 +129,9 @@ fn use_of(
     ensures { IfOk result (λ form. form ≡ spec.use_by (spec.template_of names.now name.now) size) }
 {
     let name = Id::new(alloc, name)?;
-    match names.place_of(&name) {
+    let place = names.place_of(&name);
+    drop(name);
+    match place {
         None => Ok(None),
         Some(template) => Ok(use_at_size(template, size)),
     }

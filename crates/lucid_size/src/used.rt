@@ -99,6 +99,35 @@ pub(crate) fn find_used(
     ensures too_big { IsErrOf result TooBig → (found : List Instance) → AreUsed outside.now bodies.now found → room < sum_by (instance_len underscores bodies.now) found }
 {
     let mut used = Used::new(alloc, seeded);
+    match search(&mut used, outside, bodies, underscores, room) {
+        Ok(()) => {}
+        Err(error) => {
+            drop(used);
+            return Err(error);
+        }
+    }
+    Ok(used.found)
+}
+
+/// Adds the uses outside all templates, and then those in each instance that is found.
+fn search(
+    used: &mut Used,
+    outside: &[Step],
+    bodies: &[Items<Step>],
+    underscores: usize,
+    room: usize,
+) -> Result<(), SizeError>
+    requires none { used.old.found.items ≡ [] }
+    requires sees { Sees used.old.found.items used.old.seen }
+    requires outside { AreWithin (length bodies.now) outside.now }
+    requires bodies { All (AreWithin (length bodies.now)) bodies.now }
+    requires steps { All (All (λ s. s.from ≤ s.token.span.end)) bodies.now }
+    ensures found { OnOk result (AreUsed outside.now bodies.now used.new.found.items) }
+    ensures within { OnOk result (All (λ i. i.template < length bodies.now) used.new.found.items) }
+    ensures no_broken { (n : ℕ) → IsErrOf result (Broken n) → ⊥ }
+    ensures no_twice { (name : List ℕ) → IsErrOf result (Twice name) → ⊥ }
+    ensures too_big { IsErrOf result TooBig → (found : List Instance) → AreUsed outside.now bodies.now found → room < sum_by (instance_len underscores bodies.now) found }
+{
     let mut room = room;
     used.add_uses(0, outside)?;
     let mut at = 0;
@@ -112,7 +141,7 @@ pub(crate) fn find_used(
         used.add_uses(instance.width, body)?;
         at += 1;
     }
-    Ok(used.found)
+    Ok(())
 }
 
 /// Returns the room that is left behind an instance.

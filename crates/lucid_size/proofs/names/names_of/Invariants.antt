@@ -7,5 +7,6 @@ use Rattle.lucid_size.proofs.names.names_of.Given as goal
 abbrev pub invariant-loop-template : goal.invariant-loop-template
 invariant-loop-template l = record {
   all : l.names ++ names_of l.text l.tokens (drop l.template-index l.templates) ≡ names_of l.text l.tokens l.templates;
-  left : first_repeat l.names (names_of l.text l.tokens (drop l.template-index l.templates)) ≡ first_repeat [] (names_of l.text l.tokens l.templates);
+  left : first_repeat l.names (names_of l.text l.tokens (drop l.template-index l.templates))
+      ≡ first_repeat [] (names_of l.text l.tokens l.templates);
 }

@@ -1,7 +1,8 @@
-use Rattle.std.proofs.Common.{rules, ◌≡◌}
+use Rattle.std.proofs.Common.{rules, subst, ◌≡◌}
+use Rattle.std.specs.List.{Contains}
 use Rattle.std.proofs.lemmas.List.Filters.{dedup_is}
-use Rattle.std.proofs.lemmas.List.Kept.{Contains-dedup_nat}
-use Rattle.std.proofs.lemmas.List.Sorted.{Contains-permutation}
+use Rattle.std.proofs.lemmas.List.Kept.{Contains-dedup_nat, Contains-from_dedup}
+use Rattle.std.proofs.lemmas.List.Sorted.{Contains-permutation, IsPermutation-sym}
 use Rattle.std.proofs.lemmas.Map.Keys.{IsStrictlyIncreasing-dedup}
 use Rattle.lucid_size.proofs.widths.rising.Goals as goal
 
@@ -15,3 +16,11 @@ returns-clause-has c =
     let is = dedup_is _ _ _ c.dedup.ensures.filtered in
     let both : c.extend_from_slice.new.self.items ≡ c.args.row.now = search rules in
     λ n h. rw is (Contains-dedup_nat _ n (Contains-permutation _ _ n c.sort_unstable.ensures.permutation (rw both h)))
+
+pub returns-clause-only : goal.returns-clause-only
+returns-clause-only c =
+    let is = dedup_is _ _ _ c.dedup.ensures.filtered in
+    let both : c.extend_from_slice.new.self.items ≡ c.args.row.now = search rules in
+    λ n h. subst (λ l. Contains l n) both
+    (Contains-permutation _ _ n (IsPermutation-sym _ _ c.sort_unstable.ensures.permutation)
+    (Contains-from_dedup _ _ n (subst (λ l. Contains l n) is h)))

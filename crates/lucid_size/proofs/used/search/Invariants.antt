@@ -2,7 +2,7 @@ use Rattle.std.proofs.Common.{◌≡◌, ◌+◌, take}
 use Rattle.std.specs.List.{sum_by}
 use Rattle.lucid_size.specs.Search.{Searching, Sees}
 use Rattle.lucid_size.specs.Bytes.{instance_len}
-use Rattle.lucid_size.proofs.used.find_used.Given as goal
+use Rattle.lucid_size.proofs.used.search.Given as goal
 
 abbrev pub invariant-loop-at : goal.invariant-loop-at
 invariant-loop-at l = record {
