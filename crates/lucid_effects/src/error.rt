@@ -2,7 +2,7 @@
 use lucid_base::{ArrayName, Memory};
 
 /// Why a program is refused.
-#[derive(Debug, Drop)]
+#[derive(Drop)]
 pub enum OrderError {
     /// Function or handler `decl`, counted among all declarations from 1, is the first that isn't in order. In its cycle no name occurs
     /// twice, each is needed before the next and the last before the first, and the earliest comes first.

@@ -49,8 +49,7 @@ fn passes<L: Ledger>(
     steps: &mut Steps<L>,
     array: ArrayName,
 ) -> Result<(), Memory>
-    ensures found { Goes (passes_by array []) at.old steps.old at.new steps.new result }
-    ensures most { steps.new ≤ (passes_by array [] (walked at.old steps.old)).steps }
+    ensures { Goes (passes_by array [] (walked at.old steps.old)) (walked at.new steps.new) result }
 {
     steps.tick();
     let mut ends = Items::new(alloc);
@@ -67,8 +66,7 @@ fn through<L: Ledger>(
     steps: &mut Steps<L>,
     names: &[ArrayName],
 ) -> Result<(), Memory>
-    ensures found { Goes (through_by (Some f.now) names.now) at.old steps.old at.new steps.new result }
-    ensures most { steps.new ≤ (through_by (Some f.now) names.now (walked at.old steps.old)).steps }
+    ensures { Goes (through_by (Some f.now) names.now (walked at.old steps.old)) (walked at.new steps.new) result }
 {
     count(steps, f.needs.pairs());
     let ends = ends_at(alloc, f.ends.as_slice(), names, at.ends.as_slice())?;
@@ -85,8 +83,7 @@ fn goes_through<L: Ledger>(
     k: u32,
     names: &[ArrayName],
 ) -> Result<(), Memory>
-    ensures found { Goes (goes_through_by k names.now schemes.now) at.old steps.old at.new steps.new result }
-    ensures most { steps.new ≤ (goes_through_by k names.now schemes.now (walked at.old steps.old)).steps }
+    ensures { Goes (goes_through_by k names.now schemes.now (walked at.old steps.old)) (walked at.new steps.new) result }
 {
     steps.tick();
     let k = k as usize;
@@ -129,7 +126,6 @@ fn stand_behind(at: &mut Scheme, firsts: Option<Items<Atom>>) -> Result<(), Memo
 }
 
 #[cycle(walk)]
-#[tactic(auto, using(crate::proofs::Forms::hash_is, crate::proofs::Forms::call_is, crate::proofs::Forms::inlined_is))]
 pub fn expr<L: Ledger>(
     alloc: Global,
     schemes: &[Scheme],
@@ -137,8 +133,7 @@ pub fn expr<L: Ledger>(
     steps: &mut Steps<L>,
     e: &Expr,
 ) -> Result<(), Memory>
-    ensures found { Goes (expr_found e.now schemes.now) at.old steps.old at.new steps.new result }
-    ensures most { steps.new ≤ (expr_found e.now schemes.now (walked at.old steps.old)).steps }
+    ensures { Goes (expr_found e.now schemes.now (walked at.old steps.old)) (walked at.new steps.new) result }
 {
     match e {
         Expr::Fixed(_) | Expr::Local(_) | Expr::Now | Expr::Me => {
@@ -191,8 +186,7 @@ fn exprs<L: Ledger>(
     steps: &mut Steps<L>,
     es: &[Expr],
 ) -> Result<(), Memory>
-    ensures found { Goes (sequence finds (map expr_found es.now) schemes.now) at.old steps.old at.new steps.new result }
-    ensures most { steps.new ≤ (sequence finds (map expr_found es.now) schemes.now (walked at.old steps.old)).steps }
+    ensures { Goes (sequence finds (map expr_found es.now) schemes.now (walked at.old steps.old)) (walked at.new steps.new) result }
 {
     for e in es {
         expr(alloc, schemes, at, steps, e)?;
@@ -208,8 +202,7 @@ fn givens<L: Ledger>(
     steps: &mut Steps<L>,
     given: &[(u32, Expr)],
 ) -> Result<(), Memory>
-    ensures found { Goes (given_found given.now schemes.now) at.old steps.old at.new steps.new result }
-    ensures most { steps.new ≤ (given_found given.now schemes.now (walked at.old steps.old)).steps }
+    ensures { Goes (given_found given.now schemes.now (walked at.old steps.old)) (walked at.new steps.new) result }
 {
     for (_, e) in given {
         expr(alloc, schemes, at, steps, e)?;
@@ -225,8 +218,7 @@ fn touch<L: Ledger>(
     steps: &mut Steps<L>,
     t: &Touch,
 ) -> Result<(), Memory>
-    ensures found { Goes (touch_found t.now schemes.now) at.old steps.old at.new steps.new result }
-    ensures most { steps.new ≤ (touch_found t.now schemes.now (walked at.old steps.old)).steps }
+    ensures { Goes (touch_found t.now schemes.now (walked at.old steps.old)) (walked at.new steps.new) result }
 {
     expr(alloc, schemes, at, steps, &t.index)?;
     expr(alloc, schemes, at, steps, &t.get_arg)?;
@@ -244,8 +236,7 @@ pub fn body<L: Ledger>(
     steps: &mut Steps<L>,
     stmts: &[Stmt],
 ) -> Result<(), Memory>
-    ensures found { Goes (body_found stmts.now schemes.now) at.old steps.old at.new steps.new result }
-    ensures most { steps.new ≤ (body_found stmts.now schemes.now (walked at.old steps.old)).steps }
+    ensures { Goes (body_found stmts.now schemes.now (walked at.old steps.old)) (walked at.new steps.new) result }
 {
     let mut firsts = None;
     let mut left = stmts;
@@ -269,8 +260,7 @@ fn each<L: Ledger>(
     steps: &mut Steps<L>,
     stmts: &[Stmt],
 ) -> Result<(), Memory>
-    ensures found { Goes (body_found stmts.now schemes.now) at.old steps.old at.new steps.new result }
-    ensures most { steps.new ≤ (body_found stmts.now schemes.now (walked at.old steps.old)).steps }
+    ensures { Goes (body_found stmts.now schemes.now (walked at.old steps.old)) (walked at.new steps.new) result }
 {
     for one in stmts {
         stmt(alloc, schemes, at, steps, one)?;
@@ -288,9 +278,8 @@ fn first_branch<L: Ledger>(
     e: &Expr,
     a: &[Stmt],
 ) -> Result<Items<Atom>, Memory>
-    ensures found { Goes (back_from e.now a.now schemes.now) at.old steps.old at.new steps.new result }
+    ensures found { Goes (back_from e.now a.now schemes.now (walked at.old steps.old)) (walked at.new steps.new) result }
     ensures ends { IfOk result (λ ends. ends ≡ (first e.now a.now schemes.now (walked at.old steps.old)).ends) }
-    ensures most { steps.new ≤ (first e.now a.now schemes.now (walked at.old steps.old)).steps }
 {
     expr(alloc, schemes, at, steps, e)?;
     let began = Items::from_slice(alloc, at.ends.as_slice())?;
@@ -306,8 +295,7 @@ fn asked<L: Ledger>(
     steps: &mut Steps<L>,
     e: &Option<Expr>,
 ) -> Result<(), Memory>
-    ensures found { Goes (optional finds (option_map expr_found e.now) schemes.now) at.old steps.old at.new steps.new result }
-    ensures most { steps.new ≤ (optional finds (option_map expr_found e.now) schemes.now (walked at.old steps.old)).steps }
+    ensures { Goes (optional finds (option_map expr_found e.now) schemes.now (walked at.old steps.old)) (walked at.new steps.new) result }
 {
     match e {
         None => Ok(()),
@@ -316,7 +304,6 @@ fn asked<L: Ledger>(
 }
 
 #[cycle(walk)]
-#[tactic(auto, using(crate::proofs::Forms::if_is, crate::proofs::Forms::gen_is, crate::proofs::Forms::multi_is, crate::proofs::Forms::say_is))]
 fn stmt<L: Ledger>(
     alloc: Global,
     schemes: &[Scheme],
@@ -324,8 +311,7 @@ fn stmt<L: Ledger>(
     steps: &mut Steps<L>,
     s: &Stmt,
 ) -> Result<(), Memory>
-    ensures found { Goes (stmt_found s.now schemes.now) at.old steps.old at.new steps.new result }
-    ensures most { steps.new ≤ (stmt_found s.now schemes.now (walked at.old steps.old)).steps }
+    ensures { Goes (stmt_found s.now schemes.now (walked at.old steps.old)) (walked at.new steps.new) result }
 {
     steps.tick();
     match s {
