@@ -1,9 +1,10 @@
 """The order of the house: names of files, names of definitions, links, English, and subjects of commits.
 
 Fails on a file of specs/ or proofs/ that is named after no source, on a trusted name that two pages define, on a head of a lib.rt that
-names other users than crates.txt or leaves out what may change, on a dead link or path in a page, on a row of a table with other cells
-than its head, on worse English than the bounds, and on a commit subject that begins with Say or Tell or passes 72 characters. Today's exceptions
-are in tests/house.exceptions, which may only shrink: `--fill` drops those that are gone. Sees nothing of what the names mean.
+names other users than crates.txt or leaves out what may change, on a call of a law that is not written law::NAME, on a dead link or path
+in a page, on a row of a table with other cells than its head, on worse English than the bounds, and on a commit subject that begins with
+Say or Tell or passes 72 characters. Today's exceptions are in tests/house.exceptions, which may only shrink: `--fill` drops those that are
+gone. Sees nothing of what the names mean.
 """
 from __future__ import annotations
 
@@ -42,6 +43,7 @@ def run(group: Group) -> None:
         gone = sorted(known.get(key, set()) - names)
         group.check(f"{key}: tests/house.exceptions names nothing that is gone", not gone, gone)
     heads(group)
+    laws(group)
     links(group)
     tables(group)
     english(group)
@@ -120,6 +122,18 @@ def heads(group: Group) -> None:
         group.check(f"{crate}: its head says who uses it", wanted in head, wanted)
         group.check(f"{crate}: its head says whether promises rest on it", ("(docs/TRUSTED.md)" in head) == (crate in trusted), crate in trusted)
         group.check(f"{crate}: its head says what may change", bool(re.search(r"may change; a|It changes only to correct", head)))
+
+
+def laws(group: Group) -> None:
+    """A statement that only calls a law is written `law::NAME(..)`, but in lucid_core and where laws stand."""
+    texts = {path.relative_to(TOP): path.read_text() for path in TOP.glob("crates/*/src/**/*.rt")}
+    names = {name for path, text in texts.items() if path.stem == "laws" for name in re.findall(r"^pub(?:\(crate\))? fn (\w+)", text, re.M)}
+    call_of = re.compile(rf"^ +({'|'.join(sorted(names))})\(.*\);$", re.M)
+    bare: List[str] = []
+    for path, text in texts.items():
+        if path.stem != "laws" and path.parts[1] != "lucid_core" and not path.parts[1].endswith(("_spec", "_laws")):
+            bare += [f"{path}: {name}" for name in call_of.findall(text)]
+    group.check("calls of laws are written law::NAME", bool(names) and not bare, bare)
 
 
 def links(group: Group) -> None:

@@ -15,11 +15,10 @@ use crate::early::first_early;
 use crate::ranges::first_absent;
 use crate::seating::seats;
 use crate::staging::stages;
-use crate::{AuditError, Plan};
+use crate::{AuditError, Plan, law};
 use lucid_base::Memory;
 use lucid_code::Code;
 use lucid_conf::Limits;
-use lucid_merge::{guards_contradict, products_act, products_name};
 use lucid_stages::{Seat, Stage, nodes, stage_codes, test_counts};
 use lucid_tables::Placed;
 use std::alloc::Global;
@@ -87,9 +86,9 @@ fn placed(
     ensures code { IfOk result (λ p. p.code ≡ code) }
     ensures stages { IfOk result (λ p. p.stages ≡ map (stage_code code.ops) (stages_of code.ops limits.now seats.now)) }
 {
-    products_act();
-    products_name();
-    guards_contradict();
+    law::products_act();
+    law::products_name();
+    law::guards_contradict();
     let stages = stage_codes(alloc, code.ops(), stages)?;
     Placed::new(alloc, code, stages)
 }

@@ -14,6 +14,7 @@ mod early;
 mod error;
 mod examples;
 mod growth;
+mod law;
 mod laws;
 mod plan;
 mod plan_file;

@@ -9,6 +9,7 @@ mod at_once;
 mod draft;
 mod evaluate;
 mod interpret;
+mod law;
 mod list;
 mod machine;
 mod operate;

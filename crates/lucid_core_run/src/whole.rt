@@ -6,13 +6,14 @@ ghost use Rattle.lucid_core_run.specs.Interpret.{ran};
 ghost use Rattle.lucid_core.specs.Step.{handled, handler_of as handler_in, step, taken_at};
 
 use crate::interpret::run_body;
+use crate::law;
 use crate::list::with_zeros;
 use crate::machine::{Machine, Moment};
 use crate::operate::nothing;
 use crate::run::Run;
 use crate::scratch::Scratch;
 use lucid_base::{Bits, Cells, Event, Items, Memory, Outs, Width};
-use lucid_core::{Core, HandlerDef, Stmt, cells_stay_fit, outs_fit};
+use lucid_core::{Core, HandlerDef, Stmt};
 use std::alloc::Global;
 use std::mem;
 
@@ -57,8 +58,8 @@ pub fn run_into(
     ensures unchanged { OnErr result (cells.new ≡ cells.old) }
     ensures fit { IsTrue (cells_fit core.now cells.old) → IsTrue (cells_fit core.now cells.new) }
 {
-    outs_fit(core);
-    cells_stay_fit(core);
+    law::outs_fit(core);
+    law::cells_stay_fit(core);
     match handler_of(core, event.id) {
         None => Ok(()),
         Some(handler) => {

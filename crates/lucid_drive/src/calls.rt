@@ -13,13 +13,13 @@ ghost use Rattle.lucid_drive.specs.Happened.{entered_after, happened_at, happene
 ghost use Rattle.lucid_drive.specs.Standing.{drive_of};
 ghost use Rattle.lucid_drive.specs.State.{IsEmpty, StandsAfter, StandsAt, flush_at, moves_after, step_at};
 
-use crate::DriveState;
 use crate::ending::put_end;
 use crate::happened::Happened;
 use crate::moves::{go, go_within, step};
 use crate::put::{put_happened, put_moved, put_out};
+use crate::{DriveState, law};
 use lucid_conf::{Scene, Step};
-use lucid_core::{Core, cells_stay_fit};
+use lucid_core::Core;
 use lucid_io::{Sink, WriteFault};
 use lucid_pipe::{Pipe, Stuck};
 
@@ -262,7 +262,7 @@ pub fn drive_end<S: Sink>(
     ensures part { OnErr result (PutsPart S.written S.faults sink.old sink.new (last_text (drive_of core.now pipe.now scene.now) state.now.entered)) }
 {
     pipe.keeps_laws();
-    cells_stay_fit(core);
+    law::cells_stay_fit(core);
     let events = scene.events.len() as u64;
     put_end(sink, core, pipe, state.entered, events - state.entered)
 }

@@ -14,6 +14,7 @@
 mod calls;
 mod ending;
 mod happened;
+mod law;
 mod laws;
 mod moves;
 mod put;

@@ -8,8 +8,9 @@ ghost use Rattle.lucid_drive.specs.Happened.{Did, happened_at, happened_within};
 ghost use Rattle.lucid_drive.specs.Standing.{IsAt, drive_of};
 
 use crate::happened::{Happened, told, told_entry};
+use crate::law;
 use lucid_conf::{FileEvent, Scene, Step};
-use lucid_core::{Core, cells_stay_fit, outs_fit};
+use lucid_core::Core;
 use lucid_pipe::{Pipe, Stuck};
 
 /// The packet in slot `k` moves on, if it can.
@@ -19,8 +20,8 @@ pub(crate) fn go(pipe: &mut Pipe, core: &Core, scene: &Scene, k: usize) -> Happe
     ensures did { (p : Progress) → IsAt core.now scene.now p pipe.old → Did core.now scene.now p.entered (goes (drive_of core.now pipe.old scene.now) p k) result pipe.new }
 {
     pipe.keeps_laws();
-    cells_stay_fit(core);
-    outs_fit(core);
+    law::cells_stay_fit(core);
+    law::outs_fit(core);
     let moved = pipe.go(k);
     told(k, moved)
 }
@@ -33,8 +34,8 @@ pub(crate) fn go_within(pipe: &mut Pipe, core: &Core, scene: &Scene, k: usize) -
     ensures did { (p : Progress) → IsAt core.now scene.now p pipe.old → Did core.now scene.now p.entered (goes (drive_of core.now pipe.old scene.now) p k) (happened_within k result) pipe.new }
 {
     pipe.keeps_laws();
-    cells_stay_fit(core);
-    outs_fit(core);
+    law::cells_stay_fit(core);
+    law::outs_fit(core);
     pipe.go_within(k)
 }
 
@@ -77,7 +78,7 @@ pub(crate) fn look(pipe: &Pipe, core: &Core, scene: &Scene, array: u32, cell: u6
     ensures did { (p : Progress) → IsAt core.now scene.now p pipe.now → Did core.now scene.now p.entered (stays (look_text (drive_of core.now pipe.now scene.now) p array cell) p) result pipe.now }
 {
     pipe.keeps_laws();
-    cells_stay_fit(core);
+    law::cells_stay_fit(core);
     let value = pipe.look(array, cell);
     Happened::Looked(array, cell, value)
 }

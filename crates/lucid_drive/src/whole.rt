@@ -11,10 +11,10 @@ ghost use Rattle.lucid_pipe.specs.Sights.{ShowsAll};
 ghost use Rattle.lucid_drive.specs.Standing.{IsAt, drive_of};
 ghost use Rattle.lucid_drive.specs.State.{IsEmpty, StandsAfter, StandsAt, progress_at, text_to};
 
-use crate::DriveState;
 use crate::calls::{drive_end, drive_flush, drive_step};
+use crate::{DriveState, law};
 use lucid_conf::Scene;
-use lucid_core::{Core, cells_stay_fit};
+use lucid_core::Core;
 use lucid_io::{Sink, WriteFault};
 use lucid_pipe::{Pipe, Watch};
 
@@ -81,7 +81,7 @@ fn show<V: Watch>(pipe: &Pipe, core: &Core, scene: &Scene, watch: &mut V)
     ensures { (p : Progress) → IsAt core.now scene.now p pipe.now → ShowsAll (V.seen watch.old) (V.seen watch.new) (sight_at (drive_of core.now pipe.now scene.now) p ∷ []) }
 {
     pipe.keeps_laws();
-    cells_stay_fit(core);
+    law::cells_stay_fit(core);
     let _scene = scene;
     watch.see(0, pipe);
 }

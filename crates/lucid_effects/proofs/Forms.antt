@@ -29,7 +29,7 @@ stmt_is x y is fs w = ap (λ (z : Stmt). stmt_found z fs w) (sym is)
 
 pub leaf_is : (x : Expr) (y : Expr-F Expr Stmt Touch) → roll-Expr y ≡ x → (fs : List Scheme) (w : Walked) →
     expr_step finds (map-Expr Expr Stmt Touch Advance Advance Advance expr_found stmt_found touch_found y) fs w ≡ visit w →
-        expr_found x fs w ≡ visit w
+    expr_found x fs w ≡ visit w
 leaf_is x y is fs w none = expr_is x y is fs w ∙ none
 
 pub un_is : (op : UnOp) (a : Expr) (fs : List Scheme) (w : Walked) → expr_found (e.Un op a) fs w ≡ expr_found a fs (visit w)
@@ -78,7 +78,7 @@ if_is x a b = stmt_is (s.If x a b) (Stmt-F.If x a b) (s.rolls-If x a b)
 
 pub gen_is : (event : ℕ) (es : List Expr) (delay to : Option Expr) (first : Bool) (fs : List Scheme) (w : Walked) →
     stmt_found (s.Gen event es delay to first) fs w ≡ both finds first (optional finds (option_map expr_found delay))
-        (optional finds (option_map expr_found to)) fs (sequence finds (map expr_found es) fs (visit w))
+    (optional finds (option_map expr_found to)) fs (sequence finds (map expr_found es) fs (visit w))
 gen_is event es delay to first fs w =
     stmt_is (s.Gen event es delay to first) (Stmt-F.Gen event es delay to first) (s.rolls-Gen event es delay to first) fs w ∙ cases delay to
   where
@@ -86,7 +86,7 @@ gen_is event es delay to first fs w =
         stmt_step finds (map-Stmt Expr Stmt Touch Advance Advance Advance expr_found stmt_found touch_found
         (Stmt-F.Gen event es delay to first)) fs w
         ≡ both finds first (optional finds (option_map expr_found delay)) (optional finds (option_map expr_found to)) fs
-            (sequence finds (map expr_found es) fs (visit w))
+        (sequence finds (map expr_found es) fs (visit w))
     cases None None = refl
     cases None (Some t) = refl
     cases (Some d) None = refl
@@ -94,7 +94,7 @@ gen_is event es delay to first fs w =
 
 pub multi_is : (event : ℕ) (es : List Expr) (delay : Option Expr) (members : List ℕ) (fs : List Scheme) (w : Walked) →
     stmt_found (s.Multi event es delay members) fs w ≡ optional finds (option_map expr_found delay) fs
-        (sequence finds (map expr_found es) fs (visit w))
+    (sequence finds (map expr_found es) fs (visit w))
 multi_is event es delay members fs w =
     stmt_is (s.Multi event es delay members) (Stmt-F.Multi event es delay members) (s.rolls-Multi event es delay members) fs w ∙ cases delay
   where

@@ -84,19 +84,19 @@ module _ {T : Type 0} (walk : T → Advance) (xs : List T) (i : ℕ) (fs : List 
 item_left : {T : Type 0} (walk : T → Advance) → ((x : T) → Up (walk x)) →
     (xs : List T) (i : ℕ) (x : T) (fs : List Scheme) (w v : Walked) (k : ℕ) → i < length xs → x ≡ get_or xs i x →
     sequence finds (map walk (drop i xs)) fs w ≡ sequence finds (map walk xs) fs v → k ≤ (walk x fs w).steps →
-        k ≤ (sequence finds (map walk xs) fs v).steps
+    k ≤ (sequence finds (map walk xs) fs v).steps
 item_left walk up xs i x fs w v k within is same most =
     let rest : sequence finds (map walk (x ∷ drop (i + 1) xs)) fs w ≡ sequence finds (map walk xs) fs v =
     subst (λ ys. sequence finds (map walk ys) fs w ≡ sequence finds (map walk xs) fs v)
-        (drop_more xs i x within ∙ ap (λ y. y ∷ drop (i + 1) xs) (sym is)) same in
+    (drop_more xs i x within ∙ ap (λ y. y ∷ drop (i + 1) xs) (sym is)) same in
     let more = list_up walk up (drop (i + 1) xs) fs (walk x fs w) in
     let steps : (sequence finds (map walk (drop (i + 1) xs)) fs (walk x fs w)).steps ≡ (sequence finds (map walk xs) fs v).steps =
-        ap (λ (u : Walked). u.steps) rest in
+    ap (λ (u : Walked). u.steps) rest in
     omega (arith, more, most, steps)
 
 pub expr_left : (xs : List Expr) (i : ℕ) (x : Expr) (fs : List Scheme) (w v : Walked) (k : ℕ) → i < length xs → x ≡ get_or xs i x →
     sequence finds (map expr_found (drop i xs)) fs w ≡ sequence finds (map expr_found xs) fs v → k ≤ (expr_found x fs w).steps →
-        k ≤ (sequence finds (map expr_found xs) fs v).steps
+    k ≤ (sequence finds (map expr_found xs) fs v).steps
 expr_left = item_left expr_found expr_up
 
 pub stmt_left : (xs : List Stmt) (i : ℕ) (x : Stmt) (fs : List Scheme) (w v : Walked) (k : ℕ) → i < length xs → x ≡ get_or xs i x →
@@ -118,12 +118,12 @@ pub given_left : (gs : List (ℕ × Expr)) (i : ℕ) (g : ℕ × Expr) (fs : Lis
     k ≤ (given_found gs fs v).steps
 given_left gs i g fs w v k within is same most =
     let found = item_left argument (λ (h : ℕ × Expr). expr_up h.1) gs i g fs w v k within is
-        (sym (given_is (drop i gs) fs w) ∙ same ∙ given_is gs fs v) most in
+    (sym (given_is (drop i gs) fs w) ∙ same ∙ given_is gs fs v) most in
     subst (λ (u : Walked). k ≤ u.steps) (sym (given_is gs fs v)) found
 
 pub given_next : (gs : List (ℕ × Expr)) (i : ℕ) (fs : List Scheme) (w whole : Walked) → given_found (drop i gs) fs w ≡ whole →
     (g : ℕ × Expr) (here : Walked) → i < length gs → g ≡ get_or gs i g → here ≡ expr_found g.1 fs w →
-        given_found (drop (i + 1) gs) fs here ≡ whole
+    given_found (drop (i + 1) gs) fs here ≡ whole
 given_next gs i fs w whole same g here within is one =
     given_is (drop (i + 1) gs) fs here ∙ next_item argument gs i fs w whole (sym (given_is (drop i gs) fs w) ∙ same) g here within is one
 

@@ -145,7 +145,7 @@ module _ (left front : List Stmt) (x : Expr) (a b : List Stmt) (is : left ≡ fr
   pub stepped_by : (one two : Walked) (ends : List Atom) (after : Option (List Atom)) (rest : List Stmt) → one ≡ at →
       two ≡ back_from x a fs (visit one) →
       ends ≡ (first x a fs (visit one)).ends → after ≡ Some (with_more firsts ends) → rest ≡ b →
-          closed after (body_found rest fs two) ≡ whole
+      closed after (body_found rest fs two) ≡ whole
   stepped_by one two ends after rest is_one is_two is_ends is_after is_rest =
       ap₂ (λ (o : Option (List Atom)) (u : Walked). closed o u)
       (is_after ∙ ap (λ (es : List Atom). Some (with_more firsts es)) (is_ends ∙ ap (λ (u : Walked). (first x a fs (visit u)).ends) is_one))
@@ -168,7 +168,7 @@ pub if_joins : (x : Expr) (a b : List Stmt) (y : Stmt) (fs : List Scheme) (w mid
     record last { ends = join_all same_atom left last.ends } ≡ stmt_found y fs w
 if_joins x a b y fs w mid last left is is_left is_mid is_last =
     ap₂ (λ (ends : List Atom) (u : Walked). record u { ends = join_all same_atom ends u.ends }) is_left
-        (is_last ∙ ap (λ (u : Walked). body_found b fs u) is_mid)
+    (is_last ∙ ap (λ (u : Walked). body_found b fs u) is_mid)
     ∙ sym (ap (λ (z : Stmt). stmt_found z fs w) is ∙ if_is x a b fs w)
 
 -- The condition, stopped before the first branch.

@@ -14,9 +14,10 @@ ghost use Rattle.lucid_effects.specs.declared.error.OrderError.TheVariants as er
 use crate::declaration::judge;
 use crate::error::OrderError;
 use crate::first::Refused;
+use crate::law;
 use lucid_base::{Memory, Steps};
 use lucid_core::{Core, FunDef, HandlerDef};
-use lucid_effects_spec::{Scheme, touches_rise};
+use lucid_effects_spec::Scheme;
 use std::alloc::Global;
 use std::sync::ledger::Ledger;
 
@@ -133,7 +134,7 @@ pub fn check_order<L: Ledger>(
     ensures rises { OnOk result (TouchesRise core.now) }
     ensures most { steps.new ≤ steps.old + 2 * nodes core.now * ((length core.now.arrays + 9) * (length core.now.arrays + 9)) }
 {
-    touches_rise(core);
+    law::touches_rise(core);
     let Judged { schemes, first } = check_all(alloc, core, steps)?;
     refuse(first)?;
     Ok(schemes)

@@ -8,6 +8,7 @@ mod check;
 mod declaration;
 mod error;
 mod first;
+mod law;
 mod walk;
 
 pub use check::check_order;

@@ -10,6 +10,7 @@ mod bodies;
 mod depth;
 mod error;
 mod group;
+mod law;
 mod limits;
 mod program;
 mod single;

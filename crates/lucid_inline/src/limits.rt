@@ -6,10 +6,10 @@ ghost use Rattle.lucid_inline.specs.Refusals.{Fits, Refused, largest};
 ghost use Rattle.lucid_effects_spec.specs.Order.{IsAccepted};
 
 use crate::error::InlineError;
+use crate::law;
 use crate::program::flatten;
 use lucid_core::{Core, Flat};
 use lucid_inline_count::count_core;
-use lucid_inline_spec::{keeps_order, keeps_steps};
 use std::alloc::Global;
 
 /// The largest flat form that is built.
@@ -31,8 +31,8 @@ pub fn inline(alloc: Global, core: &Core, room: usize) -> Result<Flat, InlineErr
     ensures order { KeepsOrder core.now }
     ensures accepted { IsAccepted core.now → IfOk result (λ flat. IsAccepted flat) }
 {
-    keeps_steps(core);
-    keeps_order(core);
+    law::keeps_steps(core);
+    law::keeps_order(core);
     let totals = count_core(alloc, core, room as u64, most())?;
     if let Some(handler) = totals.length.passed {
         let count = totals.length.total;

@@ -6,10 +6,10 @@ ghost use Rattle.lucid_inline.specs.Numbers.{FewStmts, most_size};
 
 use crate::bodies::block;
 use crate::depth::MOST;
+use crate::law;
 use crate::site::Site;
 use lucid_base::{ArrayDef, Id, Items, Memory};
 use lucid_core::{Core, EventDef, Flat, FunDef, HandlerDef, MemopDef};
-use lucid_inline_spec::{flat_is_valid, has_few_locals};
 use std::alloc::Global;
 
 /// The flat form of a core whose size is so small that its locals have numbers of 32 bits. The size may be exponential in the core's, and
@@ -18,8 +18,8 @@ pub fn flatten(alloc: Global, core: &Core) -> Result<Flat, Memory>
     requires { sum (handler_sizes core.now) ≤ most_size }
     ensures { IfOk result (λ flat. flat ≡ flat_of core.now) }
 {
-    flat_is_valid(core);
-    has_few_locals(core);
+    law::flat_is_valid(core);
+    law::has_few_locals(core);
     let arrays = copy_arrays(alloc, core.arrays())?;
     let memops = copy_memops(alloc, core.memops())?;
     let events = copy_events(alloc, core.events())?;

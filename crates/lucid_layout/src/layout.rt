@@ -6,12 +6,11 @@ ghost use Rattle.lucid_stages.specs.Filling.{laid, seats};
 ghost use Rattle.lucid_layout.specs.Layout.{IsLayout, IsRefused, stages_of};
 ghost use Rattle.lucid_stages.specs.NodeWorks.{works as works_of};
 
-use crate::FitError;
 use crate::fit::{Layout, fit};
+use crate::{FitError, law};
 use lucid_base::Memory;
 use lucid_code::Code;
 use lucid_conf::Limits;
-use lucid_merge::{guards_contradict, products_act, products_name};
 use lucid_stages::{nodes, stage_codes, test_counts, works};
 use lucid_tables::Placed;
 use std::alloc::Global;
@@ -43,9 +42,9 @@ fn placed(alloc: Global, code: &Code, limits: &Limits, layout: Layout) -> Result
     ensures code { IfOk result (λ p. p.code ≡ code.now) }
     ensures stages { IfOk result (λ p. p.stages ≡ stages_of code.now limits.now layout.pairs) }
 {
-    products_act();
-    products_name();
-    guards_contradict();
+    law::products_act();
+    law::products_name();
+    law::guards_contradict();
     let ops = code.ops();
     let copy = code.copy()?;
     let Layout { stages, .. } = layout;

@@ -15,6 +15,7 @@
 
 mod ending;
 mod error;
+mod law;
 mod leaving;
 mod links;
 mod machines;

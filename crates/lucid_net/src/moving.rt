@@ -10,8 +10,9 @@ ghost use Rattle.lucid_pipe_laws.specs.Moves.{advance, entered_by, goes};
 ghost use Rattle.lucid_net.specs.Leaving.{gone_run};
 ghost use Rattle.lucid_net.specs.Rows.{IsOf};
 
+use crate::law;
 use lucid_base::Event;
-use lucid_pipe::{Passed, Pipe, moves_as_rows};
+use lucid_pipe::{Passed, Pipe};
 use lucid_tables::Placed;
 
 /// The pipe has the cells of its rows.
@@ -41,7 +42,7 @@ fn move_at(placed: &Placed, pipe: &mut Pipe<'_>, k: usize, gone: &mut Option<Pas
     ensures moved { rows_in pipe.new ≡ (goes (step_of pipe.old.placed) k (rows_in pipe.old)).0 }
     ensures left { gone_run gone.new ≡ option_map run_of_packet (goes (step_of pipe.old.placed) k (rows_in pipe.old)).1 }
 {
-    moves_as_rows(placed);
+    law::moves_as_rows(placed);
     pipe.places_fall();
     match pipe.go_into(k, gone) {
         Ok(_) => {}
@@ -58,7 +59,7 @@ fn move_within(placed: &Placed, pipe: &mut Pipe<'_>, k: usize)
     ensures long { length pipe.new.slots ≡ length pipe.new.placed.stages }
     ensures moved { rows_in pipe.new ≡ (goes (step_of pipe.old.placed) k (rows_in pipe.old)).0 }
 {
-    moves_as_rows(placed);
+    law::moves_as_rows(placed);
     pipe.places_fall();
     // Most slots are free in most networks, so that is asked without a call.
     if !pipe.slot(k) {
@@ -94,7 +95,7 @@ pub(crate) fn enter_free(placed: &Placed, pipe: &mut Pipe<'_>, event: Event, tic
     ensures placed { pipe.new.placed ≡ pipe.old.placed }
     ensures rows { rows_in pipe.new ≡ entered_by (Some (entering pipe.old.placed.code event tick switch)) (rows_in pipe.old) }
 {
-    moves_as_rows(placed);
+    law::moves_as_rows(placed);
     pipe.places_fall();
     match pipe.enter(event, tick, switch) {
         Ok(()) => {}

@@ -18,7 +18,6 @@ ghost use Rattle.lucid_net.specs.Wanting.{SomeMade, Stopped};
 ghost use Rattle.lucid_net.specs.Writes.{Writes};
 ghost use Rattle.lucid_net.specs.declared.error.NetError.TheVariants.{Memory as memory_error};
 
-use crate::NetError;
 use crate::leaving::Counts;
 use crate::links::Links;
 use crate::machines::{Machines, packets, put_last, show, tick_all};
@@ -27,9 +26,10 @@ use crate::starting::{all_cells, all_events, all_pipes};
 use crate::switches::Switches;
 use crate::windows::Windows;
 use crate::world::World;
+use crate::{NetError, law};
 use lucid_base::Memory;
 use lucid_conf::{Limits, Scene};
-use lucid_core::{Core, outs_fit};
+use lucid_core::Core;
 use lucid_core_run::Scratch;
 use lucid_io::Sink;
 use lucid_net_laws::pass_does_as;
@@ -123,7 +123,7 @@ impl<'a> Net<'a> {
         if core.events().len() > u32::MAX as usize {
             return Err(Memory);
         }
-        outs_fit(core);
+        law::outs_fit(core);
         pass_does_as(core, placed);
         let links = Links::new(alloc, scene)?;
         let windows = Windows::new(alloc, scene)?;

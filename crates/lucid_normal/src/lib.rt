@@ -7,6 +7,7 @@
 mod bodies;
 mod handlers;
 mod inputs;
+mod law;
 mod program;
 
 pub use bodies::block;

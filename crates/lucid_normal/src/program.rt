@@ -9,13 +9,10 @@ ghost use Rattle.lucid_normal_spec.specs.Stands.{StandsFor};
 
 use crate::handlers::build;
 use crate::inputs::{arg_widths, input_widths};
+use crate::law;
 use lucid_base::{ArrayDef, Memory};
 use lucid_code::{Code, Inputs};
 use lucid_core::Flat;
-use lucid_normal_laws::{
-    normal_form_follows_writes, normal_form_has_its_length, normal_form_is_valid,
-    normal_form_stands,
-};
 use std::alloc::Global;
 
 /// Translates an accepted flat core into valid code that represents it, with as many operations as are counted over it. Every node that
@@ -28,10 +25,10 @@ pub fn normal(alloc: Global, flat: &Flat) -> Result<Code, Memory>
     ensures length { IfOk result (λ code. length code.ops ≡ program_length flat.now) }
     ensures follows { IfOk result (λ code. IsTrue (nodes_follow_writes code.ops)) }
 {
-    normal_form_is_valid(flat);
-    normal_form_stands(flat);
-    normal_form_has_its_length(flat);
-    normal_form_follows_writes(flat);
+    law::normal_form_is_valid(flat);
+    law::normal_form_stands(flat);
+    law::normal_form_has_its_length(flat);
+    law::normal_form_follows_writes(flat);
     translated(alloc, flat)
 }
 
@@ -39,7 +36,7 @@ fn translated(alloc: Global, flat: &Flat) -> Result<Code, Memory>
     requires { IsAccepted flat.now }
     ensures { IfOk result (λ code. code ≡ translate flat.now) }
 {
-    normal_form_is_valid(flat);
+    law::normal_form_is_valid(flat);
     let args = arg_widths(alloc, flat.events())?;
     let inputs = inputs_of(args.len())?;
     let widths = input_widths(alloc, args)?;

@@ -9,10 +9,9 @@ ghost use Rattle.lucid_pipe.specs.Settled.{settled, with_left, with_pass};
 ghost use Rattle.lucid_pipe.specs.Slots.{block_at};
 ghost use Rattle.lucid_pipe.specs.Views.{in_slot, pipe_of, told_by, IsPipe};
 
-use crate::Stuck;
 use crate::block::Blocks;
-use crate::laws::moves_keep;
 use crate::slots::{Slot, block_at, hand_on};
+use crate::{Stuck, laws as law};
 use lucid_base::{Cells, Event};
 use lucid_tables::Placed;
 
@@ -35,7 +34,7 @@ pub(crate) fn enter(
     ensures settles { settled (pipe_of placed.now cells.now blocks.new slots.new.items)
         ≡ with_pass placed.now event now me (settled (pipe_of placed.now cells.now blocks.old slots.old.items)) }
 {
-    moves_keep(placed);
+    law::moves_keep(placed);
     let here = slots[0];
     blocks.load(here.block, placed, event, now, me);
     slots[0] = Slot {
@@ -99,7 +98,7 @@ fn pass_on(
     ensures settles { settled (pipe_of placed.now cells.old blocks.old slots.old.items)
         ≡ with_left (told_by blocks.new result) (settled (pipe_of placed.now cells.new blocks.new slots.new.items)) }
 {
-    moves_keep(placed);
+    law::moves_keep(placed);
     blocks.run(number, placed, k, cells);
     hand_on(slots, k);
     comes_out(slots.len(), k, number)

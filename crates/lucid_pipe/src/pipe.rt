@@ -15,10 +15,9 @@ ghost use Rattle.lucid_pipe.specs.Settled.{settled, with_left, with_pass};
 ghost use Rattle.lucid_pipe.specs.Sights.{sight_of, PlacesFall};
 
 use crate::block::Blocks;
-use crate::laws::{moves_as_rows, moves_keep};
 use crate::moving::{enter, go_on};
 use crate::slots::{Slot, block_at, free_slots, places, taken_slots};
-use crate::{Busy, Passed, Sight, Stuck};
+use crate::{Busy, Passed, Sight, Stuck, laws as law};
 use lucid_base::{Cells, Event, Items, Memory};
 use lucid_tables::Placed;
 use std::alloc::Global;
@@ -254,8 +253,8 @@ impl<'a> Pipe<'a> {
         ensures sized { sizes self.now.cells ≡ sizes (zero_cells self.now.placed.code.arrays) }
         ensures long { length self.now.slots ≡ length self.now.placed.stages }
     {
-        moves_keep(self.placed);
-        moves_as_rows(self.placed);
+        law::moves_keep(self.placed);
+        law::moves_as_rows(self.placed);
         let _code = self.placed.code();
         let _stages = self.placed.stages();
         let _slots = self.slots.len();

@@ -5,12 +5,13 @@ ghost use Rattle.lucid_merge.specs.RowCounts.{patterns_of};
 ghost use Rattle.lucid_refusals.specs.Refusal.{Refuses};
 
 use crate::implying::implies;
+use crate::law;
 use crate::literals::literals_of;
 use crate::refusal::Refusals;
 use crate::shape::{fields_of, patterns_of, shape_of};
 use lucid_base::{Items, Memory};
 use lucid_code::Literal;
-use lucid_merge::{merge, rows_are_counted};
+use lucid_merge::merge;
 use lucid_tables::{Row, Table};
 use std::alloc::Global;
 use std::marker::Model;
@@ -137,7 +138,7 @@ fn with_refusal(
     requires patterns { patterns_of table.now ≡ known.patterns }
     ensures { IfOk result (λ known. patterns_of table.now ≡ known.patterns) }
 {
-    rows_are_counted();
+    law::rows_are_counted();
     let named = known.fields.as_slice();
     let shape = shape_of(alloc, named, more)?;
     let Refusals {

@@ -5,11 +5,12 @@ ghost use Rattle.std.specs.List.{list_all};
 ghost use Rattle.lucid_merge.specs.Product.{has};
 ghost use Rattle.lucid_refusals.specs.Refusal.{Implies, is_one, kept_among};
 
+use crate::law;
 use crate::readings::fits;
 use crate::shape::same_pattern;
 use lucid_base::{Items, Memory};
 use lucid_code::Literal;
-use lucid_merge::{has_near, rows_are_counted};
+use lucid_merge::has_near;
 use std::alloc::Global;
 
 fn is_one(literals: &[Literal], more: &[Literal], literal: Literal) -> bool
@@ -54,7 +55,7 @@ fn implies_alike(
 ) -> Result<bool, Memory>
     ensures { IfOk result (λ r. IsTrue r → Implies literals.now known.now shape.now) }
 {
-    rows_are_counted();
+    law::rows_are_counted();
     if fits(alloc, literals, known, shape)? {
         return Ok(true);
     }

@@ -7,6 +7,7 @@
 
 mod growing;
 mod implying;
+mod law;
 mod literals;
 mod readings;
 mod refusal;

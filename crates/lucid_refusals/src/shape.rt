@@ -5,9 +5,10 @@ ghost use Rattle.lucid_merge.specs.Product.{has};
 ghost use Rattle.lucid_merge.specs.RowCounts.{patterns_of, CanMatch};
 ghost use Rattle.lucid_refusals.specs.Refusal.{StandsFor, fields_of, shared};
 
+use crate::law;
 use lucid_base::{Items, Memory};
 use lucid_code::Literal;
-use lucid_merge::{contradict, is_same, rows_are_counted};
+use lucid_merge::{contradict, is_same};
 use lucid_tables::{Row, put_number};
 use std::alloc::Global;
 
@@ -138,7 +139,7 @@ fn shape_of_row(
     requires { more.now ≡ row.now ∷ [] }
     ensures { IfOk result (StandsFor fields.now more.now) }
 {
-    rows_are_counted();
+    law::rows_are_counted();
     match spare_literal(fields, row) {
         None => {
             let shape = patterns_of(alloc, more)?;
@@ -160,7 +161,7 @@ pub(crate) fn shape_of(
 ) -> Result<Items<Items<Literal>>, Memory>
     ensures { IfOk result (StandsFor fields.now more.now) }
 {
-    rows_are_counted();
+    law::rows_are_counted();
     if more.len() == 1 {
         return shape_of_row(alloc, fields, more, &more[0]);
     }

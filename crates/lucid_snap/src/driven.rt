@@ -15,10 +15,10 @@ ghost use Rattle.lucid_snap.specs.Log.{log_after, snap_log};
 ghost use Rattle.lucid_snap.specs.Snap.{Follows, FollowsSome, KeepsFollowing};
 ghost use Rattle.lucid_snap.specs.Writes.{Writes};
 
-use crate::{Snap, SnapError};
+use crate::{Snap, SnapError, law};
 use lucid_base::Memory;
 use lucid_conf::Scene;
-use lucid_core::{Core, cells_stay_fit};
+use lucid_core::Core;
 use lucid_drive::{DriveState, drive_end, drive_flush, drive_step, drive_steps};
 use lucid_io::{Sink, WriteFault};
 use lucid_log::{ArrayCells, Piece, put_cells, put_pieces};
@@ -76,7 +76,7 @@ fn begin(
     ensures { IfOk result (λ snap. Follows snap pipe.now (after core.now (entries scene.now) state.now.entered)) }
 {
     pipe.keeps_laws();
-    cells_stay_fit(core);
+    law::cells_stay_fit(core);
     let _scene = scene;
     let _state = state;
     Snap::begin(alloc, pipe, placed)

@@ -10,6 +10,7 @@
 mod copy;
 mod driven;
 mod error;
+mod law;
 mod laws;
 mod snapshot;
 

@@ -10,6 +10,7 @@
 mod causes;
 mod commands;
 mod example;
+mod law;
 mod premises;
 mod room;
 mod top;

@@ -9,14 +9,13 @@ ghost use Rattle.lucid_top_fit.specs.Passes.{KeepNodes, PassesRun, passes_view};
 ghost use Rattle.lucid_top_words.specs.Outcome.{Prepares};
 
 use crate::causes::of_fit;
+use crate::law;
 use crate::passes::composed;
 use lucid_code::Code;
 use lucid_conf::Limits;
 use lucid_core::Core;
 use lucid_layout::place;
-use lucid_layout_laws::{layouts_are_one, stuck_for_room};
 use lucid_pass::Pass;
-use lucid_pass_laws::code_stands;
 use lucid_tables::Placed;
 use lucid_top_words::Refusal;
 use std::alloc::Global;
@@ -50,7 +49,7 @@ pub fn fitted(
     ensures room { let seen = passes_view called gives count in
         KeepNodes (map gives passes.old.items) → NoRoomIn limits.now (composed_of core.now (seen passes.old.items)).code result }
 {
-    code_stands(core);
+    law::code_stands(core);
     let made = composed(alloc, core, passes)?;
     let placed = placed(alloc, core, limits, &made.code)?;
     Ok(Fitting {
@@ -68,8 +67,8 @@ pub fn placed(alloc: Global, core: &Core, limits: &Limits, code: &Code) -> Resul
     ensures stages { IfOk result (λ p. length p.stages ≡ limits.now.stages) }
     ensures room { IsTrue (nodes_follow_writes code.now.ops) → NoRoomIn limits.now code.now result }
 {
-    layouts_are_one();
-    stuck_for_room();
+    law::layouts_are_one();
+    law::stuck_for_room();
     match place(alloc, code, limits) {
         Ok(placed) => Ok(placed),
         Err(error) => {

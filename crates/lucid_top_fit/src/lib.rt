@@ -7,6 +7,7 @@
 #![tactic(auto)]
 
 mod causes;
+mod law;
 mod layout;
 mod passes;
 mod placement;

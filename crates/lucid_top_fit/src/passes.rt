@@ -9,12 +9,12 @@ ghost use Rattle.lucid_top_fit.specs.Passes.{KeepNodes, PassView, PassesRun, pas
 ghost use Rattle.lucid_top_words.specs.Outcome.{Declines, Prepares};
 
 use crate::causes::of_inline;
+use crate::law;
 use lucid_code::Code;
 use lucid_core::{Core, Flat};
 use lucid_inline::inline;
 use lucid_normal::normal;
-use lucid_pass::{Pass, lists_keep_the_laws, run_passes_told};
-use lucid_pass_laws::counts_are_exact;
+use lucid_pass::{Pass, run_passes_told};
 use lucid_top_words::Refusal;
 use std::alloc::Global;
 
@@ -45,7 +45,7 @@ pub fn composed(
     ensures replaces { IfOk result (λ c. MayReplace (normal_of core.now) c.code) }
     ensures forward { KeepNodes (map gives passes.old.items) → IfOk result (λ c. IsTrue (nodes_follow_writes c.code.ops)) }
 {
-    lists_keep_the_laws();
+    law::lists_keep_the_laws();
     let flat = flat(alloc, core)?;
     let code = normal(alloc, &flat)?;
     let told = run_passes_told(alloc, passes, code)?;
@@ -63,7 +63,7 @@ fn flat(alloc: Global, core: &Core) -> Result<Flat, Refusal>
     ensures fits { IfOk result (λ flat. HasNormal core.now) }
     ensures refused { (passes : List PassView) → IfErr result (Declines (IsComposed core.now passes)) }
 {
-    counts_are_exact(core);
+    law::counts_are_exact(core);
     match inline(alloc, core, MOST_OPS) {
         Ok(flat) => Ok(flat),
         Err(error) => Err(of_inline(error)),

@@ -10,12 +10,11 @@ ghost use Rattle.lucid_top_fit.specs.Placing.{IsAudited, IsCounted, IsPlan};
 ghost use Rattle.lucid_top_words.specs.Outcome.{Prepares};
 
 use crate::causes::{of_audit, of_count, of_plan};
-use lucid_audit::{Plan, audit, audits_are_one, plan_of};
+use crate::law;
+use lucid_audit::{Plan, audit, plan_of};
 use lucid_code::Code;
 use lucid_conf::Limits;
 use lucid_core::Core;
-use lucid_layout_laws::layouts_are_one;
-use lucid_pass_laws::code_stands;
 use lucid_stages::{nodes, test_counts};
 use lucid_tables::Placed;
 use lucid_top_words::Refusal;
@@ -26,7 +25,7 @@ pub fn counted(alloc: Global, core: &Core, limits: &Limits, code: &Code) -> Resu
     ensures counted { Prepares (IsCounted core.now limits.now code.now) (λ _. code.now) result }
     ensures counts { OnOk result (CountsFit code.now limits.now) }
 {
-    layouts_are_one();
+    law::layouts_are_one();
     match test_counts(alloc, code, limits) {
         Ok(()) => Ok(()),
         Err(error) => {
@@ -67,8 +66,8 @@ pub fn audited(
     ensures arrays { IfOk result (λ p. p.code.arrays ≡ core.now.arrays) }
     ensures stages { IfOk result (λ p. length p.stages ≡ limits.now.stages) }
 {
-    audits_are_one();
-    code_stands(core);
+    law::audits_are_one();
+    law::code_stands(core);
     match audit(alloc, code, limits, plan) {
         Ok(placed) => Ok(placed),
         Err(error) => Err(of_audit(error)),

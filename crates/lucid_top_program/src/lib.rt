@@ -6,6 +6,7 @@
 #![tactic(auto)]
 
 mod causes;
+mod law;
 mod laws;
 mod order;
 mod program;

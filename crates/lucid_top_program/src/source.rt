@@ -8,8 +8,9 @@ ghost use Rattle.lucid_top_program.specs.Program.{AreTokens, IsExpanded, IsSourc
 ghost use Rattle.lucid_top_program.specs.Source.{IsSourceOf, text_of};
 
 use crate::causes::{of_lex, of_size};
+use crate::law;
 use lucid_lex::{Token, lex};
-use lucid_size::{expand, expansions_are_read, has_template, plain_text_stays};
+use lucid_size::{expand, has_template};
 use lucid_top_words::Refusal;
 use std::alloc::Global;
 
@@ -69,8 +70,8 @@ fn as_written(text: &[u8], tokens: Vec<Token>) -> Source
     ensures is { IsSourceOf text.now result }
 {
     let read = tokens.as_slice();
-    expansions_are_read(text, read);
-    plain_text_stays(text, read);
+    law::expansions_are_read(text, read);
+    law::plain_text_stays(text, read);
     Source::AsWritten(tokens)
 }
 
@@ -80,7 +81,7 @@ fn expanded_whole(alloc: Global, text: &[u8], tokens: &[Token]) -> Result<Source
     ensures source { Prepares (IsExpanded text.now tokens.now) (text_of text.now) result }
     ensures is { IfOk result (IsSourceOf text.now) }
 {
-    expansions_are_read(text, tokens);
+    law::expansions_are_read(text, tokens);
     match expand(alloc, text, tokens) {
         Ok(expanded) => Ok(Source::Expanded(expanded)),
         Err(error) => Err(of_size(error)),

@@ -4,6 +4,7 @@
 #![tactic(auto)]
 
 mod error;
+mod law;
 mod limit;
 mod parts;
 mod program;

@@ -4,19 +4,19 @@ ghost use Rattle.std.specs.Option.{option_copied};
 ghost use Rattle.lucid_types_declarations.specs.Known.{made_of};
 ghost use Rattle.lucid_types.specs.Answers.{Judges};
 
+use crate::law;
 use lucid_base::Memory;
 use lucid_parse_tree::DeclKind;
 use lucid_types_declarations::Known;
-use lucid_types_laws::declarations_are_computed;
-use lucid_types_limits::{Limits, only_the_new_counts};
+use lucid_types_limits::Limits;
 use lucid_types_spec::What;
 
 /// Returns the limit that the newest declaration exceeds, if any.
 pub fn passed(limits: &mut Limits, known: &Known, x: &DeclKind) -> Result<Option<What>, Memory>
     ensures { Judges result x.now (made_of known.now) limits.old limits.new }
 {
-    declarations_are_computed();
-    only_the_new_counts();
+    law::declarations_are_computed();
+    law::only_the_new_counts();
     match x {
         DeclKind::Const(_, _, _) => Ok(None),
         DeclKind::Global {

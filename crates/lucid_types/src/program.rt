@@ -9,6 +9,7 @@ ghost use Rattle.lucid_types_limits.specs.NewPart.{Knows};
 ghost use Rattle.lucid_types.specs.Answers.{Adds, Tells};
 
 use crate::error::TypeError;
+use crate::law;
 use crate::limit::passed;
 use crate::parts::core_of;
 use lucid_core::Core;
@@ -16,10 +17,9 @@ use lucid_parse_tree::{Decl, Tree};
 use lucid_seed::Seeded;
 use lucid_types_declarations::{Known, declare};
 use lucid_types_expressions::Fault;
-use lucid_types_laws::{declarations_are_computed, typed_programs_are_valid};
+use lucid_types_laws::typed_programs_are_valid;
 use lucid_types_limits::Limits;
 use lucid_types_scope::next;
-use lucid_types_spec::the_first_refusal_is_found;
 use std::alloc::Global;
 
 /// Elaborates the tree into its core, if the rules derive one; otherwise reports the first declaration that is refused, and why. A tree
@@ -29,8 +29,8 @@ pub fn elaborate(alloc: Global, seeded: Seeded, tree: &Tree) -> Result<Core, Typ
     ensures refused { IfErr result (Tells tree.now) }
     ensures one { IsDetermined tree.now }
 {
-    declarations_are_computed();
-    the_first_refusal_is_found();
+    law::declarations_are_computed();
+    law::the_first_refusal_is_found();
     typed_programs_are_valid();
     let mut known = Known::new(alloc, seeded);
     let mut limits = Limits::new(alloc);
