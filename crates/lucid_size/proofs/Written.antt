@@ -46,8 +46,8 @@ module _ (text : List ℕ) (ts : List Token) (m : ℕ) (names : List (List ℕ))
       at < length xs → x ≡ get_or xs at x → body ≡ body_steps text names ts x → row ≡ widths at →
       b ≡ out ++ (joined (pieces_of text m 0 (steps_between text names None ts i x.first)) [] ++ (gap_before text ts x.first).bytes) →
       c ≡ b ++ joined (instances text m body row) [] →
-      c ++ joined (written_from text ts m names widths x.end (at + 1) (drop (at + 1) xs)) [] ≡ out
-      ++ joined (written_from text ts m names widths i at (drop at xs)) []
+      c ++ joined (written_from text ts m names widths x.end (at + 1) (drop (at + 1) xs)) []
+      ≡ out ++ joined (written_from text ts m names widths i at (drop at xs)) []
   whole_turn i at xs x body row out b c within is body_is row_is' wrote_b wrote_c =
       let P = joined (pieces_of text m 0 (steps_between text names None ts i x.first)) [] in
       let g = (gap_before text ts x.first).bytes in

@@ -77,15 +77,15 @@ expands_by : (text : List ℕ) (ts : List Token) (xs : List Template) (names : L
     AreParts text ts xs names outside bodies m → AreUsed outside bodies found → used ≡ found →
     out ≡ joined (written_from text ts m names (widths_in used) 0 0 xs) [] → ExpandsTo text ts out
 expands_by text ts xs names outside bodies m found used out parts are same is =
-    expands text ts xs names outside bodies m found out parts are (is
-    ∙ ap (λ l. joined (written_from text ts m names (widths_in l) 0 0 xs) []) same)
+    expands text ts xs names outside bodies m found out parts are
+    (is ∙ ap (λ l. joined (written_from text ts m names (widths_in l) 0 0 xs) []) same)
 
 pub returns-clause-ok : goal.returns-clause-ok
 returns-clause-ok c = expands_by c.args.text.now c.args.tokens.now _ _ _ _ _ _ _ _
     (parts_are c.args.text.now c.args.tokens.now _ _ _ _ _ _
     c.in_ok-cut.ensures.ok c.as_slice-templates.ensures.value c.in_ok-names.ensures.distinct c.in_ok-names.ensures.names
-    (c.as_slice-outside.ensures ∙ c.in_ok-parts.ensures.outside) (c.as_slice-bodies.ensures.value
-    ∙ c.in_ok-parts.ensures.bodies) c.underscores_in-underscores.ensures)
+    (c.as_slice-outside.ensures ∙ c.in_ok-parts.ensures.outside)
+    (c.as_slice-bodies.ensures.value ∙ c.in_ok-parts.ensures.bodies) c.underscores_in-underscores.ensures)
     c.in_ok-found.ensures.found c.as_slice.ensures.value c.in_ok-out.ensures
 
 pub returns-then-len-gt-MOST-clause-too_big : goal.returns-then-len-gt-MOST-clause-too_big
@@ -94,8 +94,8 @@ returns-then-len-gt-MOST-clause-too_big c =
     let are = expands_by c.args.text.now c.args.tokens.now _ _ _ _ _ _ _ _
     (parts_are c.args.text.now c.args.tokens.now _ _ _ _ _ _
     c.in_ok-cut.ensures.ok c.as_slice-templates.ensures.value c.in_ok-names.ensures.distinct c.in_ok-names.ensures.names
-    (c.as_slice-outside.ensures ∙ c.in_ok-parts.ensures.outside) (c.as_slice-bodies.ensures.value
-    ∙ c.in_ok-parts.ensures.bodies) c.underscores_in-underscores.ensures)
+    (c.as_slice-outside.ensures ∙ c.in_ok-parts.ensures.outside)
+    (c.as_slice-bodies.ensures.value ∙ c.in_ok-parts.ensures.bodies) c.underscores_in-underscores.ensures)
     c.in_ok-found.ensures.found c.as_slice.ensures.value c.in_ok-out.ensures in
     λ _. (c.in_ok-out.out.items, are, above)
 
@@ -105,6 +105,6 @@ returns-in_err-found-clause-too_big c = λ h.
     too_big c.args.text.now c.args.tokens.now _ _ _ _ _ c.requires
     (parts_are c.args.text.now c.args.tokens.now _ _ _ _ _ _
     c.in_ok-cut.ensures.ok c.as_slice-templates.ensures.value c.in_ok-names.ensures.distinct c.in_ok-names.ensures.names
-    (c.as_slice-outside.ensures ∙ c.in_ok-parts.ensures.outside) (c.as_slice-bodies.ensures.value
-    ∙ c.in_ok-parts.ensures.bodies) c.underscores_in-underscores.ensures)
+    (c.as_slice-outside.ensures ∙ c.in_ok-parts.ensures.outside)
+    (c.as_slice-bodies.ensures.value ∙ c.in_ok-parts.ensures.bodies) c.underscores_in-underscores.ensures)
     c.parts_stand.ensures.outside c.parts_stand.ensures.bodies c.parts_stand.ensures.same (c.found_in.ensures.too_big failed)
