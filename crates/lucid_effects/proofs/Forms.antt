@@ -27,11 +27,6 @@ stmt_is : (x : Stmt) (y : Stmt-F Expr Stmt Touch) → roll-Stmt y ≡ x → (fs 
 stmt_is x y is fs w = ap (λ (z : Stmt). stmt_found z fs w) (sym is)
     ∙ ap (λ (f : Advance). f fs w) (fold-roll-Stmt Advance Advance Advance (expr_step finds) (stmt_step finds) (touch_step finds) y)
 
-pub leaf_is : (x : Expr) (y : Expr-F Expr Stmt Touch) → roll-Expr y ≡ x → (fs : List Scheme) (w : Walked) →
-    expr_step finds (map-Expr Expr Stmt Touch Advance Advance Advance expr_found stmt_found touch_found y) fs w ≡ visit w →
-    expr_found x fs w ≡ visit w
-leaf_is x y is fs w none = expr_is x y is fs w ∙ none
-
 pub un_is : (op : UnOp) (a : Expr) (fs : List Scheme) (w : Walked) → expr_found (e.Un op a) fs w ≡ expr_found a fs (visit w)
 un_is op a = expr_is (e.Un op a) (Expr-F.Un op a) (e.rolls-Un op a)
 

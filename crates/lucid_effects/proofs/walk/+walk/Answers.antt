@@ -1,5 +1,5 @@
 -- A walk goes on along the parts of a form, and takes no more steps than the whole if memory stops it.
-use Rattle.std.proofs.Common.{List, arith, rules, refl, sym, ◌≡◌, ◌∙◌, ◌+◌, ◌≤◌, [], ◌∷◌, ◌++◌, ap, map, option_map, false, true}
+use Rattle.std.proofs.Common.{List, arith, rules, refl, sym, ◌≡◌, ◌∙◌, ◌+◌, ◌≤◌, [], ◌∷◌, ◌++◌, ap, map, false, true}
 use denote.Param.Weighed.{most}
 use Rattle.std.proofs.lemmas.Result.{IfOk-from_err}
 use Rattle.lucid_core.specs.declared.body.Expr.{Expr}
@@ -7,17 +7,17 @@ use Rattle.lucid_core.specs.declared.body.Expr.TheViews.{size-Stmt}
 use Rattle.lucid_core.specs.declared.body.Stmt.{Stmt}
 use Rattle.lucid_core.specs.declared.body.Stmt.TheVariants as s
 use Rattle.lucid_core.specs.declared.body.Touch.{out-Touch}
-use Rattle.lucid_effects_spec.specs.Evaluation.{optional, sequence}
+use Rattle.lucid_effects_spec.specs.Evaluation.{sequence}
 use Rattle.lucid_effects.specs.Walk.{back_from, behind, first}
 use Rattle.lucid_effects.specs.Goes.{walked}
 use Rattle.lucid_constraints.specs.Same.{same_atom, join_all}
 use Rattle.lucid_effects_spec.specs.Schemes.{Walked, goes_through, body_found, expr_found, finds, given_found, passes, stmt_found}
-use Rattle.lucid_effects_spec.specs.Schemes.{touch_found, visit}
-use Rattle.lucid_effects.proofs.Forms.{array_is, assign_is, bin_is, call_is, cast_is, cmp_is, drop_is, gen_is, hash_is, if_is, inlined_is}
+use Rattle.lucid_effects_spec.specs.Schemes.{touch_found}
+use Rattle.lucid_effects.proofs.Forms.{array_is, assign_is, bin_is, call_is, cast_is, cmp_is, drop_is, gen_is, hash_is, inlined_is}
 use Rattle.lucid_effects.proofs.Forms.{multi_is, return_is, say_is, un_is}
 use Rattle.lucid_effects.proofs.Rising.{bin_left, branch_left, call_left, cmp_left, delay_left, expr_left, get_left, given_all, given_left}
 use Rattle.lucid_effects.proofs.Rising.{given_next, index_left, inlined_left, last_left, multi_left, next_item, no_item, sent_left}
-use Rattle.lucid_effects.proofs.Rising.{set_left, stmt_left, target_left, test_left, touch_is}
+use Rattle.lucid_effects.proofs.Rising.{set_left, stmt_left, target_left, touch_is}
 use Rattle.lucid_effects.proofs.WalkLemmas.{closed, ends_there, first_left, front_left, goes_on, if_joins, parts_are_less, stepped_by}
 use Rattle.lucid_effects.proofs.WalkLemmas.{stops, tested_left}
 use Rattle.lucid_effects.proofs.walk.+walk.Goals as goal
@@ -194,7 +194,10 @@ touch-returns-in_err-expr-3 g t c =
 
 pub touch-returns : goal.touch-returns
 touch-returns g t c =
-    let set = rw (c.in_ok-expr-2.ensures, c.in_ok-expr.ensures) at c.in_ok-expr-3.ensures in
+    let set : (walked c.expr-3.new.at c.expr-3.new.steps) ≡ expr_found (out-Touch c.args.t.now).set_arg c.args.schemes.now
+    (expr_found (out-Touch c.args.t.now).get_arg c.args.schemes.now
+    (expr_found (out-Touch c.args.t.now).index c.args.schemes.now (walked c.args.at.now c.args.steps.now))) =
+    rw (c.in_ok-expr-2.ensures, c.in_ok-expr.ensures) at c.in_ok-expr-3.ensures in
     let there = ap (λ (w : Walked). passes c.args.t.now.array c.args.schemes.now w) set in
     goes_on c.passes.result (passes c.args.t.now.array c.args.schemes.now (walked c.expr-3.new.at c.expr-3.new.steps))
     (touch_found c.args.t.now c.args.schemes.now (walked c.args.at.now c.args.steps.now)) (walked c.passes.new.at c.passes.new.steps)
@@ -294,9 +297,11 @@ body-returns-in_err-each-2 g t c =
 
 pub body-returns : goal.body-returns
 body-returns g t c =
+    let last : (walked c.each-2.new.at c.each-2.new.steps) ≡ body_found c.loop-e.left.now c.args.schemes.now
+    (walked c.loop-e.at c.loop-e.steps) = c.in_ok-each-2.ensures in
     ends_there c.stand_behind.result (behind c.loop-e.firsts c.each-2.new.at.ends) c.each-2.new.at c.stand_behind.new.at c.each-2.new.steps
     (body_found c.args.stmts.now c.args.schemes.now (walked c.args.at.now c.args.steps.now))
-    c.stand_behind.ensures (ap (λ (w : Walked). closed c.loop-e.firsts w) c.in_ok-each-2.ensures ∙ c.loop-e.invariant.1)
+    c.stand_behind.ensures (ap (λ (w : Walked). closed c.loop-e.firsts w) last ∙ c.loop-e.invariant.1)
 
 pub asked-returns-in-None : goal.asked-returns-in-None
 asked-returns-in-None g t c =
@@ -335,7 +340,9 @@ first_branch-returns-in_err-expr-clause-ends g t c =
 
 pub first_branch-returns-in_err-began-clause-found : goal.first_branch-returns-in_err-began-clause-found
 first_branch-returns-in_err-began-clause-found g t c =
-    let steps = ap (λ (w : Walked). w.steps) c.in_ok-expr.ensures in
+    let same : (walked c.expr.new.at c.expr.new.steps) ≡ expr_found c.args.e.now c.args.schemes.now (walked c.args.at.now c.args.steps.now)
+    = c.in_ok-expr.ensures in
+    let steps = ap (λ (w : Walked). w.steps) same in
     let low : c.expr.new.steps ≤ (expr_found c.args.e.now c.args.schemes.now (walked c.args.at.now c.args.steps.now)).steps =
     omega (arith, steps) in
     stops c.from_residual-in_err-began.result
