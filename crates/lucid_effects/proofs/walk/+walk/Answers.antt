@@ -1,5 +1,5 @@
 -- A walk goes on along the parts of a form, and takes no more steps than the whole if memory stops it.
-use Rattle.std.proofs.Common.{List, arith, rules, refl, sym, ◌≡◌, ◌∙◌, ◌+◌, ◌≤◌, [], ◌∷◌, ◌++◌, ap, map, false, true}
+use Rattle.std.proofs.Common.{List, arith, rules, refl, sym, ◌≡◌, ◌∙◌, ◌+◌, ◌≤◌, [], ◌∷◌, ◌++◌, ap, map}
 use denote.Param.Weighed.{most}
 use Rattle.std.proofs.lemmas.Result.{IfOk-from_err}
 use Rattle.lucid_core.specs.declared.body.Expr.{Expr}
