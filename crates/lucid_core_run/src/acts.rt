@@ -12,7 +12,7 @@ use crate::operate::{binary, comparison, nothing, unary};
 use crate::run::{Caller, Run};
 use crate::task::Act;
 use lucid_base::{ArrayName, Bits, Items, Memory, Target};
-use lucid_core::Touch;
+use lucid_core::{FunDef, Touch};
 use std::alloc::Global;
 
 /// Ends an expression, a statement or a body whose operands are evaluated.
@@ -31,14 +31,8 @@ pub fn end<'a>(machine: &mut Machine<'a>, act: Act<'a>) -> Result<(), Memory>
             leave(machine, caller);
             Ok(())
         }
-        Act::Leave {
-            caller,
-            arrays,
-            funs,
-        } => {
-            leave(machine, caller);
-            machine.arrays = arrays;
-            machine.funs = funs;
+        Act::Leave(caller, arrays, funs) => {
+            leave_call(machine, caller, arrays, funs);
             Ok(())
         }
         Act::Assign(local) => {
@@ -113,7 +107,17 @@ pub fn send_to_each(
     ensures sent { OnOk result (machine.new ≡ sent_to_each event args delay members.now machine.old) }
     ensures start { machine.new.run.start ≡ machine.old.run.start }
 {
-    send_each(machine.alloc, &mut machine.run, event, args, delay, members)?;
+    let values = args.as_slice();
+    let sent = send_each(
+        machine.alloc,
+        &mut machine.run,
+        event,
+        values,
+        delay,
+        members,
+    );
+    drop(args);
+    sent?;
     machine.value = nothing();
     Ok(())
 }
@@ -138,6 +142,16 @@ pub fn leave(machine: &mut Machine, caller: Caller)
     ensures { machine.new ≡ left caller machine.old }
 {
     machine.value = machine.run.leave(caller);
+}
+
+/// Ends a call. The caller's arrays and functions are in force again.
+#[inline(always)]
+fn leave_call<'a>(machine: &mut Machine<'a>, caller: Caller, arrays: Items<u32>, funs: &'a [FunDef])
+    ensures { machine.new ≡ record (left caller machine.old) { arrays = arrays; funs = funs.entry } }
+{
+    leave(machine, caller);
+    machine.arrays = arrays;
+    machine.funs = funs;
 }
 
 /// Calls an array. The value is the argument of its second memop.
@@ -170,15 +184,15 @@ fn send_each(
     alloc: Global,
     run: &mut Run,
     event: u32,
-    values: Items<Bits>,
+    values: &[Bits],
     delay: u64,
     members: &[u32],
 ) -> Result<(), Memory>
-    ensures sent { OnOk result (run.new ≡ with_state run.old (record run.old.state { outs = run.old.state.outs ++ map (generated event values delay) (map At members.now) })) }
+    ensures sent { OnOk result (run.new ≡ with_state run.old (record run.old.state { outs = run.old.state.outs ++ map (generated event values.now delay) (map At members.now) })) }
     ensures start { OnErr result (run.new.start ≡ run.old.start) }
 {
     for member in members {
-        let args = Items::from_slice(alloc, values.as_slice())?;
+        let args = Items::from_slice(alloc, values)?;
         let to = Target::At(*member as u64);
         run.send(Draft::Gen {
             event,

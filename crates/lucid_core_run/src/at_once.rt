@@ -1,5 +1,5 @@
 // What is done at once: expressions and statements whose operands have no parts, or parts that have none. They take no tasks.
-ghost use Rattle.std.specs.Prelude.{◌≡◌, ◌++◌, List, [], IfOk, IfSome, MatchOption, if◌then◌else◌, map};
+ghost use Rattle.std.specs.Prelude.{◌≡◌, ◌++◌, List, [], IfOk, IfSome, MatchOption, if◌then◌else◌, map, nat_eq};
 ghost use Rattle.std.specs.Option.{option_map};
 ghost use Rattle.lucid_core.specs.Computations.{all, give};
 ghost use Rattle.lucid_core.specs.Meaning.{delay_of, effect_of, target_of, touch_of, value_of};
@@ -87,17 +87,18 @@ fn touch_at_once(machine: &mut Machine, t: &Touch) -> Result<bool, Memory>
     ensures called { IfOk result (λ is_called. machine.new ≡ (if is_called then valued (touch_of t.now) machine.old else machine.old)) }
     ensures start { machine.new.run.start ≡ machine.old.run.start }
 {
-    let index = shallow(machine, &t.index);
-    let get_arg = shallow(machine, &t.get_arg);
-    let set_arg = shallow(machine, &t.set_arg);
-    match (index, get_arg, set_arg) {
-        (Some(index), Some(get_arg), Some(set_arg)) => {
-            machine.value = set_arg;
-            acts::touch(machine, t, index.value, get_arg)?;
-            Ok(true)
-        }
-        _ => Ok(false),
-    }
+    let Some(index) = shallow(machine, &t.index) else {
+        return Ok(false);
+    };
+    let Some(get_arg) = shallow(machine, &t.get_arg) else {
+        return Ok(false);
+    };
+    let Some(set_arg) = shallow(machine, &t.set_arg) else {
+        return Ok(false);
+    };
+    machine.value = set_arg;
+    acts::touch(machine, t, index.value, get_arg)?;
+    Ok(true)
 }
 
 /// Returns the values of expressions that take no tasks, in a list with this capacity; `None` if one of them takes one.
@@ -266,6 +267,13 @@ fn run_each<'a>(machine: &mut Machine, stmts: &'a [Stmt]) -> Result<&'a [Stmt], 
     Ok(rest)
 }
 
+/// Returns the first block if the value isn't 0, otherwise the second.
+pub fn select_branch<'a>(value: Bits, yes: &'a [Stmt], no: &'a [Stmt]) -> &'a [Stmt]
+    ensures { result.now ≡ (if nat_eq value.value 0 then no.now else yes.now) }
+{
+    if value.value == 0 { no } else { yes }
+}
+
 /// Runs a statement as far as it takes no tasks, and returns the statements that remain of it; `None` if it takes one first.
 fn begin_at_once<'a>(machine: &mut Machine, stmt: &'a Stmt) -> Result<Option<&'a [Stmt]>, Memory>
     ensures state { IfOk result (λ begun. MatchOption begun (machine.new ≡ machine.old) (λ rest. ran rest.now machine.new ≡ done (effect_of stmt.now) machine.old)) }
@@ -273,14 +281,12 @@ fn begin_at_once<'a>(machine: &mut Machine, stmt: &'a Stmt) -> Result<Option<&'a
 {
     match stmt {
         Stmt::If(e, yes, no) => {
-            if !evaluate_at_once(machine, e)? {
-                Ok(None)
-            } else if machine.value.value == 0 {
-                let rest = run_each(machine, no.as_slice())?;
+            if evaluate_at_once(machine, e)? {
+                let branch = select_branch(machine.value, yes.as_slice(), no.as_slice());
+                let rest = run_each(machine, branch)?;
                 Ok(Some(rest))
             } else {
-                let rest = run_each(machine, yes.as_slice())?;
-                Ok(Some(rest))
+                Ok(None)
             }
         }
         _ => {

@@ -1,7 +1,7 @@
 // Expressions: each function does a part of one, and pushes what remains.
 ghost use Rattle.lucid_core.specs.Meaning.{touch_of, value_of};
 ghost use Rattle.lucid_core.specs.Values.{binary as binary_of, comparison as comparison_of};
-ghost use Rattle.lucid_core_run.specs.Interpret.{Leads, after_all, second_operand, touch_at, touch_with, valued};
+ghost use Rattle.lucid_core_run.specs.Interpret.{Leads, after_all, after_task, second_operand, touch_at, touch_with, valued};
 
 use crate::at_once::evaluate_at_once;
 use crate::list::{begin_call, begin_inlined, list};
@@ -25,6 +25,20 @@ pub fn evaluate<'a>(
     Ok(())
 }
 
+/// Evaluates an expression, and does a task after it.
+#[inline(always)]
+pub fn evaluate_then<'a>(
+    tasks: &mut Tasks<'a>,
+    machine: &mut Machine<'a>,
+    e: &'a Expr,
+    task: Task<'a>,
+) -> Result<(), Memory>
+    ensures { Leads (after_all tasks.old (after_task task.entry (valued (value_of e.now) machine.old))) machine.old.run.start tasks.new machine.new result }
+{
+    tasks.push(task)?;
+    evaluate(tasks, machine, e)
+}
+
 /// Begins an expression that has parts.
 pub fn begin<'a>(
     tasks: &mut Tasks<'a>,
@@ -34,21 +48,15 @@ pub fn begin<'a>(
     ensures { Leads (after_all tasks.old (valued (value_of e.now) machine.old)) machine.old.run.start tasks.new machine.new result }
 {
     match e {
-        Expr::Un(op, a) => {
-            tasks.push(Task::Last(Act::Un(*op)))?;
-            evaluate(tasks, machine, a.get())
-        }
+        Expr::Un(op, a) => evaluate_then(tasks, machine, a.get(), Task::Last(Act::Un(*op))),
         Expr::Bin(op, a, b) => {
-            tasks.push(Task::BinLeft(*op, b.get()))?;
-            evaluate(tasks, machine, a.get())
+            evaluate_then(tasks, machine, a.get(), Task::BinLeft(*op, b.get()))
         }
         Expr::Cmp(op, a, b) => {
-            tasks.push(Task::CmpLeft(*op, b.get()))?;
-            evaluate(tasks, machine, a.get())
+            evaluate_then(tasks, machine, a.get(), Task::CmpLeft(*op, b.get()))
         }
         Expr::Cast(width, a) => {
-            tasks.push(Task::Last(Act::Cast(*width)))?;
-            evaluate(tasks, machine, a.get())
+            evaluate_then(tasks, machine, a.get(), Task::Last(Act::Cast(*width)))
         }
         Expr::Hash(width, operands) => {
             let purpose = Purpose::Hash(*width);
@@ -70,8 +78,7 @@ pub fn begin<'a>(
 fn touch<'a>(tasks: &mut Tasks<'a>, machine: &mut Machine<'a>, t: &'a Touch) -> Result<(), Memory>
     ensures { Leads (after_all tasks.old (valued (touch_of t.now) machine.old)) machine.old.run.start tasks.new machine.new result }
 {
-    tasks.push(Task::TouchIndex(t))?;
-    evaluate(tasks, machine, &t.index)
+    evaluate_then(tasks, machine, &t.index, Task::TouchIndex(t))
 }
 
 /// The index of the call is evaluated.
@@ -82,8 +89,8 @@ pub fn touch_index<'a>(
 ) -> Result<(), Memory>
     ensures { Leads (after_all tasks.old (touch_at t.now machine.old)) machine.old.run.start tasks.new machine.new result }
 {
-    tasks.push(Task::TouchGet(t, machine.value.value))?;
-    evaluate(tasks, machine, &t.get_arg)
+    let task = Task::TouchGet(t, machine.value.value);
+    evaluate_then(tasks, machine, &t.get_arg, task)
 }
 
 /// The argument of the first memop is evaluated.
@@ -95,8 +102,8 @@ pub fn touch_get<'a>(
 ) -> Result<(), Memory>
     ensures { Leads (after_all tasks.old (touch_with t.now index machine.old)) machine.old.run.start tasks.new machine.new result }
 {
-    tasks.push(Task::Last(Act::TouchSet(t, index, machine.value)))?;
-    evaluate(tasks, machine, &t.set_arg)
+    let act = Act::TouchSet(t, index, machine.value);
+    evaluate_then(tasks, machine, &t.set_arg, Task::Last(act))
 }
 
 /// The first operand is evaluated.
@@ -108,8 +115,8 @@ pub fn bin_right<'a>(
 ) -> Result<(), Memory>
     ensures { Leads (after_all tasks.old (second_operand (binary_of op) b.now machine.old)) machine.old.run.start tasks.new machine.new result }
 {
-    tasks.push(Task::Last(Act::BinRight(op, machine.value)))?;
-    evaluate(tasks, machine, b)
+    let act = Act::BinRight(op, machine.value);
+    evaluate_then(tasks, machine, b, Task::Last(act))
 }
 
 /// The first operand is evaluated.
@@ -121,6 +128,6 @@ pub fn cmp_right<'a>(
 ) -> Result<(), Memory>
     ensures { Leads (after_all tasks.old (second_operand (comparison_of op) b.now machine.old)) machine.old.run.start tasks.new machine.new result }
 {
-    tasks.push(Task::Last(Act::CmpRight(op, machine.value)))?;
-    evaluate(tasks, machine, b)
+    let act = Act::CmpRight(op, machine.value);
+    evaluate_then(tasks, machine, b, Task::Last(act))
 }

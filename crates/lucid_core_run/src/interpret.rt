@@ -1,11 +1,12 @@
 // The interpreter: does tasks until none remains. Nothing in it recurses, so a run takes the same stack however deep its calls are.
 ghost use Rattle.std.specs.Prelude.{◌≡◌, ◌++◌, ◌∷◌, [], OnOk, if◌then◌else◌, nat_eq};
 ghost use Rattle.lucid_core.specs.Meaning.{effect_of};
+ghost use Rattle.lucid_core_run.specs.declared.task.Purpose.TheVariants.{Gen, Multi};
 ghost use Rattle.lucid_core_run.specs.Interpret.{Leads, after_all, after_task, done, inlined, listed, ran};
 
 use crate::acts::end;
-use crate::at_once::run_block;
-use crate::evaluate::{begin, bin_right, cmp_right, evaluate, touch_get, touch_index};
+use crate::at_once::{run_block, select_branch};
+use crate::evaluate::{begin, bin_right, cmp_right, evaluate_then, touch_get, touch_index};
 use crate::list::{list, next, next_given};
 use crate::machine::Machine;
 use crate::operate::nothing;
@@ -20,13 +21,28 @@ pub fn run_body<'a>(machine: &mut Machine<'a>, body: &'a [Stmt]) -> Result<(), M
     ensures start { machine.new.run.start ≡ machine.old.run.start }
 {
     let mut tasks = Tasks::new(machine.alloc);
-    block(&mut tasks, machine, body)?;
+    let ended = run_tasks(&mut tasks, machine, body);
+    drop(tasks);
+    ended
+}
+
+/// Runs a body with a list of tasks that is empty.
+fn run_tasks<'a>(
+    tasks: &mut Tasks<'a>,
+    machine: &mut Machine<'a>,
+    body: &'a [Stmt],
+) -> Result<(), Memory>
+    requires { tasks.old ≡ [] }
+    ensures state { OnOk result (machine.new ≡ ran body.now machine.old) }
+    ensures start { machine.new.run.start ≡ machine.old.run.start }
+{
+    block(tasks, machine, body)?;
     // No run does this many tasks.
     for _ in 0..u64::MAX {
         let Some(task) = tasks.pop() else {
             return Ok(());
         };
-        step(&mut tasks, machine, task)?;
+        step(tasks, machine, task)?;
     }
     Err(Memory)
 }
@@ -56,13 +72,13 @@ fn step<'a>(tasks: &mut Tasks<'a>, machine: &mut Machine<'a>, task: Task<'a>) ->
         Task::Choose(yes, no) => choose(tasks, machine, yes, no),
         Task::DelayThenTarget { event, args, to } => {
             let delay = machine.value.value;
-            tasks.push(Task::Last(Act::SendTo { event, args, delay }))?;
-            evaluate(tasks, machine, to)
+            let act = Act::SendTo { event, args, delay };
+            evaluate_then(tasks, machine, to, Task::Last(act))
         }
         Task::TargetThenDelay { event, args, delay } => {
             let to = Target::At(machine.value.value);
-            tasks.push(Task::Last(Act::SendAfter { event, args, to }))?;
-            evaluate(tasks, machine, delay)
+            let act = Act::SendAfter { event, args, to };
+            evaluate_then(tasks, machine, delay, Task::Last(act))
         }
         Task::Last(last) => {
             end(machine, last)?;
@@ -111,11 +127,8 @@ fn choose<'a>(
 ) -> Result<(), Memory>
     ensures { Leads (after_all tasks.old (ran (if nat_eq machine.old.value.value 0 then no.now else yes.now) machine.old)) machine.old.run.start tasks.new machine.new result }
 {
-    if machine.value.value == 0 {
-        block(tasks, machine, no)
-    } else {
-        block(tasks, machine, yes)
-    }
+    let stmts = select_branch(machine.value, yes, no);
+    block(tasks, machine, stmts)
 }
 
 /// Runs a block.
@@ -169,17 +182,11 @@ fn statement<'a>(
     ensures { Leads (after_all tasks.old (done (effect_of stmt.now) machine.old)) machine.old.run.start tasks.new machine.new result }
 {
     match stmt {
-        Stmt::Assign(i, e) => {
-            tasks.push(Task::Last(Act::Assign(*i)))?;
-            evaluate(tasks, machine, e)
-        }
-        Stmt::Drop(e) => {
-            tasks.push(Task::Last(Act::Drop))?;
-            evaluate(tasks, machine, e)
-        }
+        Stmt::Assign(i, e) => evaluate_then(tasks, machine, e, Task::Last(Act::Assign(*i))),
+        Stmt::Drop(e) => evaluate_then(tasks, machine, e, Task::Last(Act::Drop)),
         Stmt::If(e, yes, no) => {
-            tasks.push(Task::Choose(yes.as_slice(), no.as_slice()))?;
-            evaluate(tasks, machine, e)
+            let task = Task::Choose(yes.as_slice(), no.as_slice());
+            evaluate_then(tasks, machine, e, task)
         }
         Stmt::Gen {
             event,
@@ -187,28 +194,28 @@ fn statement<'a>(
             delay,
             to,
             delay_first,
-        } => {
-            let purpose = Purpose::Gen {
-                event: *event,
-                delay,
-                to,
-                delay_first: *delay_first,
-            };
-            list(tasks, machine, args.as_slice(), 0, &purpose)
-        }
+        } => begin_event(
+            tasks,
+            machine,
+            *event,
+            args.as_slice(),
+            delay,
+            to,
+            *delay_first,
+        ),
         Stmt::Multi {
             event,
             args,
             delay,
             members,
-        } => {
-            let purpose = Purpose::Multi {
-                event: *event,
-                delay,
-                members: members.as_slice(),
-            };
-            list(tasks, machine, args.as_slice(), 0, &purpose)
-        }
+        } => begin_copies(
+            tasks,
+            machine,
+            *event,
+            args.as_slice(),
+            delay,
+            members.as_slice(),
+        ),
         Stmt::Say { form, args } => {
             let purpose = Purpose::Say(*form);
             list(tasks, machine, args.as_slice(), 0, &purpose)
@@ -217,9 +224,46 @@ fn statement<'a>(
             machine.value = nothing();
             Ok(())
         }
-        Stmt::Return(Some(e)) => {
-            tasks.push(Task::Last(Act::Answer))?;
-            evaluate(tasks, machine, e)
-        }
+        Stmt::Return(Some(e)) => evaluate_then(tasks, machine, e, Task::Last(Act::Answer)),
     }
+}
+
+/// Begins an event for one switch: its arguments.
+fn begin_event<'a>(
+    tasks: &mut Tasks<'a>,
+    machine: &mut Machine<'a>,
+    event: u32,
+    args: &'a [Expr],
+    delay: &'a Option<Expr>,
+    to: &'a Option<Expr>,
+    delay_first: bool,
+) -> Result<(), Memory>
+    ensures { Leads (after_all tasks.old (listed [] args.now (Gen event delay.entry to.entry delay_first) machine.old)) machine.old.run.start tasks.new machine.new result }
+{
+    let purpose = Purpose::Gen {
+        event,
+        delay,
+        to,
+        delay_first,
+    };
+    list(tasks, machine, args, 0, &purpose)
+}
+
+/// Begins an event for several switches: its arguments.
+fn begin_copies<'a>(
+    tasks: &mut Tasks<'a>,
+    machine: &mut Machine<'a>,
+    event: u32,
+    args: &'a [Expr],
+    delay: &'a Option<Expr>,
+    members: &'a [u32],
+) -> Result<(), Memory>
+    ensures { Leads (after_all tasks.old (listed [] args.now (Multi event delay.entry members.entry) machine.old)) machine.old.run.start tasks.new machine.new result }
+{
+    let purpose = Purpose::Multi {
+        event,
+        delay,
+        members,
+    };
+    list(tasks, machine, args, 0, &purpose)
 }

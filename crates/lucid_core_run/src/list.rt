@@ -9,9 +9,10 @@ ghost use Rattle.lucid_core_run.specs.Interpret.{Leads, after_all, generated_wit
 use crate::acts::{array_at, send, send_event, send_to_each};
 use crate::at_once::{append_given, append_values, delay_at_once, target_at_once, values_at_once};
 use crate::draft::Draft;
-use crate::evaluate::evaluate;
+use crate::evaluate::evaluate_then;
 use crate::machine::Machine;
 use crate::operate::{hashed, nothing};
+use crate::run::Run;
 use crate::task::{Act, Purpose, Task};
 use crate::tasks::Tasks;
 use lucid_base::{ArrayName, Bits, Items, Memory, Target, Width};
@@ -55,12 +56,12 @@ pub fn next<'a>(
     match rest.split_first() {
         None => complete(tasks, machine, values, purpose),
         Some((e, rest)) => {
-            tasks.push(Task::Next {
+            let task = Task::Next {
                 done: values,
                 rest,
                 purpose: same(purpose),
-            })?;
-            evaluate(tasks, machine, e)
+            };
+            evaluate_then(tasks, machine, e, task)
         }
     }
 }
@@ -166,11 +167,7 @@ fn call<'a>(
             let caller = machine.run.enter(locals);
             let arrays = mem::replace(&mut machine.arrays, arrays);
             machine.funs = before;
-            tasks.push(Task::Last(Act::Leave {
-                caller,
-                arrays,
-                funs,
-            }))?;
+            tasks.push(Task::Last(Act::Leave(caller, arrays, funs)))?;
             tasks.push(Task::Block(f.body.as_slice()))?;
             Ok(())
         }
@@ -219,21 +216,21 @@ fn generate_later<'a>(
         }
         (Some(delay), None) => {
             let to = Target::Here;
-            tasks.push(Task::Last(Act::SendAfter { event, args, to }))?;
-            evaluate(tasks, machine, delay)
+            let act = Act::SendAfter { event, args, to };
+            evaluate_then(tasks, machine, delay, Task::Last(act))
         }
         (None, Some(to)) => {
             let delay = 0;
-            tasks.push(Task::Last(Act::SendTo { event, args, delay }))?;
-            evaluate(tasks, machine, to)
+            let act = Act::SendTo { event, args, delay };
+            evaluate_then(tasks, machine, to, Task::Last(act))
         }
         (Some(delay), Some(to)) => {
             if delay_first {
-                tasks.push(Task::DelayThenTarget { event, args, to })?;
-                evaluate(tasks, machine, delay)
+                let task = Task::DelayThenTarget { event, args, to };
+                evaluate_then(tasks, machine, delay, task)
             } else {
-                tasks.push(Task::TargetThenDelay { event, args, delay })?;
-                evaluate(tasks, machine, to)
+                let task = Task::TargetThenDelay { event, args, delay };
+                evaluate_then(tasks, machine, to, task)
             }
         }
     }
@@ -256,12 +253,12 @@ fn generate_for_all<'a>(
             Ok(())
         }
         Some(delay) => {
-            tasks.push(Task::Last(Act::SendEach {
+            let act = Act::SendEach {
                 event,
                 args,
                 members,
-            }))?;
-            evaluate(tasks, machine, delay)
+            };
+            evaluate_then(tasks, machine, delay, Task::Last(act))
         }
     }
 }
@@ -294,17 +291,18 @@ pub fn next_given<'a>(
     match rest.split_first() {
         None => enter_inlined(tasks, machine, held, stmts),
         Some((first, rest)) => {
-            tasks.push(Task::Given {
+            let task = Task::Given {
                 held,
                 local: first.0,
                 rest,
                 stmts,
-            })?;
-            evaluate(tasks, machine, &first.1)
+            };
+            evaluate_then(tasks, machine, &first.1, task)
         }
     }
 }
 
+/// Enters an inlined call whose arguments are evaluated.
 fn enter_inlined<'a>(
     tasks: &mut Tasks<'a>,
     machine: &mut Machine<'a>,
@@ -313,9 +311,9 @@ fn enter_inlined<'a>(
 ) -> Result<(), Memory>
     ensures { Leads (after_all tasks.old (inlined held [] stmts.now machine.old)) machine.old.run.start tasks.new machine.new result }
 {
-    let mut locals = machine.run.copy_locals(machine.alloc)?;
-    hold(&mut locals, held.as_slice());
-    let caller = machine.run.enter(locals);
+    let locals = copy_bound(machine.alloc, &machine.run, held.as_slice());
+    drop(held);
+    let caller = machine.run.enter(locals?);
     tasks.push(Task::Last(Act::LeaveInlined(caller)))?;
     tasks.push(Task::Block(stmts))?;
     Ok(())
@@ -349,6 +347,15 @@ fn arrays_at(alloc: Global, arrays: &[u32], names: &[ArrayName]) -> Result<Items
         numbers.push(array_at(arrays, *name))?;
     }
     Ok(numbers)
+}
+
+/// Returns a copy of a run's locals in which these are bound.
+fn copy_bound(alloc: Global, run: &Run, held: &[(u32, Bits)]) -> Result<Items<Bits>, Memory>
+    ensures { IfOk result (λ locals. locals ≡ holding run.now.state.locals held.now) }
+{
+    let mut locals = run.copy_locals(alloc)?;
+    hold(&mut locals, held);
+    Ok(locals)
 }
 
 /// Binds each of these locals to its value.

@@ -5,7 +5,7 @@ use lucid_core::FunDef;
 use std::alloc::Global;
 
 /// The tick at which an event enters, and the number of its switch.
-#[derive(Clone, Copy, Debug, PartialEq, Eq)]
+#[derive(Clone, Copy)]
 pub struct Moment {
     pub now: u64,
     pub me: u32,

@@ -65,23 +65,24 @@ impl Run {
         }
     }
 
-    /// Returns the cells as they are now, and the lists for the next run.
-    pub fn finish(self) -> (Cells, Scratch)
-        ensures { result.0 ≡ self.state.cells }
+    /// Stores the cells as they are now, and keeps the lists for the next run.
+    pub fn finish(self, cells: &mut Cells, scratch: &mut Scratch)
+        ensures { cells.new ≡ self.state.cells }
     {
         let Run {
-            cells,
+            cells: after,
             writes,
             outs,
             locals,
             answer: _,
         } = self;
-        let scratch = Scratch {
+        let lists = Scratch {
             locals,
             writes,
             outs,
         };
-        (cells, scratch)
+        drop(mem::replace(cells, after));
+        drop(mem::replace(scratch, lists));
     }
 
     /// Copies the outs to the caller's empty `outs`. In a valid core they are at most 8, of at most 8 numbers each.
@@ -96,18 +97,20 @@ impl Run {
         }
     }
 
-    /// Returns the cells that the run began with.
-    pub fn undo(self) -> Cells
-        ensures { result ≡ self.start }
+    /// Stores the cells that the run began with.
+    pub fn undo(self, cells: &mut Cells)
+        ensures { cells.new ≡ self.start }
     {
         let Run {
-            cells,
+            cells: written,
             writes,
-            outs: _,
-            locals: _,
+            outs,
+            locals,
             answer: _,
         } = self;
-        rewind(cells, writes)
+        drop(outs);
+        drop(locals);
+        drop(mem::replace(cells, rewind(written, writes)));
     }
 
     pub fn local(&self, i: u32) -> Bits

@@ -5,6 +5,7 @@ use crate::draft::Draft;
 use crate::run::Write;
 use lucid_base::{Bits, Items};
 use std::alloc::Global;
+use std::mem;
 
 /// Scratch lists for the locals of a handler, for the cells that it writes and for its outs. A caller that runs many events keeps one.
 /// Each run begins by clearing them.
@@ -29,24 +30,27 @@ impl Scratch {
         }
     }
 
-    /// Returns the lists emptied, with their memory.
-    pub(crate) fn emptied(self) -> Scratch
-        ensures locals { result.locals ≡ [] }
-        ensures writes { result.writes.items ≡ [] }
-        ensures outs { result.outs.items ≡ [] }
+    /// Takes the list of locals, emptied, with its memory.
+    pub(crate) fn take_locals(&mut self, alloc: Global) -> Items<Bits>
+        ensures { result ≡ [] }
     {
-        let Scratch {
-            locals,
-            mut writes,
-            mut outs,
-        } = self;
-        writes.clear();
-        outs.clear();
-        Scratch {
-            locals: without_items(locals),
-            writes,
-            outs,
-        }
+        without_items(mem::replace(&mut self.locals, Items::new(alloc)))
+    }
+
+    /// Takes the list of writes, emptied, with its memory.
+    pub(crate) fn take_writes(&mut self, alloc: Global) -> Vec<Write>
+        ensures { result.items ≡ [] }
+    {
+        self.writes.clear();
+        mem::replace(&mut self.writes, Vec::new(alloc))
+    }
+
+    /// Takes the list of outs, emptied, with its memory.
+    pub(crate) fn take_outs(&mut self, alloc: Global) -> Vec<Draft>
+        ensures { result.items ≡ [] }
+    {
+        self.outs.clear();
+        mem::replace(&mut self.outs, Vec::new(alloc))
     }
 }
 

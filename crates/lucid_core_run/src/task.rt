@@ -61,11 +61,7 @@ pub enum Act<'a> {
     /// Ends an inlined call.
     LeaveInlined(Caller),
     /// Ends a call. The caller's arrays and functions are in force again.
-    Leave {
-        caller: Caller,
-        arrays: Items<u32>,
-        funs: &'a [FunDef],
-    },
+    Leave(Caller, Items<u32>, &'a [FunDef]),
     Assign(u32),
     /// Drops the value.
     Drop,

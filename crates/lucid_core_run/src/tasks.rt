@@ -40,8 +40,13 @@ impl<'a> Tasks<'a> {
     pub fn push(&mut self, task: Task<'a>) -> Result<(), Memory>
         ensures { OnOk result (self.new ≡ task.entry ∷ self.old) }
     {
-        self.items.push(task)?;
-        Ok(())
+        match self.items.push(task) {
+            Ok(()) => Ok(()),
+            Err(failed) => {
+                drop(failed);
+                Err(Memory)
+            }
+        }
     }
 
     #[tactic(auto, using(crate::proofs::TasksLemmas::reverse_push))]

@@ -3,7 +3,8 @@ ghost use Rattle.std.specs.Prelude.{◌≡◌, ◌≤◌, [], All, IfOk, IsTrue,
 ghost use Rattle.std.specs.Option.{option_map};
 ghost use Rattle.lucid_core.specs.Fits.{carried, cells_fit, out_fits};
 ghost use Rattle.lucid_core_run.specs.Interpret.{ran};
-ghost use Rattle.lucid_core.specs.Step.{handled, handler_of as handler_in, step, taken_at};
+ghost use Rattle.lucid_core.specs.Computations.{begun_with};
+ghost use Rattle.lucid_core.specs.Step.{handled, handler_of as handler_in, started, step, taken_at};
 
 use crate::interpret::run_body;
 use crate::law;
@@ -35,7 +36,9 @@ pub fn run_whole(
 {
     let mut scratch = Scratch::new(alloc);
     let mut outs = Outs::new();
-    run_into(alloc, core, cells, now, me, event, &mut scratch, &mut outs)?;
+    let ended = run_into(alloc, core, cells, now, me, event, &mut scratch, &mut outs);
+    drop(scratch);
+    ended?;
     Ok(outs)
 }
 
@@ -105,19 +108,7 @@ fn handle<'a>(
     ensures cells { OnOk result (cells.new ≡ (handled (Some handler.now) core.now cells.old moment.now moment.me args.now).after.cells) }
     ensures unchanged { OnErr result (cells.new ≡ cells.old) }
 {
-    let widths = handler.locals.as_slice();
-    let Scratch {
-        locals,
-        writes,
-        outs: drafts,
-    } = mem::replace(scratch, Scratch::new(alloc)).emptied();
-    let locals = with_zeros(taken(locals, widths, args)?, widths)?;
-    let run = Run::begin(
-        mem::replace(cells, Cells::none(alloc)),
-        locals,
-        writes,
-        drafts,
-    );
+    let run = begin_run(alloc, cells, handler.locals.as_slice(), args, scratch)?;
     let mut machine = Machine {
         alloc,
         moment,
@@ -128,16 +119,35 @@ fn handle<'a>(
     };
     match run_into_outs(&mut machine, handler.body.as_slice(), outs) {
         Ok(()) => {
-            let (after, used) = run_of(machine).finish();
-            *cells = after;
-            *scratch = used;
+            run_of(machine).finish(cells, scratch);
             Ok(())
         }
         Err(error) => {
-            *cells = run_of(machine).undo();
+            run_of(machine).undo(cells);
             Err(error)
         }
     }
+}
+
+/// Begins a run of the cells, on the lists of `scratch`.
+#[inline(always)]
+fn begin_run(
+    alloc: Global,
+    cells: &mut Cells,
+    widths: &[Width],
+    args: &[u64],
+    scratch: &mut Scratch,
+) -> Result<Run, Memory>
+    ensures state { IfOk result (λ run. run.state ≡ started cells.old (begun_with (taken_at widths.now args.now) widths.now)) }
+    ensures start { IfOk result (λ run. run.start ≡ cells.old) }
+    ensures unchanged { OnErr result (cells.new ≡ cells.old) }
+{
+    let values = taken(scratch.take_locals(alloc), widths, args)?;
+    let locals = with_zeros(values, widths)?;
+    let writes = scratch.take_writes(alloc);
+    let outs = scratch.take_outs(alloc);
+    let cells = mem::replace(cells, Cells::none(alloc));
+    Ok(Run::begin(cells, locals, writes, outs))
 }
 
 /// Runs a handler's body and fills the empty `outs`.
@@ -165,11 +175,12 @@ fn run_of(machine: Machine) -> Run
     let Machine {
         alloc: _,
         moment: _,
-        arrays: _,
+        arrays,
         funs: _,
         run,
         value: _,
     } = machine;
+    drop(arrays);
     run
 }
 

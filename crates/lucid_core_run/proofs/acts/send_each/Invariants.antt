@@ -6,5 +6,9 @@ use Rattle.lucid_core_run.proofs.acts.send_each.Given as goal
 
 abbrev pub invariant-loop-member : goal.invariant-loop-member
 invariant-loop-member l =
-    with_state l.run (record l.run.state { outs = l.run.state.outs ++ map (generated l.event l.fn.values l.delay) (map At (drop l.member-index l.members)) })
-    ≡ with_state l.fn.run (record l.fn.run.state { outs = l.fn.run.state.outs ++ map (generated l.event l.fn.values l.delay) (map At l.members) })
+    with_state l.run (record l.run.state {
+      outs = l.run.state.outs ++ map (generated l.event l.values l.delay) (map At (drop l.member-index l.members));
+    })
+    ≡ with_state l.fn.run (record l.fn.run.state {
+      outs = l.fn.run.state.outs ++ map (generated l.event l.values l.delay) (map At l.members);
+    })

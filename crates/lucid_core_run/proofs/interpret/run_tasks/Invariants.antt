@@ -1,6 +1,6 @@
 use Rattle.std.proofs.Common.{◌≡◌}
 use Rattle.lucid_core_run.specs.Interpret.{after_all, ran}
-use Rattle.lucid_core_run.proofs.interpret.run_body.Given as goal
+use Rattle.lucid_core_run.proofs.interpret.run_tasks.Given as goal
 
 abbrev pub invariant-loop : goal.invariant-loop
 invariant-loop l = record {
