@@ -142,10 +142,9 @@ fn block<'a>(
     let (inner, outer) = run_block(machine, stmts)?;
     match inner.split_first() {
         None => begin_block(tasks, machine, outer),
-        Some((stmt, rest)) => {
+        Some(_) => {
             tasks.push(Task::Block(outer))?;
-            tasks.push(Task::Block(rest))?;
-            statement(tasks, machine, stmt)
+            begin_block(tasks, machine, inner)
         }
     }
 }
@@ -194,28 +193,13 @@ fn statement<'a>(
             delay,
             to,
             delay_first,
-        } => begin_event(
-            tasks,
-            machine,
-            *event,
-            args.as_slice(),
-            delay,
-            to,
-            *delay_first,
-        ),
+        } => begin_event(tasks, machine, *event, args, delay, to, *delay_first),
         Stmt::Multi {
             event,
             args,
             delay,
             members,
-        } => begin_copies(
-            tasks,
-            machine,
-            *event,
-            args.as_slice(),
-            delay,
-            members.as_slice(),
-        ),
+        } => begin_copies(tasks, machine, *event, args, delay, members.as_slice()),
         Stmt::Say { form, args } => {
             let purpose = Purpose::Say(*form);
             list(tasks, machine, args.as_slice(), 0, &purpose)
@@ -228,12 +212,12 @@ fn statement<'a>(
     }
 }
 
-/// Begins an event for one switch: its arguments.
+/// Begins to send an event to one switch: evaluates its arguments.
 fn begin_event<'a>(
     tasks: &mut Tasks<'a>,
     machine: &mut Machine<'a>,
     event: u32,
-    args: &'a [Expr],
+    args: &'a Items<Expr>,
     delay: &'a Option<Expr>,
     to: &'a Option<Expr>,
     delay_first: bool,
@@ -246,15 +230,15 @@ fn begin_event<'a>(
         to,
         delay_first,
     };
-    list(tasks, machine, args, 0, &purpose)
+    list(tasks, machine, args.as_slice(), 0, &purpose)
 }
 
-/// Begins an event for several switches: its arguments.
+/// Begins to send an event to several switches: evaluates its arguments.
 fn begin_copies<'a>(
     tasks: &mut Tasks<'a>,
     machine: &mut Machine<'a>,
     event: u32,
-    args: &'a [Expr],
+    args: &'a Items<Expr>,
     delay: &'a Option<Expr>,
     members: &'a [u32],
 ) -> Result<(), Memory>
@@ -265,5 +249,5 @@ fn begin_copies<'a>(
         delay,
         members,
     };
-    list(tasks, machine, args, 0, &purpose)
+    list(tasks, machine, args.as_slice(), 0, &purpose)
 }
