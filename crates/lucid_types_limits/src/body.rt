@@ -39,7 +39,6 @@ fn each(funs: &[u64], ss: &[Stmt]) -> Tally
 }
 
 #[cycle(body)]
-#[tactic(auto, using(crate::proofs::Forms::assign_is, crate::proofs::Forms::drop_is, crate::proofs::Forms::gen_is, crate::proofs::Forms::multi_is, crate::proofs::Forms::say_is))]
 fn stmt(funs: &[u64], s: &Stmt) -> Tally
     ensures { result ≡ tally (stmt_outs s.now funs.now) (stmt_few s.now) }
 {
@@ -76,7 +75,7 @@ fn stmt(funs: &[u64], s: &Stmt) -> Tally
 }
 
 #[cycle(body)]
-#[tactic(auto, using(crate::proofs::Forms::un_is, crate::proofs::Forms::cast_is, crate::proofs::Forms::bin_is, crate::proofs::Forms::cmp_is, crate::proofs::Forms::array_is, crate::proofs::Forms::call_is, crate::proofs::Forms::inlined_is))]
+#[tactic(auto, using(crate::proofs::Forms::array_is))]
 fn expr(funs: &[u64], e: &Expr) -> Tally
     ensures { result ≡ tally (expr_outs e.now funs.now) (expr_few e.now) }
 {
