@@ -1,6 +1,6 @@
 // Operands that are replaced by the sources of their moves.
-ghost use Rattle.std.specs.Prelude.{◌≡◌, Option, None, map, slice_get, slice_index, IfOk};
-ghost use Rattle.std.specs.Option.{option_map, option_and_then};
+ghost use Rattle.std.specs.Prelude.{◌≡◌, Option, None, slice_get, slice_index, IfOk};
+ghost use Rattle.std.specs.Option.{option_and_then};
 ghost use Rattle.lucid_base.specs.Ops.{low_of};
 ghost use Rattle.lucid_code.specs.Uses.{with_operands};
 ghost use Rattle.lucid_pass_spec.specs.Looks.{seen, moved, moved_from, looked};
@@ -9,8 +9,8 @@ ghost use Rattle.lucid_pass_rewrites.specs.Writers.{Tells};
 
 use crate::guards::includes;
 use crate::writers::{Writer, who_writes};
-use lucid_base::{Bits, Items, Memory, Width};
-use lucid_code::{Act, Literal, Op, Operand};
+use lucid_base::{Bits, Memory, Width};
+use lucid_code::{Act, Literal, Op, Operand, Rename};
 use std::alloc::Global;
 
 /// The replacement: a field that is no wider, or the number of the field.
@@ -30,7 +30,33 @@ pub(crate) struct Now<'a> {
     pub(crate) ops: &'a [Op],
 }
 
+/// A reader of operands, by its guard.
+#[derive(Clone, Copy)]
+struct Reader<'a> {
+    now: Now<'a>,
+    guard: &'a [Literal],
+    ghost tells: { Tells (standing now.done.now now.ops.now) now.writers.now },
+}
+
+impl Rename for Reader<'_> {
+    ghost use Rattle.lucid_pass_spec.specs.Looks.{looked};
+    ghost use Rattle.lucid_pass_rewrites.specs.Changed.{put_of, standing};
+
+    ghost operand_of = { λ r. looked (put_of r.now.looks r.now.widths.now) (standing r.now.done.now r.now.ops.now) r.guard.now };
+
+    ghost field_of = { λ _ k. k };
+
+    fn rename(&self, operand: Operand) -> Operand {
+        looked(self.now, self.guard, operand)
+    }
+
+    fn rename_field(&self, field: u32) -> u32 {
+        field
+    }
+}
+
 /// Returns the act with other operands, for a reader with this guard.
+#[tactic(auto, using(lucid_code::proofs::RenameLemmas::keeps_field))]
 pub(crate) fn looked_act(
     alloc: Global,
     now: Now,
@@ -40,87 +66,7 @@ pub(crate) fn looked_act(
     requires { Tells (standing now.done.now now.ops.now) now.writers.now }
     ensures { IfOk result (λ new. new ≡ with_operands (looked (put_of now.entry.looks now.entry.widths.now) (standing now.entry.done.now now.entry.ops.now) guard.now) act.now) }
 {
-    match act {
-        Act::Un(op, w, a, k) => Ok(Act::Un(*op, *w, looked(now, guard, *a), *k)),
-        Act::Bin(op, w, a, b, k) => Ok(Act::Bin(
-            *op,
-            *w,
-            looked(now, guard, *a),
-            looked(now, guard, *b),
-            *k,
-        )),
-        Act::Cmp(op, w, a, b, k) => Ok(Act::Cmp(
-            *op,
-            *w,
-            looked(now, guard, *a),
-            looked(now, guard, *b),
-            *k,
-        )),
-        Act::Cast(a, k) => Ok(Act::Cast(looked(now, guard, *a), *k)),
-        Act::Hash(xs, k) => Ok(Act::Hash(looked_all(alloc, now, guard, xs.as_slice())?, *k)),
-        Act::Move(a, k) => Ok(Act::Move(looked(now, guard, *a), *k)),
-        Act::Touch {
-            array,
-            index,
-            get,
-            get_arg,
-            set,
-            set_arg,
-            to,
-        } => Ok(Act::Touch {
-            array: *array,
-            index: looked(now, guard, *index),
-            get: *get,
-            get_arg: looked(now, guard, *get_arg),
-            set: *set,
-            set_arg: looked(now, guard, *set_arg),
-            to: *to,
-        }),
-        Act::Gen {
-            slot,
-            event,
-            args,
-            delay,
-            to,
-        } => Ok(Act::Gen {
-            slot: *slot,
-            event: *event,
-            args: looked_all(alloc, now, guard, args.as_slice())?,
-            delay: looked(now, guard, *delay),
-            to: looked_option(now, guard, *to),
-        }),
-        Act::Say { slot, form, args } => Ok(Act::Say {
-            slot: *slot,
-            form: *form,
-            args: looked_all(alloc, now, guard, args.as_slice())?,
-        }),
-    }
-}
-
-fn looked_all(
-    alloc: Global,
-    now: Now,
-    guard: &[Literal],
-    operands: &[Operand],
-) -> Result<Items<Operand>, Memory>
-    requires { Tells (standing now.done.now now.ops.now) now.writers.now }
-    ensures { IfOk result (λ new. new ≡ map (looked (put_of now.entry.looks now.entry.widths.now) (standing now.entry.done.now now.entry.ops.now) guard.now) operands.now) }
-{
-    let mut new = Items::new(alloc);
-    for operand in operands {
-        new.push(looked(now, guard, *operand))?;
-    }
-    Ok(new)
-}
-
-fn looked_option(now: Now, guard: &[Literal], operand: Option<Operand>) -> Option<Operand>
-    requires { Tells (standing now.done.now now.ops.now) now.writers.now }
-    ensures { result ≡ option_map (looked (put_of now.entry.looks now.entry.widths.now) (standing now.entry.done.now now.entry.ops.now) guard.now) operand }
-{
-    match operand {
-        None => None,
-        Some(a) => Some(looked(now, guard, a)),
-    }
+    act.map(alloc, &Reader { now, guard })
 }
 
 fn looked(now: Now, guard: &[Literal], operand: Operand) -> Operand
