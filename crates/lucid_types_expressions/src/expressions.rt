@@ -2,7 +2,7 @@
 ghost use Rattle.std.specs.Prelude.{◌≡◌, map};
 ghost use Rattle.lucid_types_spec.specs.Operators.{arithmetic, comparison, logic};
 ghost use Rattle.lucid_types_spec.specs.Types.{stated};
-ghost use Rattle.lucid_types_laws.specs.Reading.{all_free, called, cast_core, core_of, free, given_all, hash_core, infix_core, prefix_core, reading, reading_call, touch_of};
+ghost use Rattle.lucid_types_laws.specs.Reading.{all_free, binary, called, cast_core, compared, core_of, free, given_all, hash_core, infix_core, prefix_core, reading, reading_call, touch_of};
 ghost use Rattle.lucid_types_expressions.specs.Forms.{called_value, get_of, getm_of, set_of, setm_of, shift_core, touched_value, update_of};
 ghost use Rattle.lucid_types_expressions.specs.Gives.{Gives};
 
@@ -10,7 +10,7 @@ use crate::array::{named_array, returning, touching, zero};
 use crate::lead::{free_width, shared_width};
 use crate::operator::{arithmetic, comparison, is_int, logic, stated};
 use crate::{Fault, names, node};
-use lucid_base::{Boxed, Id, Items, MemArg, UnOp, Width};
+use lucid_base::{BinOp, Boxed, CmpOp, Id, Items, MemArg, UnOp, Width};
 use lucid_core::{Expr, Touch};
 use lucid_parse_tree::{A, E, Infix, Pre};
 use lucid_types_laws::Arguments;
@@ -136,9 +136,7 @@ fn infix(
             if !is_int(t) {
                 return Err(Fault::NoRule);
             }
-            let c = expression(alloc, scope, t, x)?;
-            let d = expression(alloc, scope, t, y)?;
-            Ok(Expr::Bin(op, Boxed::new(alloc, c)?, Boxed::new(alloc, d)?))
+            binary(alloc, scope, op, x, y, &t)
         }
         None => match comparison(sign) {
             Some(op) => {
@@ -148,9 +146,8 @@ fn infix(
                 match Width::new(shared_width(scope, x, y)) {
                     None => Err(Fault::NoRule),
                     Some(w) => {
-                        let c = expression(alloc, scope, ValueType::Int(w), x)?;
-                        let d = expression(alloc, scope, ValueType::Int(w), y)?;
-                        Ok(Expr::Cmp(op, Boxed::new(alloc, c)?, Boxed::new(alloc, d)?))
+                        let t = ValueType::Int(w);
+                        compared(alloc, scope, op, x, y, &t)
                     }
                 }
             }
@@ -160,13 +157,57 @@ fn infix(
                     if is_int(t) {
                         return Err(Fault::NoRule);
                     }
-                    let c = expression(alloc, scope, t, x)?;
-                    let d = expression(alloc, scope, t, y)?;
-                    Ok(Expr::Bin(op, Boxed::new(alloc, c)?, Boxed::new(alloc, d)?))
+                    binary(alloc, scope, op, x, y, &t)
                 }
             },
         },
     }
+}
+
+/// An operation on two operands of this type.
+#[cycle(expression)]
+fn binary(
+    alloc: Global,
+    scope: &Scope,
+    op: BinOp,
+    x: &E,
+    y: &E,
+    t: &ValueType,
+) -> Result<Expr, Fault>
+    ensures { Gives result (binary op (core_of x.now scope.now t.now) (core_of y.now scope.now t.now)) }
+{
+    let c = expression(alloc, scope, *t, x)?;
+    let d = match expression(alloc, scope, *t, y) {
+        Ok(d) => d,
+        Err(fault) => {
+            drop(c);
+            return Err(fault);
+        }
+    };
+    node::binary(alloc, op, c, d)
+}
+
+/// A comparison of two operands of this type.
+#[cycle(expression)]
+fn compared(
+    alloc: Global,
+    scope: &Scope,
+    op: CmpOp,
+    x: &E,
+    y: &E,
+    t: &ValueType,
+) -> Result<Expr, Fault>
+    ensures { Gives result (compared op (core_of x.now scope.now t.now) (core_of y.now scope.now t.now)) }
+{
+    let c = expression(alloc, scope, *t, x)?;
+    let d = match expression(alloc, scope, *t, y) {
+        Ok(d) => d,
+        Err(fault) => {
+            drop(c);
+            return Err(fault);
+        }
+    };
+    node::compared(alloc, op, c, d)
 }
 
 /// The core of the expression at a free place.
@@ -232,7 +273,13 @@ fn set(alloc: Global, scope: &Scope, n: &Id, i: &E, x: &E) -> Result<(Option<Wid
 {
     let (a, w) = names::array(scope, n)?;
     let j = free(alloc, scope, i)?;
-    let c = expression(alloc, scope, ValueType::Int(w), x)?;
+    let c = match expression(alloc, scope, ValueType::Int(w), x) {
+        Ok(c) => c,
+        Err(fault) => {
+            drop(j);
+            return Err(fault);
+        }
+    };
     Ok((
         None,
         touching(
@@ -260,8 +307,20 @@ fn getm(
 {
     let (a, w) = names::array(scope, n)?;
     let j = free(alloc, scope, i)?;
-    let memop = names::memop(scope, w, m)?;
-    let c = expression(alloc, scope, ValueType::Int(w), x)?;
+    let memop = match names::memop(scope, w, m) {
+        Ok(memop) => memop,
+        Err(fault) => {
+            drop(j);
+            return Err(fault);
+        }
+    };
+    let c = match expression(alloc, scope, ValueType::Int(w), x) {
+        Ok(c) => c,
+        Err(fault) => {
+            drop(j);
+            return Err(fault);
+        }
+    };
     Ok((
         Some(w),
         touching(a, j, memop, c, returning(w, MemArg::Stored), zero(w), true),
@@ -281,8 +340,20 @@ fn setm(
 {
     let (a, w) = names::array(scope, n)?;
     let j = free(alloc, scope, i)?;
-    let memop = names::memop(scope, w, m)?;
-    let c = expression(alloc, scope, ValueType::Int(w), x)?;
+    let memop = match names::memop(scope, w, m) {
+        Ok(memop) => memop,
+        Err(fault) => {
+            drop(j);
+            return Err(fault);
+        }
+    };
+    let c = match expression(alloc, scope, ValueType::Int(w), x) {
+        Ok(c) => c,
+        Err(fault) => {
+            drop(j);
+            return Err(fault);
+        }
+    };
     Ok((
         None,
         touching(a, j, returning(w, MemArg::Stored), zero(w), memop, c, false),

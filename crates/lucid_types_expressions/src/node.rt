@@ -1,5 +1,6 @@
 // The last step of each form: the tests after its parts have cores, and the node. They are outside the cycle of expressions.
 ghost use Rattle.std.specs.Prelude.{◌≡◌, Some};
+ghost use Rattle.lucid_core.specs.declared.body.Expr.TheVariants as core;
 ghost use Rattle.lucid_types_spec.specs.Names.{seen};
 ghost use Rattle.lucid_types_laws.specs.Reading.{cast_core, hash_of, name_core, number_core, touch_value, value_of};
 ghost use Rattle.lucid_types_expressions.specs.Forms.{truth_core, word_core};
@@ -7,7 +8,7 @@ ghost use Rattle.lucid_types_expressions.specs.Gives.{Gives};
 
 use crate::Fault;
 use crate::operator::same_type;
-use lucid_base::{Bits, Boxed, Id, Items, Width};
+use lucid_base::{BinOp, Bits, Boxed, CmpOp, Id, Items, Width};
 use lucid_core::{Expr, Touch};
 use lucid_types_scope::Scope;
 use lucid_types_spec::{Entry, ValueType};
@@ -91,6 +92,24 @@ pub fn hashed(w: u64, cs: Items<Expr>, t: ValueType) -> Result<Expr, Fault>
             }
         }
     }
+}
+
+/// An operation on two operands.
+pub fn binary(alloc: Global, op: BinOp, c: Expr, d: Expr) -> Result<Expr, Fault>
+    ensures { Gives result (Some (core.Bin op c d)) }
+{
+    let c = Boxed::new(alloc, c);
+    let d = Boxed::new(alloc, d);
+    Ok(Expr::Bin(op, c?, d?))
+}
+
+/// A comparison of two operands.
+pub fn compared(alloc: Global, op: CmpOp, c: Expr, d: Expr) -> Result<Expr, Fault>
+    ensures { Gives result (Some (core.Cmp op c d)) }
+{
+    let c = Boxed::new(alloc, c);
+    let d = Boxed::new(alloc, d);
+    Ok(Expr::Cmp(op, c?, d?))
 }
 
 /// A cast to this width.

@@ -26,8 +26,14 @@ decreases-shift l = 4 * goal.size-shift l + 1
 abbrev pub decreases-touched_value : goal.decreases-touched_value
 decreases-touched_value l = 4 * goal.size-touched_value l + 1
 
+abbrev pub decreases-binary : goal.decreases-binary
+decreases-binary l = 4 * max (size-E l.x.now) (size-E l.y.now) + 1
+
+abbrev pub decreases-compared : goal.decreases-compared
+decreases-compared l = 4 * max (size-E l.x.now) (size-E l.y.now) + 1
+
 abbrev pub decreases-infix : goal.decreases-infix
-decreases-infix l = 4 * max (size-E l.x.now) (size-E l.y.now) + 1
+decreases-infix l = 4 * max (size-E l.x.now) (size-E l.y.now) + 2
 
 abbrev pub decreases-cast : goal.decreases-cast
 decreases-cast l = 4 * goal.size-cast l + 2
@@ -66,5 +72,7 @@ abbrev pub invariant-given-loop-x : goal.invariant-given-loop-x
 invariant-given-loop-x l = record {
   at : l.i ≡ l.x-index;
   within : l.i ≤ length l.params;
-  left : behind (record { names = l.arrays; values = l.values }) (given_all (drop l.i l.params) (map reading (drop l.x-index l.xs)) l.scope) ≡ given_all l.params (map reading l.xs) l.scope;
+  left : behind (record { names = l.arrays; values = l.values })
+      (given_all (drop l.i l.params) (map reading (drop l.x-index l.xs)) l.scope)
+      ≡ given_all l.params (map reading l.xs) l.scope;
 }
