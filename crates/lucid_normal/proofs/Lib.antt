@@ -1,2 +1,3 @@
+pub mod BodiesLemmas
 pub mod Fields
 pub mod Forms

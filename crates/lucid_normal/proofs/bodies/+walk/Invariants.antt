@@ -35,11 +35,21 @@ abbrev pub decreases-branch : goal.decreases-branch
 decreases-branch l = 4 * goal.size-branch l + 2
 
 abbrev pub decreases-delay_and_target : goal.decreases-delay_and_target
-decreases-delay_and_target l = 4 * max (goal.size-delay_and_target l) (goal.size-delay_and_target (record { the-lifetimes = l.the-lifetimes; context = l.context; work = l.work; env = l.env; after = l.to; to = l.after; delay_first = l.delay_first })) + 2
+decreases-delay_and_target l =
+    4 * max (goal.size-delay_and_target l) (goal.size-delay_and_target (record {
+      the-lifetimes = l.the-lifetimes;
+      context = l.context;
+      work = l.work;
+      env = l.env;
+      after = l.to;
+      to = l.after;
+      delay_first = l.delay_first;
+    })) + 2
 
 abbrev pub invariant-operands-loop-e : goal.invariant-operands-loop-e
 invariant-operands-loop-e l = record {
-  value : l.xs ++ operands (each_made (map expr_code (drop l.e-index l.es)) l.env).value ≡ operands (each_made (map expr_code l.es) l.fn.env).value;
+  value : l.xs ++ operands (each_made (map expr_code (drop l.e-index l.es)) l.env).value
+      ≡ operands (each_made (map expr_code l.es) l.fn.env).value;
   env : (each_made (map expr_code (drop l.e-index l.es)) l.env).env ≡ (each_made (map expr_code l.es) l.fn.env).env;
   ops : added l.context.guard.now l.work.ops.items (each_made (map expr_code (drop l.e-index l.es)) l.env).ops
       ≡ added l.context.guard.now l.fn.work.ops.items (each_made (map expr_code l.es) l.fn.env).ops;
