@@ -164,8 +164,9 @@ fn infix(
     }
 }
 
-/// An operation on two operands of this type.
+/// An operation on two operands of this type. It is not inlined, so that deep expressions take little stack.
 #[cycle(expression)]
+#[inline(never)]
 fn binary(
     alloc: Global,
     scope: &Scope,
@@ -187,8 +188,9 @@ fn binary(
     node::binary(alloc, op, c, d)
 }
 
-/// A comparison of two operands of this type.
+/// A comparison of two operands of this type. It is not inlined, as `binary`.
 #[cycle(expression)]
+#[inline(never)]
 fn compared(
     alloc: Global,
     scope: &Scope,
