@@ -1,9 +1,6 @@
--- Loops that take one turn after another, and recursion that goes one deeper.
+-- Loops that take one turn after another.
 use Rattle.std.proofs.Common.{◌≡◌, ℕ, suc, ◌+◌, ◌-◌, ◌<◌, sym, ap, ◌∙◌, arith}
 
 -- a fact before a turn holds after it
 pub one_more : {X : Type 0} {x : X} (f : ℕ → X) (n at : ℕ) → at < n → f (n - at) ≡ x → f (suc (n - (at + 1))) ≡ x
 one_more f n at below is = let turn : n - at ≡ suc (n - (at + 1)) = omega arith in sym (ap f turn) ∙ is
-
-pub deeper : {X : Type 0} (f : ℕ → X) (n : ℕ) → 0 < n → f n ≡ f (suc (n - 1))
-deeper f n above = let turn : n ≡ suc (n - 1) = omega arith in ap f turn

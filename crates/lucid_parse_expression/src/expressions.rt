@@ -1,9 +1,11 @@
 // Expressions, by how tightly their signs bind. `depth` bounds their nesting; if it is the number of the tokens, it never runs out, and
 // the limits on nesting, which are tried before, bound the recursion by far less.
+ghost use Rattle.std.specs.Prelude.{length};
 ghost use Rattle.lucid_parse_spec.specs.Reader.{separated};
+ghost use Rattle.lucid_parse_expression.specs.Nodes.{array_value};
 ghost use Rattle.lucid_parse_expression.specs.Reads.{Reads, Leaves};
 ghost use Rattle.lucid_parse_expression.specs.Tokens.{said};
-ghost use Rattle.lucid_parse_spec.specs.Operators.{disjunction};
+ghost use Rattle.lucid_parse_spec.specs.Operators.{disjunction, tightest};
 ghost use Rattle.lucid_parse_spec.specs.ReadExpression as spec;
 
 use crate::array::{array_method, array_of};
@@ -57,9 +59,9 @@ pub fn array_call(alloc: Global, tokens: Tokens) -> Result<(Boxed<A>, Tokens), S
     array_of(alloc, method, arguments(alloc, tokens.len(), rest)?)
 }
 
-/// An expression of at least this level.
+/// An expression of at least this level. Its parts that recurse are not inlined, so that deep expressions take little stack.
 #[cycle(expression)]
-#[tactic(auto, unfolding(lucid_parse_spec::specs::ReadExpression::expression_at, lucid_parse_spec::specs::ReadExpression::climb))]
+#[tactic(auto, unfolding(lucid_parse_spec::specs::ReadExpression::expression_at))]
 fn expression_at(
     alloc: Global,
     depth: usize,
@@ -71,13 +73,29 @@ fn expression_at(
     if depth == 0 {
         return Err(Stop::NoTree);
     }
-    let (mut left, mut rest) = operand(alloc, depth - 1, tokens)?;
+    let first = operand(alloc, depth - 1, tokens)?;
+    climb(alloc, depth - 1, least, first)
+}
+
+/// An operand with all operators that follow it and bind at least this tightly.
+#[cycle(expression)]
+#[inline(never)]
+#[tactic(auto, unfolding(lucid_parse_spec::specs::ReadExpression::climb))]
+fn climb<'a>(
+    alloc: Global,
+    depth: usize,
+    least: u8,
+    first: (E, Tokens<'a>),
+) -> Result<(E, Tokens<'a>), Stop>
+    ensures { Reads result (spec.climb (spec.expression_at depth) least (length (said first.entry.1)) tightest first.entry.0 (said first.entry.1)) }
+{
+    let (mut left, mut rest) = first;
     let mut tight = TIGHTEST;
     for _turn in 0..rest.len() {
         match next_within(least, tight, rest) {
             None => return Ok((left, rest)),
             Some((next, more)) => {
-                let (grown, after) = grown(alloc, depth - 1, left, next, more)?;
+                let (grown, after) = grown(alloc, depth, left, next, more)?;
                 tight = next.level();
                 left = grown;
                 rest = after;
@@ -89,6 +107,7 @@ fn expression_at(
 
 /// The left operand with the operators that follow it.
 #[cycle(expression)]
+#[inline(never)]
 fn grown(
     alloc: Global,
     depth: usize,
@@ -113,7 +132,8 @@ fn grown(
 }
 
 #[cycle(expression)]
-#[tactic(auto, unfolding(lucid_parse_spec::specs::ReadExpression::operand, lucid_parse_spec::specs::ReadExpression::array_call))]
+#[tactic(auto, unfolding(lucid_parse_spec::specs::ReadExpression::operand))]
+#[inline(never)]
 fn operand(alloc: Global, depth: usize, tokens: Tokens) -> Result<(E, Tokens), Stop>
     ensures { Reads result (spec.operand (spec.expression_at depth) (said tokens.entry)) }
 {
@@ -127,30 +147,55 @@ fn operand(alloc: Global, depth: usize, tokens: Tokens) -> Result<(E, Tokens), S
             let rest = expect_time(rest)?;
             Ok((E::Time, rest))
         }
-        Some((Lexeme::Word(Word::Hash), rest)) => {
-            let (width, rest) = hash_head(rest)?;
-            hash(width, arguments(alloc, depth, rest)?)
-        }
-        Some((Lexeme::Word(Word::ArrayCalls), rest)) => {
-            let (method, rest) = array_method(rest)?;
-            array(alloc, method, arguments(alloc, depth, rest)?)
-        }
+        Some((Lexeme::Word(Word::Hash), rest)) => hash_value(alloc, depth, rest),
+        Some((Lexeme::Word(Word::ArrayCalls), rest)) => array_value(alloc, depth, rest),
         Some((Lexeme::Sign(Sign::OpenParen), rest)) => in_parens(alloc, depth, rest),
-        Some((Lexeme::Sign(sign), rest)) => match pre_of(sign) {
-            Some(pre) => prefixed(
-                alloc,
-                pre,
-                expression_at(alloc, depth, unary_level(), rest)?,
-            ),
-            None => Err(Stop::NoTree),
-        },
+        Some((Lexeme::Sign(sign), rest)) => signed(alloc, depth, sign, rest),
         _ => Err(Stop::NoTree),
     }
+}
+
+/// A prefix sign with its operand, behind the sign.
+#[cycle(expression)]
+#[inline(never)]
+fn signed(alloc: Global, depth: usize, sign: Sign, tokens: Tokens) -> Result<(E, Tokens), Stop>
+    ensures { Reads result (spec.prefixed (spec.expression_at depth) (said tokens.entry) (spec.pre_of sign)) }
+{
+    match pre_of(sign) {
+        Some(pre) => prefixed(
+            alloc,
+            pre,
+            expression_at(alloc, depth, unary_level(), tokens)?,
+        ),
+        None => Err(Stop::NoTree),
+    }
+}
+
+/// A hash, behind its word.
+#[cycle(expression)]
+#[inline(never)]
+fn hash_value(alloc: Global, depth: usize, tokens: Tokens) -> Result<(E, Tokens), Stop>
+    ensures { Reads result (spec.hash (spec.expression_at depth) (said tokens.entry)) }
+{
+    let (width, rest) = hash_head(tokens)?;
+    hash(width, arguments(alloc, depth, rest)?)
+}
+
+/// A call of an array, behind `Array`.
+#[cycle(expression)]
+#[inline(never)]
+#[tactic(auto, unfolding(lucid_parse_spec::specs::ReadExpression::array_call))]
+fn array_value(alloc: Global, depth: usize, tokens: Tokens) -> Result<(E, Tokens), Stop>
+    ensures { Reads result (array_value (spec.expression_at depth) (said tokens.entry)) }
+{
+    let (method, rest) = array_method(tokens)?;
+    array(alloc, method, arguments(alloc, depth, rest)?)
 }
 
 /// An expression that begins with a name.
 #[cycle(expression)]
 #[tactic(auto, unfolding(lucid_parse_spec::specs::ReadExpression::named))]
+#[inline(never)]
 fn named<'a>(
     alloc: Global,
     depth: usize,
@@ -180,6 +225,7 @@ fn arguments(alloc: Global, depth: usize, tokens: Tokens) -> Result<(Items<E>, T
 /// Expressions with commas between them.
 #[cycle(expression)]
 #[tactic(auto, unfolding(lucid_parse_spec::specs::Reader::separated, lucid_parse_spec::specs::Reader::repeat))]
+#[inline(never)]
 fn expressions(alloc: Global, depth: usize, tokens: Tokens) -> Result<(Items<E>, Tokens), Stop>
     ensures { Reads result (separated (spec.expression_at depth disjunction) (said tokens.entry)) }
 {
@@ -220,6 +266,7 @@ fn hash_head(tokens: Tokens) -> Result<(u64, Tokens), Stop>
 /// Behind an open parenthesis: the type of a cast and its operand, or an expression.
 #[cycle(expression)]
 #[tactic(auto, unfolding(lucid_parse_spec::specs::ReadExpression::in_parens))]
+#[inline(never)]
 fn in_parens(alloc: Global, depth: usize, tokens: Tokens) -> Result<(E, Tokens), Stop>
     ensures { Reads result (spec.in_parens (spec.expression_at depth) (said tokens.entry)) }
 {

@@ -16,6 +16,7 @@ use lucid_parse_spec::Method;
 use lucid_parse_tree::{E, Infix, Pre};
 use std::alloc::Global;
 
+#[inline(never)]
 pub(crate) fn infix<'a>(
     alloc: Global,
     op: Infix,
@@ -30,6 +31,7 @@ pub(crate) fn infix<'a>(
     Ok((E::Infix(op, left?, right?), rest))
 }
 
+#[inline(never)]
 pub(crate) fn shifted<'a>(
     alloc: Global,
     up: bool,
@@ -42,6 +44,7 @@ pub(crate) fn shifted<'a>(
     Ok((E::Shift(Boxed::new(alloc, left)?, up, by), rest))
 }
 
+#[inline(never)]
 pub(crate) fn prefixed<'a>(
     alloc: Global,
     pre: Pre,
@@ -53,6 +56,7 @@ pub(crate) fn prefixed<'a>(
     Ok((E::Prefix(pre, Boxed::new(alloc, operand)?), rest))
 }
 
+#[inline(never)]
 pub(crate) fn cast<'a>(
     alloc: Global,
     width: Option<u64>,
@@ -64,6 +68,7 @@ pub(crate) fn cast<'a>(
     Ok((E::Cast(width, Boxed::new(alloc, operand)?), rest))
 }
 
+#[inline(never)]
 pub(crate) fn in_parentheses<'a>(
     alloc: Global,
     inner: (E, Tokens<'a>),
@@ -74,6 +79,7 @@ pub(crate) fn in_parentheses<'a>(
     Ok((E::Paren(Boxed::new(alloc, inner)?), rest))
 }
 
+#[inline(never)]
 pub(crate) fn called<'a>(
     alloc: Global,
     name: Ascii<'a>,
@@ -86,6 +92,7 @@ pub(crate) fn called<'a>(
 }
 
 /// A hash has an operand at least.
+#[inline(never)]
 pub(crate) fn hash<'a>(
     width: u64,
     operands: (Items<E>, Tokens<'a>),
@@ -97,6 +104,7 @@ pub(crate) fn hash<'a>(
 }
 
 /// The call on an array by this method that is given these expressions.
+#[inline(never)]
 pub(crate) fn array<'a>(
     alloc: Global,
     method: Method,

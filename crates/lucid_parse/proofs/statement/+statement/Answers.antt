@@ -3,7 +3,8 @@ use Rattle.std.proofs.lemmas.Grind.{common_steps}
 use Rattle.lucid_parse_expression.specs.Tokens.{said}
 use Rattle.lucid_parse_spec.specs.Reader.{repeat}
 use Rattle.lucid_parse_spec.specs.ReadStatement.{before_brace, one_case, choice_within, inner_at}
-use Rattle.lucid_parse_expression.proofs.Turns.{one_more, deeper}
+use Rattle.lucid_parse_expression.proofs.Turns.{one_more}
+use Rattle.lucid_parse.proofs.StatementLemmas.{deeper}
 use Rattle.lucid_parse.proofs.statement.+statement.Goals as goal
 
 pub statements-loop-turn-preserved : goal.statements-loop-turn-preserved
