@@ -19,7 +19,7 @@ use Rattle.lucid_stages.specs.declared.node.Work.{Work}
 use Rattle.lucid_stages.specs.declared.stage.Pair.{Pair}
 use Rattle.lucid_stages.specs.declared.stage.Seat.{Seat}
 use Rattle.lucid_stages.specs.declared.stage.Stage.{Stage}
-use Rattle.lucid_stages.specs.Filling.{seats, is_at, no_table, no_tables}
+use Rattle.lucid_stages.specs.Stage.{seats, is_at, no_table, no_tables}
 use Rattle.lucid_stages.specs.Marks.{Behind, feeds}
 use Rattle.lucid_stages.specs.NodeTables.{merged, tables_of}
 use Rattle.lucid_stages.specs.Placing.{stage_code}

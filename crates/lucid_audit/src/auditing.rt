@@ -2,7 +2,7 @@
 ghost use Rattle.std.specs.Prelude.{◌≡◌, ◌<◌, ◌^◌, [], length, map, IfOk, IfErr};
 ghost use Rattle.std.specs.List.{AllByRecursion};
 ghost use Rattle.lucid_conf.specs.Kept.{AreLimits};
-ghost use Rattle.lucid_stages.specs.Filling.{seats as seats_of};
+ghost use Rattle.lucid_stages.specs.Stage.{seats as seats_of};
 ghost use Rattle.lucid_code.specs.Nodes.{nodes as nodes_of};
 ghost use Rattle.lucid_stages.specs.NodeWorks.{works as works_of};
 ghost use Rattle.lucid_stages.specs.Marks.{Within};

@@ -9,12 +9,12 @@ use Rattle.lucid_stages.specs.declared.stage.Seat.{Seat}
 use Rattle.lucid_stages.specs.declared.node.Work.{Work}
 use Rattle.lucid_stages.specs.declared.stage.Pair.{Pair}
 use Rattle.lucid_stages.specs.declared.stage.Stage.{Stage}
-use Rattle.lucid_stages.specs.Filling.{seats, laid, seated, with_table, no_tables}
+use Rattle.lucid_stages.specs.Stage.{seats, laid, seated, with_table, no_tables}
 use Rattle.lucid_layout.specs.Fit.{StageFits, Admissible, Least, IsFirstFit, IsStuck}
 use Rattle.lucid_stages.specs.Marks.{fed_by, raised, lowest, floor, Within, zeros, end_marks}
 use Rattle.lucid_stages.specs.NodeTables.{few_on_the_way, merged, tables_of}
 use Rattle.lucid_layout.specs.Find.{Fits, Takes, TakesNone}
-use Rattle.lucid_stages.proofs.FillingLemmas.{laid_length, filled_push}
+use Rattle.lucid_stages.proofs.StageLemmas.{laid_length, filled_push}
 use Rattle.lucid_stages.proofs.MarksLemmas.{head_of, raised_length, length_zeros, Written, behind_to, behind_from, floor_zero, fed_by_marks}
 
 lowest_push : (low : List ℕ) (done : List Seat) (s : Seat) → lowest low (done ++ s ∷ []) ≡ raised (lowest low done) s.node.writes (s.at.stage + 1)

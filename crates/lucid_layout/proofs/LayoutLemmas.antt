@@ -15,13 +15,12 @@ use Rattle.lucid_stages.specs.declared.node.Work.{Work}
 use Rattle.lucid_stages.specs.declared.stage.Pair.{Pair}
 use Rattle.lucid_stages.specs.declared.stage.Seat.{Seat}
 use Rattle.lucid_stages.specs.declared.stage.Stage.{Stage}
-use Rattle.lucid_stages.specs.Filling.{seats, laid, no_tables, rows_at}
+use Rattle.lucid_stages.specs.Stage.{seats, laid, no_tables, rows_at}
 use Rattle.lucid_stages.specs.Marks.{feeds}
 use Rattle.lucid_stages.specs.NodeWorks.{works}
-use Rattle.lucid_stages.proofs.FillingLemmas.{laid_length, filled_push}
 use Rattle.lucid_stages.proofs.NodeTablesLemmas.{Made, made_none}
 use Rattle.lucid_stages.proofs.PlacingLemmas.{keeps}
-use Rattle.lucid_stages.proofs.StageLemmas.{InRange, Holds, table_at, all_ops, all_of, in_append, seat_node, filled_holds, none_yet}
+use Rattle.lucid_stages.proofs.StageLemmas.{laid_length, filled_push, InRange, Holds, table_at, all_ops, all_of, in_append, seat_node, filled_holds, none_yet}
 use Rattle.lucid_layout.specs.Fit.{IsFirstFit}
 use Rattle.lucid_layout.specs.Layout.{stages_of}
 

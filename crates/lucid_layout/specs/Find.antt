@@ -11,7 +11,7 @@ use Rattle.lucid_conf.specs.declared.limits.Limits.{Limits}
 use Rattle.lucid_stages.specs.declared.node.Work.{Work}
 use Rattle.lucid_stages.specs.declared.stage.Pair.{Pair}
 use Rattle.lucid_stages.specs.declared.stage.Stage.{Stage}
-use Rattle.lucid_stages.specs.Filling.{rows_at, no_tables}
+use Rattle.lucid_stages.specs.Stage.{rows_at, no_tables}
 use Rattle.lucid_stages.specs.Marks.{floor}
 use Rattle.lucid_stages.specs.NodeTables.{few_on_the_way, merged, tables_of}
 use Rattle.lucid_layout.specs.declared.error.FitError.{FitError}

@@ -2,7 +2,7 @@
 ghost use Rattle.std.specs.Prelude.{◌≡◌, ◌<◌, ◌≤◌, ℕ, true, None, Ok, length, IfOk, IfSome, IsSome};
 ghost use Rattle.lucid_tables.specs.Rows.{table as table_of_rows};
 ghost use Rattle.lucid_merge.specs.Product.{product};
-ghost use Rattle.lucid_stages.specs.Filling.{rows_at};
+ghost use Rattle.lucid_stages.specs.Stage.{rows_at};
 ghost use Rattle.lucid_layout.specs.Fit.{TableFits, StageFits, Least};
 ghost use Rattle.lucid_layout.specs.Find.{LeastTable, Fits, TableAt};
 

@@ -3,7 +3,7 @@ ghost use Rattle.std.specs.Prelude.{◌≡◌, ◌<◌, ◌^◌, None, Ok, [], l
 ghost use Rattle.std.specs.List.{AllByRecursion};
 ghost use Rattle.lucid_conf.specs.Kept.{AreLimits};
 ghost use Rattle.lucid_layout.specs.Fit.{IsFirstFit};
-ghost use Rattle.lucid_stages.specs.Filling.{laid, seats};
+ghost use Rattle.lucid_stages.specs.Stage.{laid, seats};
 ghost use Rattle.lucid_stages.specs.Marks.{Within};
 ghost use Rattle.lucid_layout.specs.Find.{Takes, TakesNone, Unplaced};
 

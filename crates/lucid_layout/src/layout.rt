@@ -2,7 +2,7 @@
 ghost use Rattle.std.specs.Prelude.{◌≡◌, [], IfOk, IfErr};
 ghost use Rattle.lucid_conf.specs.Kept.{AreLimits};
 ghost use Rattle.lucid_layout.specs.Fit.{IsFirstFit};
-ghost use Rattle.lucid_stages.specs.Filling.{laid, seats};
+ghost use Rattle.lucid_stages.specs.Stage.{laid, seats};
 ghost use Rattle.lucid_layout.specs.Layout.{IsLayout, IsRefused, stages_of};
 ghost use Rattle.lucid_stages.specs.NodeWorks.{works as works_of};
 

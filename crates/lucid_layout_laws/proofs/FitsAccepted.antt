@@ -7,11 +7,10 @@ use Rattle.lucid_tables.specs.declared.table.Table.{Table}
 use Rattle.lucid_conf.specs.declared.limits.Limits.{Limits}
 use Rattle.lucid_stages.specs.declared.stage.Pair.{Pair}
 use Rattle.lucid_stages.specs.declared.stage.Seat.{Seat}
-use Rattle.lucid_stages.specs.Filling.{seats, laid, no_table, no_tables}
+use Rattle.lucid_stages.specs.Stage.{seats, laid, no_table, no_tables}
 use Rattle.lucid_stages.specs.Placing.{stage_code}
 use Rattle.lucid_stages.specs.NodeWorks.{works}
-use Rattle.lucid_stages.proofs.StageLemmas.{stage_at as stage_of}
-use Rattle.lucid_stages.proofs.FillingLemmas.{laid_length}
+use Rattle.lucid_stages.proofs.StageLemmas.{laid_length, stage_at as stage_of}
 use Rattle.lucid_audit.specs.Audit.{table_at, tables_in, stage_at, stages}
 use Rattle.lucid_layout_laws.specs.Laws.{FirstFitsAreAccepted}
 use Rattle.lucid_layout_laws.proofs.FitsKeep.{Kept, fit_kept, first_fits_keep_rules}

@@ -15,14 +15,13 @@ use Rattle.lucid_stages.specs.declared.node.Work.{Work}
 use Rattle.lucid_stages.specs.declared.stage.Pair.{Pair}
 use Rattle.lucid_stages.specs.declared.stage.Seat.{Seat}
 use Rattle.lucid_stages.specs.declared.stage.Stage.{Stage}
-use Rattle.lucid_stages.specs.Filling.{seats, is_at, put_at, rows_at, no_tables, with_node, seated, laid}
+use Rattle.lucid_stages.specs.Stage.{seats, is_at, put_at, rows_at, no_tables, with_node, seated, laid}
 use Rattle.lucid_layout.specs.Fit.{Admissible, IsFirstFit}
 use Rattle.lucid_stages.specs.Marks.{Behind, feeds}
 use Rattle.lucid_stages.specs.NodeTables.{few_on_the_way, tables_of}
 use Rattle.lucid_stages.specs.NodeWorks.{works}
-use Rattle.lucid_stages.proofs.StageLemmas.{stage_at as stage_of, table_at as table_of, put_same, put_other, none_yet}
+use Rattle.lucid_stages.proofs.StageLemmas.{laid_length, filled_push, stage_at as stage_of, table_at as table_of, put_same, put_other, none_yet}
 use Rattle.lucid_layout.proofs.LayoutLemmas.{in_order}
-use Rattle.lucid_stages.proofs.FillingLemmas.{laid_length, filled_push}
 use Rattle.lucid_audit.specs.Audit.{IsThere, KeepsRules, nodes_at, with_work, grown, table_at, tables_in, takes, few_rows, rows_are_few, calls_in, arrays_at}
 
 -- ---- one node more

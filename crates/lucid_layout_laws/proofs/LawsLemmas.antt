@@ -6,7 +6,7 @@ use Rattle.lucid_stages.specs.Counts.{CountsFit, bits_of, count_of, most_ops}
 use Rattle.lucid_layout.specs.Fit.{Admissible, IsFirstFit, IsStuck, Least, NotBefore}
 use Rattle.lucid_stages.specs.Marks.{Behind, fed_by, feeds}
 use Rattle.lucid_stages.specs.NodeTables.{few_on_the_way, merged, tables_of}
-use Rattle.lucid_stages.specs.Filling.{laid, no_tables, rows_at}
+use Rattle.lucid_stages.specs.Stage.{laid, no_tables, rows_at}
 use Rattle.lucid_layout.specs.Layout.{IsLayout, IsRefused, stages_of}
 use Rattle.lucid_stages.specs.NodeWorks.{works}
 use Rattle.lucid_layout.specs.declared.error.FitError.TheVariants as cause

@@ -5,7 +5,7 @@ use Rattle.lucid_code.specs.Parts.{CodeParts}
 use Rattle.lucid_tables.specs.Placed.{PlacedParts}
 use Rattle.lucid_conf.specs.declared.limits.Limits.{Limits}
 use Rattle.lucid_stages.specs.declared.stage.Pair.{Pair}
-use Rattle.lucid_stages.specs.Filling.{seats}
+use Rattle.lucid_stages.specs.Stage.{seats}
 use Rattle.lucid_stages.specs.NodeWorks.{works}
 use Rattle.lucid_layout.specs.declared.error.FitError.{FitError}
 use Rattle.lucid_layout.specs.declared.error.FitError.TheVariants.{Memory}

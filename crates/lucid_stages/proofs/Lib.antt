@@ -1,5 +1,4 @@
 pub mod ExamplesLemmas
-pub mod FillingLemmas
 pub mod MarksLemmas
 pub mod NodeOrderLemmas
 pub mod NodeTablesLemmas

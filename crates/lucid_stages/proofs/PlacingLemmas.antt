@@ -26,7 +26,7 @@ use Rattle.lucid_merge.specs.Laws.{GuardsContradict, named_ops}
 use Rattle.lucid_stages.specs.declared.stage.Seat.{Seat}
 use Rattle.lucid_stages.specs.declared.node.Work.{Work}
 use Rattle.lucid_stages.specs.declared.stage.Stage.{Stage}
-use Rattle.lucid_stages.specs.Filling.{rows_at, no_table}
+use Rattle.lucid_stages.specs.Stage.{rows_at, no_table}
 use Rattle.lucid_stages.specs.Marks.{feeds}
 use Rattle.lucid_stages.specs.Placing.{arrays_at, arrays_in, stage_code}
 use Rattle.lucid_code.specs.Nodes.{nodes}

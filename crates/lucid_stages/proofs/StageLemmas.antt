@@ -1,22 +1,24 @@
--- Nodes at their places: the operations of the tables of the stages, and that no operation has two places.
-use Rattle.std.proofs.Common.{◌≡◌, ◌≢◌, ℕ, zero, suc, ◌<◌, ◌≤◌, List, [], ◌∷◌, ◌++◌, Bool, true, false, ◌&&◌, ◌⊎◌, inl, inr, if◌then◌else◌, length, nat_eq, replicate, slice_index_or, refl, sym, ap, ap₂, subst, ◌∙◌, ⊎_elim, append-nil, append_assoc, arith}
+-- Stages as they fill with the tables of nodes: the operations of these tables, and that no operation has two places.
+use Rattle.std.proofs.Common.{◌≡◌, ◌≢◌, ℕ, zero, suc, ◌<◌, ◌≤◌, List, [], ◌∷◌, ◌++◌, Bool, true, false, ◌&&◌, ◌⊎◌, inl, inr, if◌then◌else◌, length, nat_eq, replicate, slice_index_or, slice_set, refl, sym, ap, ap₂, subst, ◌∙◌, ⊎_elim, append-nil, append_assoc, arith}
 use Rattle.std.specs.List.{flat_map, AllByRecursion}
 use Rattle.std.proofs.lemmas.Bool.{and_parts, and_from, eqb-true, eq-eqb, true≢false}
 use Rattle.std.proofs.lemmas.Grind.{flat_map-append}
-use Rattle.std.proofs.lemmas.List.{get_or-set_same, get_or-set_other}
+use Rattle.std.proofs.lemmas.List.{length-set, get_or-set_same, get_or-set_other}
 use Rattle.lucid_code.specs.declared.op.Op.{Op}
 use Rattle.lucid_tables.specs.declared.table.Table.{Table}
 use Rattle.lucid_tables.specs.Numbers.{is_in, all_differ}
 use Rattle.lucid_tables.specs.Rows.{table}
 use Rattle.lucid_tables.proofs.Members.{In, differ_join as join}
+use Rattle.lucid_conf.specs.declared.limits.Limits.{Limits}
 use Rattle.lucid_merge.specs.Laws.{ProductsAct, ProductsName}
 use Rattle.lucid_merge.specs.Product.{product}
 use Rattle.lucid_stages.specs.declared.stage.Seat.{Seat}
 use Rattle.lucid_stages.specs.declared.node.Work.{Work}
 use Rattle.lucid_stages.specs.declared.stage.Pair.{Pair}
 use Rattle.lucid_stages.specs.declared.stage.Stage.{Stage}
-use Rattle.lucid_stages.specs.Filling.{seats, is_at, put_at, rows_at, with_node, seated, filled, no_table, no_tables}
+use Rattle.lucid_stages.specs.Stage.{seats, is_at, put_at, rows_at, with_node, seated, filled, laid, no_table, no_tables}
 use Rattle.lucid_stages.specs.NodeTables.{merged, tables_of}
+use Rattle.lucid_stages.proofs.MarksLemmas.{length_zeros}
 use Rattle.lucid_stages.proofs.NodeTablesLemmas.{Made, made_product, made_merged, differ_split}
 use Rattle.lucid_stages.proofs.NodeWorksLemmas.{in_flat, of_flat}
 
@@ -38,6 +40,16 @@ table_at s t = slice_index_or s.tables t no_table
 
 -- ---- a table in its stage
 
+pub put_in : (xs : List Table) (t : ℕ) (x : Table) → t < length xs → put_at xs t x ≡ slice_set xs t x
+put_in [] t x h = absurd (omega (arith, h))
+put_in (y ∷ ys) zero x h = refl
+put_in (y ∷ ys) (suc t) x h = ap (λ l. y ∷ l) (put_in ys t x (omega (arith, h)))
+
+pub put_end : (xs : List Table) (t : ℕ) (x : Table) → t ≡ length xs → put_at xs t x ≡ xs ++ x ∷ []
+put_end [] t x h = refl
+put_end (y ∷ ys) zero x h = absurd (omega (arith, h))
+put_end (y ∷ ys) (suc t) x h = ap (λ l. y ∷ l) (put_end ys t x (omega (arith, h)))
+
 pub put_same : (xs : List Table) (t : ℕ) (x : Table) → t ≤ length xs → slice_index_or (put_at xs t x) t no_table ≡ x
 put_same [] zero x h = refl
 put_same [] (suc t) x h = absurd (omega (arith, h))
@@ -52,6 +64,19 @@ put_other (y ∷ ys) zero zero x h n = absurd (n refl)
 put_other (y ∷ ys) zero (suc u) x h n = refl
 put_other (y ∷ ys) (suc t) zero x h n = refl
 put_other (y ∷ ys) (suc t) (suc u) x h n = put_other ys t u x (omega (arith, h)) (λ e. n (ap suc e))
+
+-- ---- the stages as they fill
+
+pub filled_length : (ops : List Op) (stages : List Stage) (done : List Seat) → length (filled ops stages done) ≡ length stages
+filled_length ops stages [] = refl
+filled_length ops stages (s ∷ ss) = filled_length ops (seated ops s stages) ss ∙ length-set stages s.at.stage _
+
+pub laid_length : (ops : List Op) (limits : Limits) (done : List Seat) → length (laid ops limits done) ≡ limits.stages
+laid_length ops limits done = filled_length ops (replicate limits.stages no_tables) done ∙ length_zeros limits.stages no_tables
+
+pub filled_push : (ops : List Op) (stages : List Stage) (done : List Seat) (s : Seat) → filled ops stages (done ++ s ∷ []) ≡ seated ops s (filled ops stages done)
+filled_push ops stages [] s = refl
+filled_push ops stages (d ∷ ds) s = filled_push ops (seated ops d stages) ds s
 
 -- each place is a stage and a table of it, or the next one
 abbrev pub InRange : List Op → List Stage → List Seat → Type 0

@@ -9,12 +9,12 @@ use Rattle.lucid_layout.specs.declared.error.FitError.TheVariants as cause
 use Rattle.lucid_stages.specs.declared.count_error.CountError.{CountError}
 use Rattle.lucid_stages.specs.declared.count_error.CountError.TheVariants as count
 use Rattle.lucid_stages.specs.Counts.{CountsFail, CountsFit}
-use Rattle.lucid_stages.specs.Filling.{laid, seats}
+use Rattle.lucid_stages.specs.Stage.{laid, seats}
 use Rattle.lucid_layout_laws.specs.Laws.{LayoutsAreOne}
 use Rattle.lucid_layout.specs.Layout.{IsLayout, IsRefused}
 use Rattle.lucid_stages.specs.Placing.{stage_code}
 use Rattle.lucid_stages.specs.NodeWorks.{works}
-use Rattle.lucid_stages.proofs.FillingLemmas.{laid_length}
+use Rattle.lucid_stages.proofs.StageLemmas.{laid_length}
 use Rattle.lucid_tables.specs.Placed.{PlacedParts}
 use Rattle.lucid_top_fit.specs.Causes.{of_count, of_fit}
 use Rattle.lucid_top_fit.specs.Fit.{IsPlaced}

@@ -18,7 +18,7 @@ use Rattle.lucid_audit.specs.Refused as refused
 use Rattle.lucid_code.specs.Parts as code
 use Rattle.lucid_conf.specs.Answers.{Reads}
 use Rattle.lucid_conf.specs.declared.limits.Limits.{Limits}
-use Rattle.lucid_stages.specs.Filling.{seats}
+use Rattle.lucid_stages.specs.Stage.{seats}
 use Rattle.lucid_stages.specs.Placing.{stage_code}
 use Rattle.lucid_stages.specs.NodeWorks.{works}
 use Rattle.lucid_tables.specs.Placed.{PlacedParts}

@@ -18,7 +18,7 @@ use Rattle.lucid_layout.specs.declared.error.FitError.{FitError}
 use Rattle.lucid_layout.specs.declared.error.FitError.TheVariants as cause
 use Rattle.lucid_stages.specs.declared.stage.Seat.{Seat}
 use Rattle.lucid_stages.specs.Marks.{Behind}
-use Rattle.lucid_stages.specs.Filling.{seats}
+use Rattle.lucid_stages.specs.Stage.{seats}
 use Rattle.lucid_layout.specs.Layout.{IsLayout, IsRefused}
 use Rattle.lucid_stages.specs.Placing.{stage_code}
 use Rattle.lucid_stages.specs.NodeWorks.{works}

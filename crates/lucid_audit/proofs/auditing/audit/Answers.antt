@@ -1,6 +1,6 @@
 use Rattle.std.proofs.Common.{◌≡◌, sym, ap, subst, length, ◌∙◌, arith}
 use Rattle.std.specs.List.{AllByRecursion}
-use Rattle.lucid_stages.specs.Filling.{seats}
+use Rattle.lucid_stages.specs.Stage.{seats}
 use Rattle.lucid_stages.specs.NodeWorks.{works}
 use Rattle.lucid_stages.specs.Marks.{Within}
 use Rattle.lucid_stages.proofs.NodeOrderLemmas.{ops_within, writes_within, no_more_works}

@@ -1,5 +1,5 @@
 use Rattle.std.proofs.Common.{refl, subst, sym, ap, length, slice_set, slice_index_or, Ok, ◌≡◌, ◌∙◌, ◌+◌, ◌<◌}
-use Rattle.lucid_stages.specs.Filling.{with_table, no_tables}
+use Rattle.lucid_stages.specs.Stage.{with_table, no_tables}
 use Rattle.lucid_stages.specs.Marks.{Within, end_marks, zeros, raised}
 use Rattle.lucid_layout.proofs.FitLemmas.{many, writes_within, nowhere, further, finish, taken, taken_none}
 use Rattle.lucid_layout.proofs.fit.fit.Goals as goal
