@@ -1,7 +1,7 @@
-"""Texts and files at their limits: the calls of tests/deep.rows, with seconds and memory, and again on a stack of 1 MiB.
+"""Texts and files at their limits: the calls of tests/deep.rows, with seconds and memory, and again on stacks of 1 MiB and 288 KiB.
 
 Prints a line of a table for each call. Fails on a call that ends by a signal, takes over two minutes, or ends otherwise than its row says
-or than on the larger stack. A walk that takes a few hundred bytes of stack more for each `if` fails at 1 MiB. `--only WORD` makes the calls
+or than on the larger stack. A walk that takes a few hundred bytes of stack more for each sign fails at 288 KiB. `--only WORD` makes the calls
 whose title has the word; `--fill` writes missing sums, as of rows. Sees nothing of shapes that have no row.
 """
 from __future__ import annotations
@@ -14,7 +14,7 @@ from rowfile import Row
 
 from .rows import fill, read_all
 
-SMALL_STACK = 1024  # KiB
+SMALL_STACKS = 1024, 288  # KiB
 # Rows that need more: the flat form of each nests thousands deep, or the words of the call take a quarter of the stack.
 LARGE = {
     "a chain of 1,700 functions that do nothing, placed",
@@ -44,9 +44,10 @@ def line_of(group: Group, spent: Path, row: Row) -> List[object]:
     call = [group.options.program, *row.words]
     it = measure(spent, call, folder)
     group.check(f"tests/deep.rows:{row.line}: {row.title}", row.holds(it.ended), it.ended)
-    if row.title not in LARGE:
-        small = measure(spent, ["/bin/sh", "-c", f'ulimit -s {SMALL_STACK}; exec "$0" "$@"', *call], folder).ended
-        group.check(f"tests/deep.rows:{row.line}: {row.title}: the same on a stack of {SMALL_STACK} KiB", small == it.ended, small)
+    for stack in SMALL_STACKS:
+        if row.title not in LARGE:
+            small = measure(spent, ["/bin/sh", "-c", f'ulimit -s {stack}; exec "$0" "$@"', *call], folder).ended
+            group.check(f"tests/deep.rows:{row.line}: {row.title}: the same on a stack of {stack} KiB", small == it.ended, small)
     words = " ".join(row.words)[:40]
     return [f"{row.title}: `{words}`", row.bytes_read(), ending(it.ended), f"{it.seconds:.2f}", it.megabytes]
 
