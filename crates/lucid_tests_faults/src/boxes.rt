@@ -1,20 +1,33 @@
 // Lists of passes that a caller hands to the program. A program that skips a pass, runs the list in another order, counts what a pass removes
 // twice, or writes before all passes have run fails here.
-use crate::running::{NONE, passes, run_with};
+use crate::lists::{Listed, PROGRAM, list};
+use crate::running::{NONE, Ran, run};
 use lucid_base::Memory;
-use lucid_code::Code;
-use lucid_pass::{Dead, Name, Pass};
-use lucid_pass_rewrites::Copies;
+use lucid_pass::Pass;
 use lucid_pipe::NoWatch;
 use lucid_top::Status;
 use std::alloc::Global;
 use std::test::Fail;
 
-/// A program with nine operations, of which nobody reads the first.
-const LAYOUT: &str = "layout branches default";
+/// The passes of a list, how many calls it serves, how each of them ends, its output and its line of errors, and then the name of each pass
+/// and how many operations it has removed.
+type ListRow = (
+    &'static [Listed],
+    usize,
+    Status,
+    &'static str,
+    &'static str,
+    &'static [(&'static str, u64)],
+);
 
-/// Its layout after `Same`, which gives the code itself, and `Dead`.
-const WITHOUT_ONE: &str = "pass same removed 0
+/// Layouts of a program with nine operations, of which nobody reads the first.
+const ROWS: [ListRow; 3] = [
+    // A pass of the caller, which gives the code itself, has its line.
+    (
+        &[Listed::Same, Listed::Dead],
+        1,
+        Status::Ok,
+        "pass same removed 0
 pass dead removed 1
 ops 8 bits 289 nodes 7
 stage 0 table 0 rows 1 ops 1
@@ -22,46 +35,37 @@ stage 1 table 0 rows 2 ops 2 arrays x
 stage 2 table 0 rows 2 ops 2
 stage 3 table 0 rows 2 ops 2
 stage 4 table 0 rows 1 ops 1
-";
-
-/// The beginning of its layout after the passes of the program.
-const WITHOUT_FOUR: &str =
-    "pass fold removed 0\npass copies removed 0\npass dead removed 3\npass direct removed 1\n";
-
-/// A pass that gives the code itself, or runs out of memory.
-#[derive(Drop)]
-struct Same {
-    removed: u64,
-    fails: bool,
-}
-
-impl Pass for Same {
-    ghost use Rattle.std.specs.Prelude.{codes};
-    ghost use Rattle.lucid_pass_spec.proofs.Replaces.{same_replaces};
-
-    ghost called = { λ _. codes "same" };
-
-    ghost count = { λ p. p.removed };
-
-    ghost gives = { λ _. record { makes = λ code. code; keeps = same_replaces } };
-
-    fn name(&self) -> Name {
-        Name::new("same")
-    }
-
-    fn removed(&self) -> u64 {
-        self.removed
-    }
-
-    fn run(&mut self, alloc: Global, code: &Code) -> Result<Code, Memory> {
-        if self.fails {
-            return Err(Memory);
-        }
-        let new = code.copy()?;
-        self.removed = self.removed.saturating_add(0);
-        Ok(new)
-    }
-}
+",
+        "",
+        &[("same", 0), ("dead", 1)],
+    ),
+    // One list serves two calls, and counts on.
+    (
+        &PROGRAM,
+        2,
+        Status::Ok,
+        "pass fold removed 0
+pass copies removed 0
+pass dead removed 3
+pass direct removed 1
+ops 5 bits 224 nodes 4
+stage 0 table 0 rows 3 ops 2 arrays x
+stage 1 table 0 rows 3 ops 2
+stage 2 table 0 rows 1 ops 1
+",
+        "",
+        &[("fold", 0), ("copies", 0), ("dead", 6), ("direct", 2)],
+    ),
+    // A pass that runs out of memory ends the call, and the passes before it have counted.
+    (
+        &[Listed::Dead, Listed::Failing, Listed::Copies],
+        1,
+        Status::Memory,
+        "",
+        "memory\n",
+        &[("dead", 1), ("same", 0), ("copies", 0)],
+    ),
+];
 
 /// Returns whether the pass at this index of the list has this name, and has removed this number of operations.
 fn is_at(passes: &[Box<dyn Pass>], at: usize, name: &str, removed: u64) -> bool {
@@ -71,51 +75,63 @@ fn is_at(passes: &[Box<dyn Pass>], at: usize, name: &str, removed: u64) -> bool 
     }
 }
 
-#[test]
-fn a_pass_of_the_caller_has_its_line(rt: HostRuntime) -> Result<(), Fail> {
-    let alloc = rt.alloc();
-    let same = Same {
-        removed: 0,
-        fails: false,
-    };
-    let mut passes: Vec<Box<dyn Pass>> = Vec::new(alloc);
-    passes.push(Box::new(alloc, same)?)?;
-    passes.push(Box::new(alloc, Dead::new())?)?;
-    let ran = run_with(alloc, LAYOUT, NONE, &mut passes, &mut NoWatch)?;
-    assert!(rt; ran.status == Status::Ok && ran.out.bytes() == WITHOUT_ONE.as_bytes());
-    Ok(())
+/// Returns whether these are the passes, and each has removed its number of operations.
+fn have_removed(passes: &[Box<dyn Pass>], removed: &[(&str, u64)]) -> bool {
+    for (at, (name, count)) in removed.iter().enumerate() {
+        if !is_at(passes, at, name, *count) {
+            return false;
+        }
+    }
+    passes.len() == removed.len()
+}
+
+fn ends_so(ran: &Ran, status: Status, out: &str, err: &str) -> bool {
+    ran.status == status && ran.out.bytes() == out.as_bytes() && ran.err.bytes() == err.as_bytes()
+}
+
+/// Makes a call with this list, and returns whether it ends as the row says.
+fn serves(alloc: Global, row: ListRow, passes: &mut Vec<Box<dyn Pass>>) -> Result<bool, Memory> {
+    let (_, _, status, out, err, _) = row;
+    let ran = run(alloc, "layout branches default", NONE, passes, &mut NoWatch)?;
+    let is_so = ends_so(&ran, status, out, err);
+    drop(ran);
+    Ok(is_so)
+}
+
+/// Returns whether this list serves all calls of the row.
+fn serves_all(
+    alloc: Global,
+    row: ListRow,
+    passes: &mut Vec<Box<dyn Pass>>,
+) -> Result<bool, Memory> {
+    for _call in 0..row.1 {
+        if !serves(alloc, row, passes)? {
+            return Ok(false);
+        }
+    }
+    Ok(have_removed(passes.as_slice(), row.5))
+}
+
+/// Returns whether the list of the row serves its calls.
+fn is_served(alloc: Global, row: ListRow) -> Result<bool, Memory> {
+    let mut passes = list(alloc, row.0)?;
+    let is_served = serves_all(alloc, row, &mut passes);
+    drop(passes);
+    is_served
+}
+
+/// Returns the output that the first row wants whose list does not serve its calls.
+fn first_wrong(alloc: Global, rows: &[ListRow]) -> Result<Option<&'static str>, Memory> {
+    for row in rows {
+        if !is_served(alloc, *row)? {
+            return Ok(Some(row.3));
+        }
+    }
+    Ok(None)
 }
 
 #[test]
-fn one_list_serves_two_calls(rt: HostRuntime) -> Result<(), Fail> {
-    let alloc = rt.alloc();
-    let mut passes = passes(alloc)?;
-    for _call in 0..2 {
-        let ran = run_with(alloc, LAYOUT, NONE, &mut passes, &mut NoWatch)?;
-        assert!(rt; ran.out.bytes().starts_with(WITHOUT_FOUR.as_bytes()));
-    }
-    assert!(rt; is_at(passes.as_slice(), 2, "dead", 6));
-    assert!(rt; is_at(passes.as_slice(), 3, "direct", 2));
-    Ok(())
-}
-
-#[test]
-fn a_pass_that_fails_ends_the_call(rt: HostRuntime) -> Result<(), Fail> {
-    let alloc = rt.alloc();
-    let fails = Same {
-        removed: 0,
-        fails: true,
-    };
-    let mut passes: Vec<Box<dyn Pass>> = Vec::new(alloc);
-    passes.push(Box::new(alloc, Dead::new())?)?;
-    passes.push(Box::new(alloc, fails)?)?;
-    passes.push(Box::new(alloc, Copies::new())?)?;
-    let ran = run_with(alloc, LAYOUT, NONE, &mut passes, &mut NoWatch)?;
-    assert!(rt; ran.status == Status::Memory && ran.out.bytes().is_empty());
-    assert!(rt; ran.err.bytes() == b"memory\n".as_slice());
-    for (at, name, removed) in [(0, "dead", 1), (1, "same", 0), (2, "copies", 0)] {
-        assert!(rt; is_at(passes.as_slice(), at, name, removed), "{name}");
-    }
-    assert_eq!(rt; passes.len(), 3);
+fn lists_of_the_caller_serve_their_calls(rt: HostRuntime) -> Result<(), Fail> {
+    assert_eq!(rt; first_wrong(rt.alloc(), &ROWS)?, None);
     Ok(())
 }

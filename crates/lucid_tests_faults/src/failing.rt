@@ -1,246 +1,253 @@
 // The table: each form of words, how often it opens or reads a file and writes without failures, and its output and status if one of
 // these fails.
 use crate::files::is_file;
-use crate::running::{Faults, NONE, Ran, run};
+use crate::running::{Faults, NEVER, NONE, Ran, run_alone};
+use lucid_base::Memory;
 use lucid_top::Status;
 use std::alloc::Global;
-use std::process::Abort;
 use std::test::Fail;
 
-/// The words of calls that write their answer, how often each opens and reads each file, and how often it writes.
-const ANSWERS: [(&str, u64, u64); 15] = [
-    ("check first", 3, 1),
-    ("check long", 4, 1),
-    ("expand sized", 3, 1),
-    ("once first pkt 5", 3, 2),
-    ("layout branches default", 3, 13),
-    ("run whole send two linked", 3, 4),
-    ("run pipe send two linked", 3, 4),
-    ("run placed ask two asked places", 3, 5),
-    ("drive sums three steps", 3, 11),
-    ("audit ask two places", 3, 13),
-    ("snap sums three steps 3", 3, 13),
-    ("gen program 0 1", 0, 1),
-    ("gen limits 0 1", 0, 1),
-    ("gen scene 0 2", 0, 1),
-    ("bench 0 3", 0, 1),
+/// The words of a call, how it ends, how often it opens and reads each file, and in how many writes it writes its answer and the cause of
+/// its refusal.
+type FaultRow = (&'static str, Status, u64, u64, u64);
+
+/// All files are read before any is looked at.
+const ROWS: [FaultRow; 22] = [
+    ("check first", Status::Ok, 3, 1, 0),
+    ("check long", Status::Ok, 4, 1, 0),
+    ("expand sized", Status::Ok, 3, 1, 0),
+    ("once first pkt 5", Status::Ok, 3, 2, 0),
+    ("layout branches default", Status::Ok, 3, 13, 0),
+    ("run whole send two linked", Status::Ok, 3, 4, 0),
+    ("run pipe send two linked", Status::Ok, 3, 4, 0),
+    ("run placed ask two asked places", Status::Ok, 3, 5, 0),
+    ("drive sums three steps", Status::Ok, 3, 11, 0),
+    ("audit ask two places", Status::Ok, 3, 13, 0),
+    ("snap sums three steps 3", Status::Ok, 3, 13, 0),
+    ("gen program 0 1", Status::Ok, 0, 1, 0),
+    ("gen limits 0 1", Status::Ok, 0, 1, 0),
+    ("gen scene 0 2", Status::Ok, 0, 1, 0),
+    ("bench 0 3", Status::Ok, 0, 1, 0),
+    ("", Status::Usage, 0, 0, 1),
+    ("picture", Status::Usage, 0, 0, 1),
+    ("once first nobody 5", Status::Usage, 3, 0, 1),
+    ("layout ask bad", Status::BadLimits, 3, 0, 1),
+    ("run whole crossed bad bad", Status::Order, 3, 0, 4),
+    ("drive sums three bad", Status::BadScene, 3, 0, 1),
+    ("audit ask two bad", Status::BadPlacement, 3, 0, 1),
 ];
 
-/// The words of refused calls, how each ends, how often it opens and reads each file, and in how many writes it reports the cause. All
-/// files are read before any is looked at.
-const REFUSALS: [(&str, Status, u64, u64); 7] = [
-    ("", Status::Usage, 0, 1),
-    ("picture", Status::Usage, 0, 1),
-    ("once first nobody 5", Status::Usage, 3, 1),
-    ("layout ask bad", Status::BadLimits, 3, 1),
-    ("run whole crossed bad bad", Status::Order, 3, 4),
-    ("drive sums three bad", Status::BadScene, 3, 1),
-    ("audit ask two bad", Status::BadPlacement, 3, 1),
-];
+/// The calls of a row that fail.
+#[derive(Clone, Copy)]
+enum Fails {
+    /// Each opening and each read.
+    Read,
+    /// Each write of the output.
+    Write,
+    /// Each write of the line of errors.
+    Tell,
+    /// The call after the last of each kind, which nothing makes. So the numbers are exact.
+    Behind,
+    /// The first writes, with and without the first opening. The fault can not be told.
+    Untold,
+}
 
-/// Whether the bytes are a beginning of the whole that isn't all of it.
+/// The number of openings and reads of all files that the words name.
+fn reads_of(row: FaultRow) -> u64 {
+    let (line, _, reads, _, _) = row;
+    let mut sum = 0u64;
+    for word in line.split(' ') {
+        if is_file(word) {
+            sum = sum.saturating_add(reads);
+        }
+    }
+    sum
+}
+
+/// The file of the opening or the read of this number.
+fn file_of(row: FaultRow, number: u64) -> &'static str {
+    let (line, _, reads, _, _) = row;
+    let mut behind = 0u64;
+    for word in line.split(' ') {
+        if is_file(word) {
+            behind = behind.saturating_add(reads);
+            if number < behind {
+                return word;
+            }
+        }
+    }
+    ""
+}
+
+/// The number of calls of this kind.
+fn count(row: FaultRow, kind: Fails) -> u64 {
+    match kind {
+        Fails::Read => reads_of(row),
+        Fails::Write => row.3,
+        Fails::Tell => row.4,
+        Fails::Behind => 1,
+        Fails::Untold => 2,
+    }
+}
+
+/// The faults of the call of this number.
+fn faults(row: FaultRow, kind: Fails, number: u64) -> Faults {
+    match kind {
+        Fails::Read => Faults {
+            read: number,
+            ..NONE
+        },
+        Fails::Write => Faults {
+            write: number,
+            ..NONE
+        },
+        Fails::Tell => Faults {
+            tell: number,
+            ..NONE
+        },
+        Fails::Behind => Faults {
+            read: reads_of(row),
+            write: row.3,
+            tell: row.4,
+        },
+        Fails::Untold => Faults {
+            read: if number == 0 { 0 } else { NEVER },
+            write: 0,
+            tell: 0,
+        },
+    }
+}
+
+/// The status of a call whose faults can not be told.
+fn status_untold(row: FaultRow, number: u64) -> Status {
+    let (_, status, reads, writes, _) = row;
+    if number == 0 && reads != 0 {
+        Status::ReadFault
+    } else if writes != 0 {
+        Status::WriteFault
+    } else {
+        status
+    }
+}
+
+/// Returns whether the bytes are a beginning of the whole that isn't all of it.
 fn is_cut(bytes: &[u8], whole: &[u8]) -> bool {
     bytes.len() < whole.len() && whole.starts_with(bytes)
 }
 
-/// That a call with these faults ends as one in which nothing fails.
-fn ends_alike(
-    rt: &impl Abort,
-    alloc: Global,
-    line: &str,
-    faults: Faults,
-    whole: &Ran,
-) -> Result<(), Fail> {
-    let ran = run(alloc, line, faults)?;
-    assert_eq!(rt; ran.status, whole.status, "status of {line}");
-    assert!(rt; ran.out.bytes() == whole.out.bytes(), "output of {line}");
-    assert!(rt;
-        ran.err.bytes() == whole.err.bytes(),
-        "error line of {line}"
-    );
-    Ok(())
-}
-
-/// This many openings and reads of a file, from this one on.
-fn each_read_of(
-    rt: &impl Abort,
-    alloc: Global,
-    line: &str,
-    name: &str,
-    first: u64,
-    behind: u64,
-) -> Result<(), Fail> {
-    let told = format!(in alloc; "read fault: {name}\n")?;
-    for call in first..behind {
-        let faults = Faults {
-            read: Some(call),
-            ..NONE
-        };
-        let ran = run(alloc, line, faults)?;
-        assert_eq!(rt;
-            ran.status,
-            Status::ReadFault,
-            "status of {line}, call {call}"
-        );
-        assert!(rt; ran.out.bytes().is_empty(), "output of {line}, call {call}");
-        assert!(rt;
-            ran.err.bytes() == told.as_bytes(),
-            "error line of {line}, call {call}"
-        );
+/// Returns whether the line of errors names this file.
+fn names(line: &[u8], file: &str) -> bool {
+    match line.strip_prefix(b"read fault: ") {
+        Some(rest) => rest.strip_suffix(b"\n") == Some(file.as_bytes()),
+        None => false,
     }
-    Ok(())
 }
 
-/// Each opening and each read, this many of each file, and none after them.
-fn each_read(
-    rt: &impl Abort,
-    alloc: Global,
-    line: &str,
-    reads: u64,
+/// Returns whether a call has the status and the output of the whole.
+fn is_alike(ran: &Ran, whole: &Ran) -> bool {
+    ran.status == whole.status && ran.out.bytes() == whole.out.bytes()
+}
+
+/// Returns whether a failing write has cut the output. A successful write passes something on, so each output is longer than that before.
+fn is_cut_by(number: u64, before: usize, ran: &Ran, whole: &Ran) -> bool {
+    let out = ran.out.bytes();
+    ran.status == Status::WriteFault
+        && ran.err.bytes() == b"write fault\n".as_slice()
+        && is_cut(out, whole.out.bytes())
+        && (number == 0) == out.is_empty()
+        && (number == 0 || before < out.len())
+}
+
+/// Returns whether a call with these faults ends as it should.
+fn is_right(
+    row: FaultRow,
+    kind: Fails,
+    number: u64,
+    before: usize,
+    ran: &Ran,
     whole: &Ran,
-) -> Result<(), Fail> {
-    let mut first = 0u64;
-    for word in line.split(' ') {
-        if is_file(word) {
-            let behind = first.saturating_add(reads);
-            each_read_of(rt, alloc, line, word, first, behind)?;
-            first = behind;
+) -> bool {
+    let err = ran.err.bytes();
+    let is_empty = ran.out.bytes().is_empty();
+    match kind {
+        Fails::Read => is_empty
+            && ran.status == Status::ReadFault
+            && names(err, file_of(row, number)),
+        Fails::Write => is_cut_by(number, before, ran, whole),
+        Fails::Tell => is_alike(ran, whole) && is_cut(err, whole.err.bytes()),
+        Fails::Behind => is_alike(ran, whole) && err == whole.err.bytes(),
+        Fails::Untold => is_empty && ran.status == status_untold(row, number) && err.is_empty(),
+    }
+}
+
+/// Makes the call of this number, and returns the length of its output if it ends as it should.
+fn ends_at(
+    alloc: Global,
+    row: FaultRow,
+    kind: Fails,
+    number: u64,
+    before: usize,
+    whole: &Ran,
+) -> Result<Option<usize>, Memory> {
+    let ran = run_alone(alloc, row.0, faults(row, kind, number))?;
+    let is_right = is_right(row, kind, number, before, &ran, whole);
+    let length = ran.out.bytes().len();
+    drop(ran);
+    Ok(if is_right { Some(length) } else { None })
+}
+
+/// Returns whether each call of this kind ends as it should.
+fn each_ends(alloc: Global, row: FaultRow, kind: Fails, whole: &Ran) -> Result<bool, Memory> {
+    let mut before = 0usize;
+    for number in 0..count(row, kind) {
+        match ends_at(alloc, row, kind, number, before, whole)? {
+            Some(length) => before = length,
+            None => return Ok(false),
         }
     }
-    let behind = Faults {
-        read: Some(first),
-        ..NONE
-    };
-    ends_alike(rt, alloc, line, behind, whole)
+    Ok(true)
 }
 
-/// Each write, and none after them. A successful write passes something on and a failing one nothing, so the output grows.
-fn each_write(
-    rt: &impl Abort,
-    alloc: Global,
-    line: &str,
-    writes: u64,
-    whole: &Ran,
-) -> Result<(), Fail> {
-    let mut before = 0;
-    for write in 0..writes {
-        let faults = Faults {
-            write: Some(write),
-            ..NONE
-        };
-        let ran = run(alloc, line, faults)?;
-        let bytes = ran.out.bytes();
-        assert_eq!(rt;
-            ran.status,
-            Status::WriteFault,
-            "status of {line}, write {write}"
-        );
-        assert!(rt;
-            is_cut(bytes, whole.out.bytes()),
-            "output of {line}, write {write}"
-        );
-        assert_eq!(rt;
-            write == 0,
-            bytes.is_empty(),
-            "first output of {line}, write {write}"
-        );
-        assert!(rt;
-            write == 0 || before < bytes.len(),
-            "more output of {line}, write {write}"
-        );
-        assert!(rt;
-            ran.err.bytes() == b"write fault\n".as_slice(),
-            "error line of {line}, write {write}"
-        );
-        before = bytes.len();
-    }
-    let behind = Faults {
-        write: Some(writes),
-        ..NONE
-    };
-    ends_alike(rt, alloc, line, behind, whole)
+/// Returns whether all failing calls end as they should.
+fn all_end(alloc: Global, row: FaultRow, whole: &Ran) -> Result<bool, Memory> {
+    Ok(
+        each_ends(alloc, row, Fails::Read, whole)?
+            && each_ends(alloc, row, Fails::Write, whole)?
+            && each_ends(alloc, row, Fails::Tell, whole)?
+            && each_ends(alloc, row, Fails::Behind, whole)?
+            && each_ends(alloc, row, Fails::Untold, whole)?,
+    )
 }
 
-/// Each write of the line of errors, and none behind them. The status and the output stay.
-fn each_tell(
-    rt: &impl Abort,
-    alloc: Global,
-    line: &str,
-    tells: u64,
-    whole: &Ran,
-) -> Result<(), Fail> {
-    for tell in 0..tells {
-        let faults = Faults {
-            tell: Some(tell),
-            ..NONE
-        };
-        let ran = run(alloc, line, faults)?;
-        let bytes = ran.err.bytes();
-        assert_eq!(rt; ran.status, whole.status, "status of {line}, piece {tell}");
-        assert!(rt;
-            ran.out.bytes() == whole.out.bytes(),
-            "output of {line}, piece {tell}"
-        );
-        assert!(rt;
-            is_cut(bytes, whole.err.bytes()),
-            "error line of {line}, piece {tell}"
-        );
-    }
-    let behind = Faults {
-        tell: Some(tells),
-        ..NONE
-    };
-    ends_alike(rt, alloc, line, behind, whole)
+/// Returns whether a call in which nothing fails ends as its row says, with an answer or a line of errors.
+fn is_whole(row: FaultRow, whole: &Ran) -> bool {
+    let (_, status, _, writes, tells) = row;
+    whole.status == status
+        && whole.out.bytes().is_empty() == (writes == 0)
+        && whole.err.bytes().is_empty() == (tells == 0)
 }
 
-#[test]
-fn each_failing_call_of_an_answer(rt: HostRuntime) -> Result<(), Fail> {
-    let alloc = rt.alloc();
-    for (line, reads, writes) in ANSWERS {
-        let whole = run(alloc, line, NONE)?;
-        assert_eq!(rt; whole.status, Status::Ok, "status of {line}");
-        assert!(rt; whole.err.bytes().is_empty(), "error line of {line}");
-        each_read(&rt, alloc, line, reads, &whole)?;
-        each_write(&rt, alloc, line, writes, &whole)?;
-        each_tell(&rt, alloc, line, 0, &whole)?;
-    }
-    Ok(())
+/// Returns whether the call of a row ends as it should, and so does each of its failing calls.
+fn fails_so(alloc: Global, row: FaultRow) -> Result<bool, Memory> {
+    let whole = run_alone(alloc, row.0, NONE)?;
+    let is_whole = is_whole(row, &whole);
+    let all_end = all_end(alloc, row, &whole);
+    drop(whole);
+    Ok(is_whole && all_end?)
 }
 
-#[test]
-fn each_failing_call_of_a_refusal(rt: HostRuntime) -> Result<(), Fail> {
-    let alloc = rt.alloc();
-    for (line, status, reads, tells) in REFUSALS {
-        let whole = run(alloc, line, NONE)?;
-        assert_eq!(rt; whole.status, status, "status of {line}");
-        assert!(rt; whole.out.bytes().is_empty(), "output of {line}");
-        each_read(&rt, alloc, line, reads, &whole)?;
-        each_write(&rt, alloc, line, 0, &whole)?;
-        each_tell(&rt, alloc, line, tells, &whole)?;
-    }
-    Ok(())
-}
-
-#[test]
-fn a_fault_that_can_not_be_told(rt: HostRuntime) -> Result<(), Fail> {
-    let alloc = rt.alloc();
-    for (line, reads, _) in ANSWERS {
-        for (read, status) in [(Some(0), Status::ReadFault), (None, Status::WriteFault)] {
-            let faults = Faults {
-                read,
-                write: Some(0),
-                tell: Some(0),
-            };
-            let wanted = if reads == 0 {
-                Status::WriteFault
-            } else {
-                status
-            };
-            let ran = run(alloc, line, faults)?;
-            assert_eq!(rt; ran.status, wanted, "status of {line}");
-            assert!(rt; ran.out.bytes().is_empty(), "output of {line}");
-            assert!(rt; ran.err.bytes().is_empty(), "error line of {line}");
+/// Returns the words of the first row of which a call ends otherwise.
+fn first_wrong(alloc: Global, rows: &[FaultRow]) -> Result<Option<&'static str>, Memory> {
+    for row in rows {
+        if !fails_so(alloc, *row)? {
+            return Ok(Some(row.0));
         }
     }
+    Ok(None)
+}
+
+#[test]
+fn each_failing_call_ends_as_it_should(rt: HostRuntime) -> Result<(), Fail> {
+    assert_eq!(rt; first_wrong(rt.alloc(), &ROWS)?, None);
     Ok(())
 }

@@ -1,9 +1,12 @@
 // The files that the rows of the table name.
-use lucid_io::MemFile;
+use lucid_base::Memory;
+use lucid_io::{MemFile, MemFiles};
 use std::alloc::{AllocError, Global};
 
-/// Each file: its name, its text, and how often the text is repeated in it.
-const FILES: [(&str, &str, usize); 18] = [
+/// The name of a file, its text, and how often the text is repeated in it.
+type TestFile = (&'static str, &'static str, usize);
+
+const FILES: [TestFile; 18] = [
     // One array, in which each packet leaves a number.
     (
         "first",
@@ -120,25 +123,39 @@ handle pkt(int i) { int n = Array.update(hits, i, plus, 1, plus, 1); generate Ev
 
 /// Whether a file has the name.
 pub(crate) fn is_file(word: &str) -> bool {
-    FILES.iter().any(|(name, _, _)| *name == word)
+    is_among(&FILES, word)
 }
 
-/// All of them, in memory.
-pub(crate) fn files(alloc: Global) -> Result<Vec<MemFile>, AllocError> {
+fn is_among(files: &[TestFile], word: &str) -> bool {
+    files.iter().any(|(name, _, _)| *name == word)
+}
+
+/// All of them, in memory. The opening or the read of this number fails.
+pub(crate) fn files(alloc: Global, fault: u64) -> Result<MemFiles, Memory> {
+    let held = held(alloc, &FILES)?;
+    let fails = vec![in alloc; fault]?;
+    MemFiles::new(alloc, held, fails)
+}
+
+fn held(alloc: Global, files: &[TestFile]) -> Result<Vec<MemFile>, AllocError> {
     let mut held = Vec::new(alloc);
-    for (name, text, count) in FILES.iter() {
-        held.push(file(alloc, name, text, *count)?)?;
+    for file in files {
+        held.push(made(alloc, *file)?)?;
     }
     Ok(held)
 }
 
-fn file(alloc: Global, name: &str, text: &str, count: usize) -> Result<MemFile, AllocError> {
+fn made(alloc: Global, file: TestFile) -> Result<MemFile, AllocError> {
+    let (name, text, count) = file;
+    let bytes = repeated(alloc, text, count)?;
+    let name = String::from_str(alloc, name)?;
+    Ok(MemFile { name, bytes })
+}
+
+fn repeated(alloc: Global, text: &str, count: usize) -> Result<Vec<u8>, AllocError> {
     let mut bytes = Vec::new(alloc);
     for _ in 0..count {
         bytes.extend_from_slice(text.as_bytes())?;
     }
-    Ok(MemFile {
-        name: String::from_str(alloc, name)?,
-        bytes,
-    })
+    Ok(bytes)
 }

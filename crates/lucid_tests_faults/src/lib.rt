@@ -10,6 +10,12 @@ mod failing;
 #[cfg(test)]
 mod files;
 #[cfg(test)]
+mod lists;
+#[cfg(test)]
+mod networks;
+#[cfg(test)]
 mod running;
+#[cfg(test)]
+mod setup;
 #[cfg(test)]
 mod watching;

@@ -1,53 +1,115 @@
 // Calls of the program over a watch that records all sights. A command that shows nothing fails here, so does a `run pipe` that runs handlers
-// whole, and so does a watch that records nothing.
-use crate::running::{NONE, run_watched};
+// whole, and so does a watch that records nothing, or a tick with another count of packets.
+use crate::running::{Faults, NEVER, NONE, run_watched};
+use lucid_base::Memory;
 use lucid_pipe::MemWatch;
 use lucid_top::Status;
 use std::alloc::Global;
 use std::test::Fail;
 
-/// The words of calls that move packets, how many sights each shows, and the number of one of them, from 0: two places that are taken in it,
-/// and one that is not.
-const ROWS: [(&str, usize, usize, u32, u32, u32); 4] = [
+/// The words of a call that moves packets, the write of it that fails, how it ends, how many sights it shows, and places in one of them: the
+/// number of the sight, the place, and whether it is taken.
+type WatchRow = (
+    &'static str,
+    u64,
+    Status,
+    usize,
+    &'static [(usize, u32, bool)],
+);
+
+const ROWS: [WatchRow; 7] = [
     // Events enter at ticks 0 and 1.
-    ("run pipe hits default twice", 30, 1, 0, 1, 2),
-    ("run placed ask two asked places", 30, 1, 0, 1, 2),
-    // After the last step one packet has passed two stages, and one none.
-    ("drive sums three steps", 7, 6, 0, 2, 1),
+    (
+        "run pipe hits default twice",
+        NEVER,
+        Status::Ok,
+        30,
+        &[(1, 0, true), (1, 1, true), (1, 2, false)],
+    ),
+    (
+        "run placed ask two asked places",
+        NEVER,
+        Status::Ok,
+        30,
+        &[(1, 0, true), (1, 1, true), (1, 2, false)],
+    ),
     // Four switches for 1,000 ticks. The one event enters switch 0 at tick 7.
-    ("bench 0 1", 4000, 28, 0, 0, 1),
+    (
+        "bench 0 1",
+        NEVER,
+        Status::Ok,
+        4000,
+        &[(28, 0, true), (28, 1, false)],
+    ),
+    // After the last step one packet has passed two stages, and one none.
+    (
+        "drive sums three steps",
+        NEVER,
+        Status::Ok,
+        7,
+        &[(6, 0, true), (6, 1, false), (6, 2, true)],
+    ),
+    // The steps before a write that fails: at the beginning, in the middle and at the end.
+    ("drive sums three steps", 0, Status::WriteFault, 0, &[]),
+    ("drive sums three steps", 3, Status::WriteFault, 3, &[]),
+    ("drive sums three steps", 8, Status::WriteFault, 7, &[]),
 ];
 
 /// Returns whether a packet was at place `k` in a specified sight.
-fn was_taken(watch: &MemWatch, sight: usize, k: u32) -> bool {
+pub(crate) fn was_taken(watch: &MemWatch, sight: usize, k: u32) -> bool {
     match watch.count() {
         Some(count) => sight < count && watch.taken(sight, k),
         None => false,
     }
 }
 
-/// Returns whether the call of these words shows the sights of the row.
-fn shows(
+/// Makes a call over a watch, and returns how it ends.
+fn watched(
     alloc: Global,
     line: &str,
-    count: usize,
-    sight: usize,
-    first: u32,
-    second: u32,
-    free: u32,
-) -> Result<bool, Fail> {
-    let mut watch = MemWatch::new(alloc);
-    let ran = run_watched(alloc, line, NONE, &mut watch)?;
-    let taken = was_taken(&watch, sight, first) && was_taken(&watch, sight, second);
-    Ok(
-        ran.status == Status::Ok
-            && watch.count() == Some(count)
-            && taken
-            && !was_taken(&watch, sight, free),
-    )
+    faults: Faults,
+    watch: &mut MemWatch,
+) -> Result<Status, Memory> {
+    let ran = run_watched(alloc, line, faults, watch)?;
+    let status = ran.status;
+    drop(ran);
+    Ok(status)
 }
 
-/// Whether the counter holds 0, 1 and 2 in sights 0, 1 and 2: its array is in stage 0, which a packet has run one tick after it entered.
+fn are_places(watch: &MemWatch, places: &[(usize, u32, bool)]) -> bool {
+    places
+        .iter()
+        .all(|(sight, k, taken)| was_taken(watch, *sight, *k) == *taken)
+}
+
+/// Returns whether the call of a row shows its sights.
+fn shows(alloc: Global, row: WatchRow) -> Result<bool, Memory> {
+    let (line, write, status, count, places) = row;
+    let mut watch = MemWatch::new(alloc);
+    let ended = watched(alloc, line, Faults { write, ..NONE }, &mut watch);
+    let is_shown = watch.count() == Some(count) && are_places(&watch, places);
+    drop(watch);
+    Ok(ended? == status && is_shown)
+}
+
+/// Returns the number of the first row whose call shows other sights.
+fn first_wrong(alloc: Global, rows: &[WatchRow]) -> Result<Option<usize>, Memory> {
+    for (at, row) in rows.iter().enumerate() {
+        if !shows(alloc, *row)? {
+            return Ok(Some(at));
+        }
+    }
+    Ok(None)
+}
+
+#[test]
+fn each_command_that_moves_packets_shows_them(rt: HostRuntime) -> Result<(), Fail> {
+    assert_eq!(rt; first_wrong(rt.alloc(), &ROWS)?, None);
+    Ok(())
+}
+
+/// Returns whether the counter holds 0, 1 and 2 in sights 0, 1 and 2: its array is in stage 0, which a packet has run one tick after it
+/// entered.
 fn counts_are_seen(watch: &MemWatch) -> bool {
     match watch.count() {
         Some(count) => {
@@ -60,21 +122,40 @@ fn counts_are_seen(watch: &MemWatch) -> bool {
     }
 }
 
-#[test]
-fn a_sight_has_the_cells_of_each_stage(rt: HostRuntime) -> Result<(), Fail> {
-    let mut watch = MemWatch::new(rt.alloc());
-    run_watched(rt.alloc(), "run pipe hits default twice", NONE, &mut watch)?;
-    assert!(rt; counts_are_seen(&watch), "cells of a sight");
-    Ok(())
+/// The number of packets in flight after a tick. Two events enter at ticks 0 and 1, and the events that they sent at ticks 22 and 23. There
+/// are 12 stages.
+fn in_flight(tick: usize) -> usize {
+    match tick {
+        0 | 12 | 22 => 1,
+        1..=11 | 23..=29 => 2,
+        _ => 0,
+    }
+}
+
+/// Returns whether this many of the 12 places are taken in a sight.
+fn are_taken(watch: &MemWatch, sight: usize, packets: usize) -> bool {
+    (0..12u32).filter(|k| was_taken(watch, sight, *k)).count() == packets
+}
+
+/// Returns whether the packets of each tick are in flight, for as many ticks as there are stages, and the first two take the first slots.
+fn flights_are_seen(watch: &MemWatch) -> bool {
+    was_taken(watch, 0, 0)
+        && was_taken(watch, 1, 0)
+        && was_taken(watch, 1, 1)
+        && (0..30usize).all(|tick| are_taken(watch, tick, in_flight(tick)))
+}
+
+/// Returns whether a watch sees the packets and the counter of a network on pipelines at each tick.
+fn ticks_are_seen(alloc: Global) -> Result<bool, Memory> {
+    let mut watch = MemWatch::new(alloc);
+    let ended = watched(alloc, "run pipe hits default twice", NONE, &mut watch);
+    let are_seen = counts_are_seen(&watch) && flights_are_seen(&watch);
+    drop(watch);
+    Ok(ended? == Status::Ok && are_seen)
 }
 
 #[test]
-fn each_command_that_moves_packets_shows_them(rt: HostRuntime) -> Result<(), Fail> {
-    for (line, count, sight, first, second, free) in ROWS {
-        assert!(rt;
-            shows(rt.alloc(), line, count, sight, first, second, free)?,
-            "sights of {line}"
-        );
-    }
+fn a_sight_has_the_packets_and_the_cells_of_each_tick(rt: HostRuntime) -> Result<(), Fail> {
+    assert!(rt; ticks_are_seen(rt.alloc())?);
     Ok(())
 }

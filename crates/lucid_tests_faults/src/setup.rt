@@ -1,7 +1,7 @@
 // A program from text, placed by first fit without passes, with the limits of its target and a scenario.
 ghost use Rattle.std.specs.Prelude.{IfOk};
 ghost use Rattle.lucid_effects_spec.specs.Order.{IsAccepted};
-ghost use Rattle.lucid_tests_drive.specs.Setup.{Runs};
+ghost use Rattle.lucid_tests_faults.specs.Setup.{Runs};
 
 use lucid_conf::{Limits, Scene};
 use lucid_core::Core;
@@ -12,15 +12,6 @@ use lucid_top_program::{accepted, limits, scenario};
 use lucid_top_words::Refusal;
 use std::alloc::Global;
 use std::test::Fail;
-
-/// The second array, in stage 1, holds the sum so far of the first one, in stage 0; the third one is in no stage.
-pub(crate) const SUMS: &str =
-    "global Array.t<<32>> x = Array.create(2); global Array.t<<32>> y = Array.create(2); global Array.t<<32>> z = Array.create(4); \
-    memop plus(int stored, int a) { return stored + a; } event hit(int v); \
-    handle hit(int v) { Array.set(y, 0, Array.update(x, 0, plus, v, plus, v)); }";
-
-/// As many stages as packets can be in flight.
-pub(crate) const THREE_STAGES: &str = r#"{"stages":3}"#;
 
 /// All that a run on pipelines needs.
 #[derive(Drop)]
@@ -36,7 +27,7 @@ pub(crate) struct Setup {
 struct Refused;
 
 /// Reads a program.
-pub(crate) fn core_of(alloc: Global, program: &str) -> Result<Core, Fail>
+fn core_of(alloc: Global, program: &str) -> Result<Core, Fail>
     ensures { IfOk result IsAccepted }
 {
     match accepted(alloc, program.as_bytes()) {

@@ -1,10 +1,10 @@
 // A network on pipelines, tick by tick: how many packets are in flight at a switch, and which slots of its pipe they take. It fails on one
 // tick with another count, and over a watch that records nothing.
 ghost use Rattle.std.specs.Prelude.{◌≡◌};
-ghost use Rattle.lucid_tests_drive.specs.Setup.{Runs};
+ghost use Rattle.lucid_tests_faults.specs.Setup.{Runs};
 
-use crate::drives::was_taken;
 use crate::setup::{Setup, set_up};
+use crate::watching::was_taken;
 use lucid_conf::Scene;
 use lucid_io::MemSink;
 use lucid_net::Net;
