@@ -1,0 +1,7 @@
+use Rattle.std.proofs.Common.{◌≡◌, ◌++◌, drop}
+use Rattle.std.specs.Vec.Iter.{into_iter_items}
+use Rattle.lucid_main.proofs.words.take_words.Given as goal
+
+-- What was copied, followed by what is left, is all but the name.
+abbrev pub invariant-loop-word : goal.invariant-loop-word
+invariant-loop-word l = l.words.items ++ into_iter_items l.word-iterator ≡ drop 1 (into_iter_items l.fn.given)
