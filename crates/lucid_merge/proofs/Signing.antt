@@ -1,5 +1,5 @@
 -- Where two patterns include that of a row, their bits have all of the row's signature.
-use Rattle.std.proofs.Common.{◌≡◌, ℕ, List, [], ◌∷◌, ◌++◌, Bool, true, false, not, ◌||◌, Result, Ok, Err, is_ok, if◌then◌else◌, max, nat_eq, slice_index_or, ◌<◌, length, zero, suc, refl, sym, ap, subst, ◌∙◌, ⊎_elim, arith, bit_or}
+use Rattle.std.proofs.Common.{◌≡◌, ℕ, List, [], ◌∷◌, ◌++◌, Bool, true, false, not, ◌||◌, Result, Ok, Err, is_ok, if◌then◌else◌, max, nat_eq, slice_index_or, ◌<◌, length, zero, suc, refl, sym, ap, ap₂, subst, ◌∙◌, ⊎_elim, arith, bit_or}
 use Rattle.std.specs.List.{list_all, list_any}
 use Rattle.std.specs.Int.{bit_at}
 use Rattle.std.specs.Int.Bits.{or_self}
@@ -9,13 +9,11 @@ use Rattle.std.proofs.lemmas.Bool.{and_parts, and_from, or_cases, or_left, or_ri
 use Rattle.lucid_code.specs.declared.op.Literal.{Literal}
 use Rattle.lucid_tables.specs.declared.table.Row.{Row}
 use Rattle.lucid_merge.specs.declared.kept.Signed.{Signed}
-use Rattle.lucid_merge.specs.Marks.{is_marked, is_told, AreTold}
 use Rattle.lucid_merge.specs.Product.{is_same, has, union, includes}
 use Rattle.lucid_merge.specs.Signs.{bits_at, with_bits, is_signed, AreSigned, rows_of, covers, is_heard, AreHeard}
-use Rattle.lucid_merge.proofs.Marking.{told_still}
 use Rattle.lucid_merge.proofs.Literals.{literal_is, has_union, included, same_refl}
 
-or_assoc : (a b c : ℕ) → bit_or (bit_or a b) c ≡ bit_or a (bit_or b c)
+pub or_assoc : (a b c : ℕ) → bit_or (bit_or a b) c ≡ bit_or a (bit_or b c)
 or_assoc a b c = same_from_bits (bit_or (bit_or a b) c) (bit_or a (bit_or b c)) (λ i.
     bit_at_or (bit_or a b) c i ∙ ap (λ n. max n (bit_at c i)) (bit_at_or a b i)
     ∙ most (bit_at a i) (bit_at b i) (bit_at c i)
@@ -111,15 +109,12 @@ pub rows_push : (rows : List Signed) (s : Signed) → rows_of (rows ++ s ∷ [])
 rows_push [] s = refl
 rows_push (x ∷ rows) s = ap (λ l. x.row ∷ l) (rows_push rows s)
 
+-- the bits of two patterns, as they are put together
+pub both_bits : (bits own : List ℕ) (p q : List Literal) (r s : ℕ) → own ≡ bits → r ≡ with_bits own 0 p → s ≡ with_bits own r q → s ≡ with_bits bits (with_bits bits 0 p) q
+both_bits bits own p q r s e f g = g ∙ ap₂ (λ (b : List ℕ) (n : ℕ). with_bits b n q) e (f ∙ ap (λ (b : List ℕ). with_bits b 0 p) e)
+
 -- a row that is put behind the others with its signature, or isn't
-pub kept_still : {A E : Type 0} (marks new bits : List ℕ) (rows after : List Signed) (row : Row) (sign : ℕ) (r : Result A E) → ((i : ℕ) → is_marked marks i ≡ true → is_marked new i ≡ true) →
-    AreTold marks (rows_of rows) × AreSigned bits rows → is_told new row.pattern ≡ true → sign ≡ with_bits bits 0 row.pattern →
-    after ≡ (if is_ok r then rows ++ record { row = row; sign = sign } ∷ [] else rows) → AreTold new (rows_of after) × AreSigned bits after
-kept_still {A = A} {E = E} marks new bits rows after row sign (Ok u) more h t s is = (
-  told_still {A = A} {E = E} marks new (rows_of rows) (rows_of after) row (Ok u) more h.0 t (ap rows_of is ∙ rows_push rows (record { row = row; sign = sign })) tt,
-  subst (AreSigned bits) (sym is) (more_signed bits rows (record { row = row; sign = sign }) h.1 (eq-eqb sign (with_bits bits 0 row.pattern) s)),
-)
-kept_still {A = A} {E = E} marks new bits rows after row sign (Err e) more h t s is = (
-  told_still {A = A} {E = E} marks new (rows_of rows) (rows_of after) row (Err e) more h.0 t tt (ap rows_of is),
-  subst (AreSigned bits) (sym is) h.1,
-)
+pub kept_still : {A E : Type 0} (bits : List ℕ) (rows after : List Signed) (row : Row) (sign : ℕ) (r : Result A E) → AreSigned bits rows → sign ≡ with_bits bits 0 row.pattern →
+    after ≡ (if is_ok r then rows ++ record { row = row; sign = sign } ∷ [] else rows) → AreSigned bits after
+kept_still bits rows after row sign (Ok u) h s is = subst (AreSigned bits) (sym is) (more_signed bits rows (record { row = row; sign = sign }) h (eq-eqb sign (with_bits bits 0 row.pattern) s))
+kept_still bits rows after row sign (Err e) h s is = subst (AreSigned bits) (sym is) h

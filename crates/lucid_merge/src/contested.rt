@@ -47,13 +47,20 @@ fn contradict_by(lone: &[Literal], p: &[Literal], q: &[Literal]) -> bool
     any_opposes(lone, p, q) || any_opposes(lone, q, p)
 }
 
+/// Returns whether two literals of a pattern never hold together.
+fn contradicts_itself(lone: &[Literal], p: &[Literal]) -> bool
+    ensures { result ≡ guards.contradict p.now p.now }
+{
+    any_opposes(lone, p, p)
+}
+
 /// Returns whether two patterns together ask for two values of one field. That the one asks for another value than the other is the
 /// likeliest.
 #[tactic(auto, using(crate::proofs::Beside::clash_turned))]
 pub(crate) fn clash_by(lone: &[Literal], p: &[Literal], q: &[Literal]) -> bool
     ensures { result ≡ clash p.now q.now }
 {
-    contradict_by(lone, p, q) || contradict_by(lone, p, p) || contradict_by(lone, q, q)
+    contradict_by(lone, p, q) || contradicts_itself(lone, p) || contradicts_itself(lone, q)
 }
 
 /// For each field of these rows the one literal that names it, or one of another place if there are more. Any literals would serve.

@@ -1,11 +1,11 @@
 // Two rows as one: the union of their patterns, and the operations of both. Marks of the literals so far tell which of the others are new.
-ghost use Rattle.std.specs.Prelude.{◌≡◌, IfOk, OnOk};
+ghost use Rattle.std.specs.Prelude.{◌≡◌, ◌<◌, ℕ, true, slice_index_or, IfOk, OnOk};
 ghost use Rattle.std.specs.List.{fold};
-ghost use Rattle.lucid_merge.specs.Marks.{AreSeen};
+ghost use Rattle.lucid_merge.specs.Marks.{AreSeen, is_marked};
 ghost use Rattle.lucid_merge.specs.Product.{has, with_literal, pair};
 
-use crate::kept::{is_marked, mark, set_mark, slot};
 use crate::patterns::has_near;
+use crate::signs::slot;
 use lucid_base::{Items, Memory};
 use lucid_code::Literal;
 use lucid_tables::Row;
@@ -27,16 +27,53 @@ pub(crate) fn pair(alloc: Global, a: &Row, b: &Row) -> Result<Row, Memory>
 }
 
 /// Places for the marks of the literals of two patterns; none where there are so few literals that all are marked.
-fn marks_for(alloc: Global, p: &[Literal], q: &[Literal]) -> Result<Vec<usize>, Memory> {
+fn marks_for(alloc: Global, p: &[Literal], q: &[Literal]) -> Result<Vec<u16>, Memory> {
     if p.len() > 32 || q.len() > 32 {
-        Ok(vec![in alloc; 0; 4097]?)
+        Ok(vec![in alloc; 0u16; 4097]?)
     } else {
         Ok(Vec::new(alloc))
     }
 }
 
+fn mark(marks: &[u16], place: usize) -> usize
+    ensures { result ≡ slice_index_or marks.now place 1 }
+{
+    match marks.get(place) {
+        None => 1,
+        Some(found) => usize::from(*found),
+    }
+}
+
+fn is_marked(marks: &[u16], place: usize) -> bool
+    ensures { result ≡ is_marked marks.now place }
+{
+    mark(marks, place) != 0
+}
+
+/// Returns a number that is not 0 in 16 bits; one that is too large gets the largest.
+fn short(number: usize) -> u16
+    requires { 0 < number }
+    ensures { 0 < result }
+{
+    match u16::try_from(number) {
+        Ok(short) => short,
+        Err(_) => u16::MAX,
+    }
+}
+
+/// Marks a place, if it is there.
+fn set_mark(marks: &mut Vec<u16>, place: usize, number: usize)
+    requires { 0 < number }
+    ensures place { is_marked marks.new.items place ≡ true }
+    ensures others { (i : ℕ) → is_marked marks.old.items i ≡ true → is_marked marks.new.items i ≡ true }
+{
+    if place < marks.len() {
+        marks[place] = short(number);
+    }
+}
+
 /// Whether a pattern has a literal. The mark of a literal in it is its number from 1, or that of another literal with the same place.
-fn has_seen(seen: &[usize], pattern: &[Literal], literal: Literal) -> bool
+fn has_seen(seen: &[u16], pattern: &[Literal], literal: Literal) -> bool
     requires { AreSeen seen.now pattern.now }
     ensures { result ≡ has pattern.now literal }
 {
@@ -50,7 +87,7 @@ fn has_seen(seen: &[usize], pattern: &[Literal], literal: Literal) -> bool
 /// Puts a literal behind a pattern that doesn't have it.
 fn put_literal(
     literal: Literal,
-    seen: &mut Vec<usize>,
+    seen: &mut Vec<u16>,
     pattern: &mut Items<Literal>,
 ) -> Result<(), Memory>
     requires { AreSeen seen.old.items pattern.old }
@@ -70,7 +107,7 @@ fn put_literal(
 /// Puts each of these literals behind a pattern that doesn't have it.
 fn put_literals(
     more: &[Literal],
-    seen: &mut Vec<usize>,
+    seen: &mut Vec<u16>,
     pattern: &mut Items<Literal>,
 ) -> Result<(), Memory>
     requires { AreSeen seen.old.items pattern.old }

@@ -1,12 +1,19 @@
 // Signatures of patterns: 64 bits that exclude, for most rows, that two patterns include theirs.
 ghost use Rattle.std.specs.Prelude.{◌≡◌};
+ghost use Rattle.lucid_merge.specs.Marks.{slot};
 ghost use Rattle.lucid_merge.specs.Signs.{bits_at, with_bits};
 
-use crate::kept::slot;
 use lucid_base::Memory;
 use lucid_code::Literal;
 use lucid_tables::Row;
 use std::alloc::Global;
+
+/// Returns the index of a literal's mark and bits.
+pub(crate) fn slot(literal: Literal) -> usize
+    ensures { result ≡ slot literal }
+{
+    ((literal.value ^ (u64::from(literal.field) * 521)) % 4096) as usize + 1
+}
 
 fn bits_at(bits: &[u64], literal: Literal) -> u64
     ensures { result ≡ bits_at bits.now literal }

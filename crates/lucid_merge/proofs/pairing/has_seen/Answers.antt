@@ -1,6 +1,6 @@
 use Rattle.std.proofs.Common.{sym, ap, ◌∙◌}
 use Rattle.lucid_merge.specs.Marks.{is_marked}
-use Rattle.lucid_merge.proofs.Marking.{unseen}
+use Rattle.lucid_merge.proofs.PairingLemmas.{unseen}
 use Rattle.lucid_merge.proofs.pairing.has_seen.Goals as goal
 
 pub returns-then-not-is_marked : goal.returns-then-not-is_marked

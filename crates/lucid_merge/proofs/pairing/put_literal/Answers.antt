@@ -1,7 +1,7 @@
 use Rattle.std.proofs.Common.{List, ℕ, sym, ap, subst, ◌∙◌}
 use Rattle.lucid_code.specs.declared.op.Literal.{Literal}
 use Rattle.lucid_merge.specs.Marks.{is_marked, AreSeen}
-use Rattle.lucid_merge.proofs.Marking.{one_seen}
+use Rattle.lucid_merge.proofs.PairingLemmas.{one_seen}
 use Rattle.lucid_merge.proofs.pairing.put_literal.Goals as goal
 
 pub has_seen-requires : goal.has_seen-requires
