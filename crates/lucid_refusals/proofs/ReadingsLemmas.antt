@@ -1,6 +1,6 @@
 -- Readings of literals as others: if they keep which literals are the same and which are opposed, a table that refuses the one shape
 -- refuses the other.
-use Rattle.std.proofs.Common.{◌≡◌, ℕ, ◌+◌, ◌<◌, ◌≤◌, List, [], ◌∷◌, ◌++◌, Bool, true, false, not, ◌&&◌, ◌||◌, ◌⊎◌, inl, inr, if◌then◌else◌, length, drop, nat_eq, slice_index_or, refl, sym, ap, ap₂, subst, ◌∙◌, ⊎_elim, add-one, append-nil, append_assoc, drop-cons, drop_of_length-le, arith}
+use Rattle.std.proofs.Common.{◌≡◌, ℕ, ◌+◌, ◌<◌, ◌≤◌, List, [], ◌∷◌, ◌++◌, Bool, true, false, cond, not, ◌&&◌, ◌||◌, ◌⊎◌, inl, inr, if◌then◌else◌, length, drop, nat_eq, slice_index_or, refl, sym, ap, ap₂, subst, ◌∙◌, ⊎_elim, add-one, append-nil, append_assoc, drop-cons, drop_of_length-le, arith}
 use Rattle.std.specs.List.{All, fold, list_all, list_any}
 use Rattle.std.proofs.lemmas.Bool.{and_parts, and_from, or_cases, or_left, or_right, eqb-true, eq-eqb, true≢false}
 use Rattle.std.proofs.lemmas.List.Folds.{list_any-append}
@@ -11,7 +11,7 @@ use Rattle.lucid_merge.specs.RowCounts.{patterns_of, KeepsApart, Reads, AllReads
 use Rattle.lucid_merge.proofs.Literals.{literal_is, same_refl, has_fold, passes}
 use Rattle.lucid_refusals.proofs.RefusalLemmas.{bare, bare_patterns}
 use Rattle.lucid_refusals.specs.declared.readings.Reading.{Reading}
-use Rattle.lucid_refusals.specs.Readings.{keeps_sign, agree, itself, agrees_with, agrees_with_all, is_apart, are_apart, reading_of, readings_of, same_lengths}
+use Rattle.lucid_refusals.specs.Readings.{keeps_sign, agree, itself, agrees_with, agrees_with_all, is_apart, are_apart, is_known, others_of, reading_of, readings_of, same_lengths}
 use Rattle.lucid_refusals.specs.Refusal.{Refuses, literals_of}
 
 -- ---- readings that agree
@@ -74,6 +74,53 @@ agree_turned x y h =
     ∙ ap (λ v. agreeing (nat_eq x.own.field y.own.field) (nat_eq x.other.field y.other.field) v (nat_eq y.other.value x.other.value)) (eq_turned y.own.value x.own.value)
     ∙ ap (λ w. agreeing (nat_eq x.own.field y.own.field) (nat_eq x.other.field y.other.field) (nat_eq x.own.value y.own.value) w) (eq_turned y.other.value x.other.value)
     ∙ h
+
+-- ---- readings of the table's literals as themselves
+
+module _ (literals : List Literal) where
+  from_others : (test : Reading → Bool) → ((x : Reading) → is_known literals x ≡ true → test x ≡ true) → (xs : List Reading) → list_all test (others_of literals xs) ≡ true → list_all test xs ≡ true
+  from_others test k [] h = refl
+  from_others test k (x ∷ xs) h = by (is_known literals x) refl (from_others test k xs) h
+    where
+      by : (b : Bool) → is_known literals x ≡ b → (list_all test (others_of literals xs) ≡ true → list_all test xs ≡ true) →
+          list_all test (cond (not b) (x ∷ others_of literals xs) (others_of literals xs)) ≡ true → list_all test (x ∷ xs) ≡ true
+      by true e rest g = and_from (test x) (list_all test xs) (k x e) (rest g)
+      by false e rest g =
+          let parts = and_parts (test x) (list_all test (others_of literals xs)) g in
+          and_from (test x) (list_all test xs) parts.0 (rest parts.1)
+
+  known_sign : (x : Reading) → is_known literals x ≡ true → keeps_sign x ≡ true
+  known_sign x h = ap (λ (l : Literal). if x.own.equal then l.equal else not l.equal) (sym (literal_is x.own x.other (and_parts (is_same x.own x.other) (has literals x.own) h).0)) ∙ own_sign x.own.equal
+
+  known_agrees : (x y : Reading) → agrees_with x literals ≡ true → is_known literals y ≡ true → agree x y ≡ true
+  known_agrees x y a h =
+      let parts = and_parts (is_same y.own y.other) (has literals y.own) h in
+      ap (λ (l : Literal). agree x (record { own = y.own; other = l })) (sym (literal_is y.own y.other parts.0)) ∙ passes (λ l. agree x (itself l)) literals y.own a parts.1
+
+  still_apart : (readings : List Reading) (x : Reading) → is_apart literals (others_of literals readings) x ≡ true → is_apart literals readings x ≡ true
+  still_apart readings x h = ⊎_elim
+      (λ e. or_left (is_same x.own x.other) (agrees_with_all literals readings x) e)
+      (λ e. let parts = and_parts (list_all (agree x) (others_of literals readings)) (agrees_with x literals) e in
+      or_right (is_same x.own x.other) (agrees_with_all literals readings x)
+      (and_from (list_all (agree x) readings) (agrees_with x literals) (from_others (agree x) (λ y k. known_agrees x y parts.1 k) readings parts.0) parts.1))
+      (or_cases (is_same x.own x.other) (agrees_with_all literals (others_of literals readings) x) h)
+
+  all_still : (readings xs : List Reading) → list_all (is_apart literals (others_of literals readings)) xs ≡ true → list_all (is_apart literals readings) xs ≡ true
+  all_still readings [] h = refl
+  all_still readings (x ∷ xs) h =
+      let parts = and_parts (is_apart literals (others_of literals readings) x) (list_all (is_apart literals (others_of literals readings)) xs) h in
+      and_from (is_apart literals readings x) (list_all (is_apart literals readings) xs) (still_apart readings x parts.0) (all_still readings xs parts.1)
+
+  -- the other readings decide for all of them
+  pub apart_of : (readings : List Reading) → are_apart literals (others_of literals readings) ≡ true → are_apart literals readings ≡ true
+  apart_of readings h =
+      let others = others_of literals readings in
+      let parts = and_parts (list_all keeps_sign others) (list_all (is_apart literals others) others) h in
+      and_from (list_all keeps_sign readings) (list_all (is_apart literals readings) readings)
+      (from_others keeps_sign known_sign readings parts.0)
+      (from_others (is_apart literals readings)
+      (λ x k. or_left (is_same x.own x.other) (agrees_with_all literals readings x) (and_parts (is_same x.own x.other) (has literals x.own) k).0)
+      readings (all_still readings others parts.1))
 
 -- ---- readings beside a table
 

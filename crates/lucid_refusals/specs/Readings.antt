@@ -1,8 +1,8 @@
 -- Literals of one shape, read as those of another. Only the search uses them.
 use Rattle.std.specs.Prelude.{List, [], ◌∷◌, ◌++◌, Bool, true, false, not, ◌&&◌, ◌||◌, if◌then◌else◌, length, nat_eq}
-use Rattle.std.specs.List.{list_all}
+use Rattle.std.specs.List.{filter, list_all}
 use Rattle.lucid_code.specs.declared.op.Literal.{Literal}
-use Rattle.lucid_merge.specs.Product.{is_same}
+use Rattle.lucid_merge.specs.Product.{is_same, has}
 use Rattle.lucid_refusals.specs.declared.readings.Reading.{Reading}
 
 -- A test for equality is read as one for equality.
@@ -34,6 +34,14 @@ is_apart literals readings x = is_same x.own x.other || agrees_with_all literals
 -- The readings, beside these literals, keep which literals are the same and which are opposed.
 abbrev pub are_apart : List Literal → List Reading → Bool
 are_apart literals readings = list_all keeps_sign readings && list_all (is_apart literals readings) readings
+
+-- A literal of these is read as itself.
+abbrev pub is_known : List Literal → Reading → Bool
+is_known literals x = is_same x.own x.other && has literals x.own
+
+-- The other readings.
+abbrev pub others_of : List Literal → List Reading → List Reading
+others_of literals readings = filter (λ x. not (is_known literals x)) readings
 
 -- Each literal of the one pattern is read as the one at its place in the other.
 abbrev pub reading_of : List Literal → List Literal → List Reading

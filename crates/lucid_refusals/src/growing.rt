@@ -16,15 +16,48 @@ use lucid_tables::{Row, Table};
 use std::alloc::Global;
 use std::marker::Model;
 
-/// Returns whether a remembered refusal implies that the table refuses this shape.
-fn refuses_shape(alloc: Global, known: &Refusals, shape: &[Items<Literal>]) -> Result<bool, Memory>
+/// Returns whether the remembered refusal at a position implies that the table refuses this shape.
+fn refuses_like(
+    alloc: Global,
+    known: &Refusals,
+    at: usize,
+    shape: &[Items<Literal>],
+) -> Result<bool, Memory>
     ensures { IfOk result (λ r. IsTrue r → Refuses known.now.rows known.now.patterns shape.now) }
 {
     let literals = known.literals.as_slice();
     let shapes = known.shapes.as_slice();
-    for found in shapes {
-        let own = found.as_slice();
-        if implies(alloc, literals, own, shape)? {
+    if at >= shapes.len() {
+        return Ok(false);
+    }
+    let own = shapes[at].as_slice();
+    if implies(alloc, literals, own, shape)? {
+        return Ok(true);
+    }
+    Ok(false)
+}
+
+/// Returns whether a remembered refusal implies that the table refuses this shape. The one that did last is asked first, and then those
+/// behind it, since the nodes of similar handlers come in one order.
+fn refuses_shape(
+    alloc: Global,
+    known: &Refusals,
+    shape: &[Items<Literal>],
+    last: &mut usize,
+) -> Result<bool, Memory>
+    ensures { IfOk result (λ r. IsTrue r → Refuses known.now.rows known.now.patterns shape.now) }
+{
+    let count = known.shapes.len();
+    let first = (*last).min(count);
+    for at in first..count {
+        if refuses_like(alloc, known, at, shape)? {
+            *last = at;
+            return Ok(true);
+        }
+    }
+    for at in 0..first {
+        if refuses_like(alloc, known, at, shape)? {
+            *last = at;
             return Ok(true);
         }
     }
@@ -38,13 +71,14 @@ fn is_refused(
     table: &[Row],
     more: &[Row],
     rows: usize,
+    last: &mut usize,
 ) -> Result<bool, Memory>
     requires { IfSome known.now (λ k. patterns_of table.now ≡ k.patterns) }
     ensures { IfOk result (λ r. IsTrue r → rows < length (product table.now more.now)) }
 {
     match known {
         None => Ok(false),
-        Some(known) => refuses(alloc, known, table, more, rows),
+        Some(known) => refuses(alloc, known, table, more, rows, last),
     }
 }
 
@@ -62,6 +96,7 @@ fn refuses(
     table: &[Row],
     more: &[Row],
     rows: usize,
+    last: &mut usize,
 ) -> Result<bool, Memory>
     requires { patterns_of table.now ≡ known.now.patterns }
     ensures { IfOk result (λ r. IsTrue r → rows < length (product table.now more.now)) }
@@ -75,7 +110,7 @@ fn refuses(
     let fields = known.fields.as_slice();
     let shape = shape_of(alloc, fields, more)?;
     let asked = shape.as_slice();
-    if refuses_shape(alloc, known, asked)? {
+    if refuses_shape(alloc, known, asked, last)? {
         return Ok(true);
     }
     Ok(false)
@@ -185,6 +220,7 @@ fn merged(
     table: &Table,
     more: &Table,
     rows: usize,
+    last: &mut usize,
 ) -> Result<Option<Table>, Memory>
     requires { IfSome known.old (λ k. patterns_of table.now.rows ≡ k.patterns) }
     ensures value { IfOk result (λ found. found ≡ within rows (product table.now.rows more.now.rows)) }
@@ -192,7 +228,7 @@ fn merged(
 {
     let own = table.rows.as_slice();
     let others = more.rows.as_slice();
-    if is_refused(alloc, &*known, own, others, rows)? {
+    if is_refused(alloc, &*known, own, others, rows, last)? {
         return Ok(None);
     }
     match merge(alloc, table, more, rows)? {
@@ -204,11 +240,13 @@ fn merged(
     }
 }
 
-/// A table that grows, and the shapes of the rows that it refused. Contracts see the table.
+/// A table that grows, and the shapes of the rows that it refused. The one that implied the last refusal is asked first. Contracts see the
+/// table.
 #[derive(Drop)]
 pub struct Grown {
     table: Table,
     known: Option<Refusals>,
+    last: usize,
 }
 
 impl Model for Grown {
@@ -228,7 +266,11 @@ impl Grown {
     pub fn new(table: Table) -> Grown
         ensures { result ≡ table }
     {
-        Grown { table, known: None }
+        Grown {
+            table,
+            known: None,
+            last: 0,
+        }
     }
 
     /// Returns the table.
@@ -249,6 +291,13 @@ impl Grown {
         ensures value { IfOk result (λ found. found ≡ within rows (product self.old.rows more.now.rows)) }
         ensures same { self.new ≡ self.old }
     {
-        merged(alloc, &mut self.known, &self.table, more, rows)
+        merged(
+            alloc,
+            &mut self.known,
+            &self.table,
+            more,
+            rows,
+            &mut self.last,
+        )
     }
 }

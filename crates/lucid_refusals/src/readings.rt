@@ -3,11 +3,11 @@
 // the literals of the table.
 ghost use Rattle.std.specs.Prelude.{◌≡◌, ◌++◌, length, true, IfOk, IfSome, OnOk, IsTrue};
 ghost use Rattle.std.specs.List.{list_all};
-ghost use Rattle.lucid_refusals.specs.Readings.{keeps_sign, agree, itself, agrees_with, agrees_with_all, is_apart, are_apart, reading_of, readings_of, same_lengths};
+ghost use Rattle.lucid_refusals.specs.Readings.{keeps_sign, agree, itself, agrees_with, agrees_with_all, is_apart, are_apart, reading_of, readings_of, same_lengths, is_known, others_of};
 
 use lucid_base::{Items, Memory};
 use lucid_code::Literal;
-use lucid_merge::is_same;
+use lucid_merge::{has_near, is_same};
 use std::alloc::Global;
 
 /// A literal, and the one that it is read as.
@@ -135,6 +135,35 @@ fn read_as(
     Ok(Some(readings))
 }
 
+/// Returns whether a literal of the table is read as itself. It is looked for at a likely position first.
+fn is_known(literals: &[Literal], likely: usize, x: Reading) -> bool
+    ensures { result ≡ is_known literals.now x }
+{
+    is_same(x.own, x.other) && has_near(literals, likely, x.own)
+}
+
+/// Returns the readings except those of literals of the table as themselves. A guard that the rows have in common is mostly at the front of
+/// the table's literals.
+fn others_of(
+    alloc: Global,
+    literals: &[Literal],
+    readings: &[Reading],
+) -> Result<Items<Reading>, Memory>
+    ensures { IfOk result (λ others. others ≡ others_of literals.now readings.now) }
+{
+    let mut others = Items::new(alloc);
+    let mut likely = 0usize;
+    for x in readings {
+        if is_known(literals, likely, *x) {
+            likely = likely.saturating_add(1);
+        } else {
+            likely = 0;
+            others.push(*x)?;
+        }
+    }
+    Ok(others)
+}
+
 /// Returns whether the literals of a known shape can be read as those of another, beside the literals of a table.
 pub(crate) fn fits(
     alloc: Global,
@@ -147,10 +176,11 @@ pub(crate) fn fits(
     let Some(readings) = read_as(alloc, known, shape)? else {
         return Ok(false);
     };
-    if !are_few(literals, readings.as_slice()) {
+    let others = others_of(alloc, literals, readings.as_slice())?;
+    if !are_few(literals, others.as_slice()) {
         return Ok(false);
     }
-    if are_apart(literals, readings.as_slice()) {
+    if are_apart(literals, others.as_slice()) {
         return Ok(true);
     }
     Ok(false)
