@@ -1,5 +1,5 @@
 -- Parts of a body with few locals have few: the conditions of each call of the code, from those of its caller.
-use Rattle.std.proofs.Common.{◌≡◌, ℕ, zero, suc, ◌+◌, ◌<◌, ◌≤◌, List, [], ◌∷◌, ◌++◌, Bool, true, false, ◌&&◌, drop, Option, None, Some, length, map, take, refl, sym, ap, subst, ◌∙◌, arith, append-nil, length-append, nat_lt, slice_get, slice_index_or, option_map, option_to_list}
+use Rattle.std.proofs.Common.{◌≡◌, ℕ, suc, ◌+◌, ◌<◌, ◌≤◌, List, [], ◌∷◌, ◌++◌, Bool, true, false, ◌&&◌, Option, None, Some, length, map, take, refl, sym, ap, subst, ◌∙◌, arith, append-nil, length-append, nat_lt, slice_get, option_map, option_to_list}
 use Rattle.std.specs.List.{enumerate_from, list_all}
 use Rattle.std.proofs.lemmas.Bool.{and_from, and_parts, ltb-true}
 use Rattle.std.proofs.lemmas.List.{length-map, map-append}
@@ -23,9 +23,9 @@ use Rattle.lucid_inline_spec.proofs.Grows.{AllGrow, expr_grows, exprs_grow, put_
 use Rattle.lucid_inline_spec.proofs.LengthLaw.{grow_puts}
 use Rattle.lucid_inline_spec.proofs.Locals.{begins_length}
 use Rattle.lucid_inline.specs.Numbers.{Few, FewBoth, FewExpr, FewExprs, FewOptional, FewStmts, FewTouch, most}
-use Rattle.lucid_inline.specs.Sites.{called, place}
+use Rattle.lucid_inline.specs.Sites.{called, flattened, place}
 use Rattle.lucid_inline.specs.declared.site.Site as code
-use Rattle.lucid_inline.proofs.Puts.{each_last, flat_of-delayed, flat_of-multi, grouped, puts_of-at}
+use Rattle.lucid_inline.proofs.Puts.{behind, delayed_held, each_last, flat_of-delayed, flat_of-multi, grouped, puts_of-at}
 
 -- A part that is made before the end, and is named where the whole is.
 few_part : {A B : Type 0} {test : A → Test} {other : B → Test} {whole : Flattened A} {part : Flattened B} → length part.locals ≤ length whole.locals →
@@ -127,12 +127,6 @@ given_named : (scope : Scope) (b : ℕ) (xs : List Expr) → given_names scope b
 given_named scope b [] h = refl
 given_named scope b (x ∷ xs) h = let both = and_parts _ _ h in and_from _ _ (and_parts _ _ both.0).1 (given_named scope (b + 1) xs both.1)
 
--- The rest of a list from the position of one of its elements.
-pub drop_one : {A : Type 0} (xs : List A) (i : ℕ) (x : A) → i < length xs → x ≡ slice_index_or xs i x → (rest : List A) × (drop i xs ≡ x ∷ rest)
-drop_one [] i x l is = absurd (omega (arith, l))
-drop_one {A = A} (y ∷ ys) zero x l is = (ys, ap (λ (q : A). q ∷ ys) (sym is))
-drop_one (y ∷ ys) (suc i) x l is = drop_one ys i x (omega (arith, l)) is
-
 -- ---- calls
 
 put_room : (fs : List FunDef) (k : ℕ) (arrays : List ℕ) (args : List Expr) (ws : List ℕ) → FewExpr (called (slice_get (puts_of fs) k) arrays args ws) → length ws + length args ≤ most
@@ -186,11 +180,36 @@ module _ (site : code.Site) where
   operand_longer None ws = omega arith
   operand_longer (Some x) ws = expr_longer x ws
 
+  pub local_room : (i : ℕ) (ws : List ℕ) → FewExpr (flat_expr (e.Local i) p ws) → p.first + i < most
+  local_room i ws few =
+      let node = opened_expr p (Expr-F.Local i) (e.Local i) (e.rolls-Local i) ws few in
+      let a = node.few in
+      let there = ltb-true (p.first + i) (length node.scope.locals) node.names in
+      omega arith
+
+  pub un_part : (op : _) (x : Expr) (ws : List ℕ) → FewExpr (flat_expr (e.Un op x) p ws) → FewExpr (flat_expr x p ws)
+  un_part op x ws few = few_part (omega arith) (λ scope h. (and_parts _ _ h).0) (opened_expr p (Expr-F.Un op x) (e.Un op x) (e.rolls-Un op x) ws few)
+
+  pub cast_part : (w : _) (x : Expr) (ws : List ℕ) → FewExpr (flat_expr (e.Cast w x) p ws) → FewExpr (flat_expr x p ws)
+  cast_part w x ws few = few_part (omega arith) (λ scope h. (and_parts _ _ h).0) (opened_expr p (Expr-F.Cast w x) (e.Cast w x) (e.rolls-Cast w x) ws few)
+
+  pub hash_part : (w : _) (xs : List Expr) (ws : List ℕ) → FewExpr (flat_expr (e.Hash w xs) p ws) → FewExprs (f.each (map flat_expr xs) p ws)
+  hash_part w xs ws few = few_part (omega arith) (λ scope h. h) (opened_expr p (Expr-F.Hash w xs) (e.Hash w xs) (e.rolls-Hash w xs) ws few)
+
+  pub array_part : (t : Touch) (ws : List ℕ) → FewExpr (flat_expr (e.Array t) p ws) → FewTouch (flat_touch t p ws)
+  array_part t ws few = few_part (omega arith) (λ scope h. (and_parts _ _ h).0) (opened_expr p (Expr-F.Array t) (e.Array t) (e.rolls-Array t) ws few)
+
   pub bin_first : (op : _) (x y : Expr) (ws : List ℕ) → FewExpr (flat_expr (e.Bin op x y) p ws) → FewExpr (flat_expr x p ws)
   bin_first op x y ws few = few_part (expr_longer y (flat_expr x p ws).locals) (λ scope h. (and_parts _ _ h).0) (opened_expr p (Expr-F.Bin op x y) (e.Bin op x y) (e.rolls-Bin op x y) ws few)
 
+  pub bin_last : (op : _) (x y : Expr) (ws mid : List ℕ) → mid ≡ (flat_expr x p ws).locals → FewExpr (flat_expr (e.Bin op x y) p ws) → FewExpr (flat_expr y p mid)
+  bin_last op x y ws mid l few = rw l (few_part (omega arith) (λ scope h. (and_parts _ _ (and_parts _ _ h).1).0) (opened_expr p (Expr-F.Bin op x y) (e.Bin op x y) (e.rolls-Bin op x y) ws few))
+
   pub cmp_first : (op : _) (x y : Expr) (ws : List ℕ) → FewExpr (flat_expr (e.Cmp op x y) p ws) → FewExpr (flat_expr x p ws)
   cmp_first op x y ws few = few_part (expr_longer y (flat_expr x p ws).locals) (λ scope h. (and_parts _ _ h).0) (opened_expr p (Expr-F.Cmp op x y) (e.Cmp op x y) (e.rolls-Cmp op x y) ws few)
+
+  pub cmp_last : (op : _) (x y : Expr) (ws mid : List ℕ) → mid ≡ (flat_expr x p ws).locals → FewExpr (flat_expr (e.Cmp op x y) p ws) → FewExpr (flat_expr y p mid)
+  cmp_last op x y ws mid l few = rw l (few_part (omega arith) (λ scope h. (and_parts _ _ (and_parts _ _ h).1).0) (opened_expr p (Expr-F.Cmp op x y) (e.Cmp op x y) (e.rolls-Cmp op x y) ws few))
 
   pub fun_args : (k : ℕ) (names : List _) (xs : List Expr) (ws : List ℕ) → FewExpr (flat_expr (e.Fun k names xs) p ws) → FewExprs (f.each (map flat_expr xs) p ws)
   fun_args k names xs ws few =
@@ -227,30 +246,55 @@ module _ (site : code.Site) where
   touch_set t ws mid after l m few = rw (m, l) (few_part (omega arith) (λ scope h. (touch_parts (tests_of t ws) scope h).2) (opened_touch p t ws few))
 
   -- One of the expressions of a list, after the flat forms of those before it.
-  pub exprs_one : (es left tl : List Expr) (x : Expr) (xs : List Expr) (ws mid : List ℕ) → left ≡ x ∷ tl → xs ++ (f.each (map flat_expr left) p mid).value ≡ (f.each (map flat_expr es) p ws).value →
-      (f.each (map flat_expr left) p mid).locals ≡ (f.each (map flat_expr es) p ws).locals → FewExprs (f.each (map flat_expr es) p ws) → FewExpr (flat_expr x p mid)
-  exprs_one es left tl x xs ws mid is v l few =
-      let v2 : xs ++ (f.each (map flat_expr (x ∷ tl)) p mid).value ≡ (f.each (map flat_expr es) p ws).value = subst (λ (q : List Expr). xs ++ (f.each (map flat_expr q) p mid).value ≡ (f.each (map flat_expr es) p ws).value) is v in
-      let l2 : (f.each (map flat_expr (x ∷ tl)) p mid).locals ≡ (f.each (map flat_expr es) p ws).locals = subst (λ (q : List Expr). (f.each (map flat_expr q) p mid).locals ≡ (f.each (map flat_expr es) p ws).locals) is l in
-      let longer : length (flat_expr x p mid).locals ≤ length (f.each (map flat_expr es) p ws).locals = subst (λ (q : List ℕ). length (flat_expr x p mid).locals ≤ length q) l2 (exprs_longer tl (flat_expr x p mid).locals) in
-      few_part longer (λ scope h. (and_parts _ _ (named_behind xs (f.each (map flat_expr (x ∷ tl)) p mid).value scope (subst (λ (q : List Expr). each (map expr_names q) scope ≡ true) (sym v2) h))).0) few
+  pub exprs_one : (es left tl : List Expr) (x : Expr) (xs : List Expr) (ws mid : List ℕ) → left ≡ x ∷ tl → behind xs (f.each (map flat_expr left) p mid) ≡ f.each (map flat_expr es) p ws →
+      FewExprs (f.each (map flat_expr es) p ws) → FewExpr (flat_expr x p mid)
+  exprs_one es left tl x xs ws mid is before few =
+      let all : behind xs (f.each (map flat_expr (x ∷ tl)) p mid) ≡ f.each (map flat_expr es) p ws = subst (λ (q : List Expr). behind xs (f.each (map flat_expr q) p mid) ≡ f.each (map flat_expr es) p ws) is before in
+      few_part (exprs_longer tl (flat_expr x p mid).locals) (λ scope h. (and_parts _ _ (named_behind xs (f.each (map flat_expr (x ∷ tl)) p mid).value scope h)).0) (subst FewExprs (sym all) few)
 
   -- One of the statements of a block, likewise.
-  pub stmts_one : (es left tl : List Stmt) (x : Stmt) (xs : List Stmt) (ws mid : List ℕ) → left ≡ x ∷ tl → xs ++ (f.block (map flat_stmt left) p mid).value ≡ (f.block (map flat_stmt es) p ws).value →
-      (f.block (map flat_stmt left) p mid).locals ≡ (f.block (map flat_stmt es) p ws).locals → FewStmts (f.block (map flat_stmt es) p ws) → FewStmts (flat_stmt x p mid)
-  stmts_one es left tl x xs ws mid is v l few =
+  pub stmts_one : (es left tl : List Stmt) (x : Stmt) (xs : List Stmt) (ws mid : List ℕ) → left ≡ x ∷ tl → behind xs (f.block (map flat_stmt left) p mid) ≡ f.block (map flat_stmt es) p ws →
+      FewStmts (f.block (map flat_stmt es) p ws) → FewStmts (flat_stmt x p mid)
+  stmts_one es left tl x xs ws mid is before few =
       let first = flat_stmt x p mid in
       let rest = f.block (map flat_stmt tl) p first.locals in
-      let v2 : xs ++ (f.block (map flat_stmt (x ∷ tl)) p mid).value ≡ (f.block (map flat_stmt es) p ws).value = subst (λ (q : List Stmt). xs ++ (f.block (map flat_stmt q) p mid).value ≡ (f.block (map flat_stmt es) p ws).value) is v in
-      let l2 : (f.block (map flat_stmt (x ∷ tl)) p mid).locals ≡ (f.block (map flat_stmt es) p ws).locals = subst (λ (q : List Stmt). (f.block (map flat_stmt q) p mid).locals ≡ (f.block (map flat_stmt es) p ws).locals) is l in
-      let longer : length first.locals ≤ length (f.block (map flat_stmt es) p ws).locals = subst (λ (q : List ℕ). length first.locals ≤ length q) l2 (stmts_longer tl first.locals) in
-      few_part longer (λ scope h. done_before first.value rest.value scope (done_behind xs (first.value ++ rest.value) scope (subst (λ (q : List Stmt). each (map stmt_names q) scope ≡ true) (sym v2) h))) few
+      let all : behind xs (f.block (map flat_stmt (x ∷ tl)) p mid) ≡ f.block (map flat_stmt es) p ws = subst (λ (q : List Stmt). behind xs (f.block (map flat_stmt q) p mid) ≡ f.block (map flat_stmt es) p ws) is before in
+      few_part (stmts_longer tl first.locals) (λ scope h. done_before first.value rest.value scope (done_behind xs (first.value ++ rest.value) scope h)) (subst FewStmts (sym all) few)
 
   pub both_first : (d u : Option Expr) (ws : List ℕ) → FewBoth (f.both true (operand d) (operand u) p ws) → FewOptional (operand d p ws)
   both_first d u ws few = few_part (operand_longer u (operand d p ws).locals) (λ scope h. (and_parts _ _ h).0) few
 
   pub turned_first : (d u : Option Expr) (ws : List ℕ) → FewBoth (f.both false (operand d) (operand u) p ws) → FewOptional (operand u p ws)
   turned_first d u ws few = few_part (operand_longer d (operand u p ws).locals) (λ scope h. (and_parts _ _ h).1) few
+
+  pub both_last : (d u : Option Expr) (ws mid : List ℕ) → mid ≡ (operand d p ws).locals → FewBoth (f.both true (operand d) (operand u) p ws) → FewOptional (operand u p mid)
+  both_last d u ws mid l few = rw l (few_part (omega arith) (λ scope h. (and_parts _ _ h).1) few)
+
+  pub turned_last : (d u : Option Expr) (ws mid : List ℕ) → mid ≡ (operand u p ws).locals → FewBoth (f.both false (operand d) (operand u) p ws) → FewOptional (operand d p mid)
+  turned_last d u ws mid l few = rw l (few_part (omega arith) (λ scope h. (and_parts _ _ h).0) few)
+
+  pub some_part : (x : Expr) (ws : List ℕ) → FewOptional (operand (Some x) p ws) → FewExpr (flat_expr x p ws)
+  some_part x ws few = few_part (omega arith) (λ scope h. (and_parts _ _ h).0) few
+
+  pub assign_room : (i : ℕ) (x : Expr) (ws : List ℕ) → FewStmts (flat_stmt (s.Assign i x) p ws) → p.first + i < most
+  assign_room i x ws few =
+      let node = opened_stmt p (Stmt-F.Assign i x) (s.Assign i x) (s.rolls-Assign i x) ws few in
+      let a = node.few in
+      let there = ltb-true (p.first + i) (length node.scope.locals) (and_parts _ _ (and_parts _ _ node.names).0).0 in
+      omega arith
+
+  pub assign_part : (i : ℕ) (x : Expr) (ws : List ℕ) → FewStmts (flat_stmt (s.Assign i x) p ws) → FewExpr (flat_expr x p ws)
+  assign_part i x ws few = few_part (omega arith) (λ scope h. (and_parts _ _ (and_parts _ _ h).0).1) (opened_stmt p (Stmt-F.Assign i x) (s.Assign i x) (s.rolls-Assign i x) ws few)
+
+  pub drop_part : (x : Expr) (ws : List ℕ) → FewStmts (flat_stmt (s.Drop x) p ws) → FewExpr (flat_expr x p ws)
+  drop_part x ws few = few_part (omega arith) (λ scope h. (and_parts _ _ (and_parts _ _ h).0).0) (opened_stmt p (Stmt-F.Drop x) (s.Drop x) (s.rolls-Drop x) ws few)
+
+  pub say_part : (form : ℕ) (xs : List Expr) (ws : List ℕ) → FewStmts (flat_stmt (s.Say form xs) p ws) → FewExprs (f.each (map flat_expr xs) p ws)
+  say_part form xs ws few = few_part (omega arith) (λ scope h. (and_parts _ _ (and_parts _ _ h).0).1) (opened_stmt p (Stmt-F.Say form xs) (s.Say form xs) (s.rolls-Say form xs) ws few)
+
+  pub return_part : (o : Option Expr) (ws : List ℕ) → FewStmts (flat_stmt (s.Return o) p ws) → FewOptional (operand o p ws)
+  return_part None ws few = few_part (omega arith) (λ scope h. refl) (opened_stmt p (Stmt-F.Return None) (s.Return None) (s.rolls-Return None) ws few)
+  return_part (Some x) ws few = few_part (omega arith) (λ scope h. (and_parts _ _ h).0) (opened_stmt p (Stmt-F.Return (Some x)) (s.Return (Some x)) (s.rolls-Return (Some x)) ws few)
 
   pub if_test : (x : Expr) (ss ts : List Stmt) (ws : List ℕ) → FewStmts (flat_stmt (s.If x ss ts) p ws) → FewExpr (flat_expr x p ws)
   if_test x ss ts ws few =
@@ -358,43 +402,38 @@ module _ (site : code.Site) where
   multi_args event xs members ws few = group_held event (length (map flat_expr xs)) false members (map flat_expr xs) ws (multi event xs members ws few)
 
   -- The locals and arguments of a group's code: room for the values, as many as there are arguments.
-  pub multi_group : (event m : ℕ) (xs : List Expr) (members ws mid : List ℕ) (held : List Expr) → m ≡ length xs → held ≡ (f.each (map flat_expr xs) p ws).value → mid ≡ (f.each (map flat_expr xs) p ws).locals →
+  pub multi_group : (event m : ℕ) (xs : List Expr) (members ws mid : List ℕ) (held : List Expr) → m ≡ length xs → flattened held mid ≡ f.each (map flat_expr xs) p ws →
       FewStmts (flat_stmt (s.Multi event xs None members) p ws) → (length mid + length held ≤ most) × (m ≤ length held)
-  multi_group event m xs members ws mid held many v l few =
+  multi_group event m xs members ws mid held many h few =
       let room = group_room event (length (map flat_expr xs)) false members (map flat_expr xs) ws (multi event xs members ws few) in
-      let long = each-length xs p ws in
-      rw (v, l, many) (room, omega arith)
+      let long : length held ≡ length xs = ap (λ (q : Flattened (List Expr)). length q.value) h ∙ each-length xs p ws in
+      (subst (λ (q : Flattened (List Expr)). length q.locals + length q.value ≤ most) (sym h) room, omega (arith, many, long))
 
   delayed_few : (event : ℕ) (xs : List Expr) (d : Expr) (members ws : List ℕ) → FewStmts (flat_stmt (s.Multi event xs (Some d) members) p ws) → FewStmts (grouped event (length (map flat_expr xs)) true members (map flat_expr xs ++ flat_expr d ∷ []) p ws)
   delayed_few event xs d members ws few = subst (λ (t : Flatten (List Stmt)). FewStmts (t p ws)) (flat_of-delayed event xs d members) few
 
-  delayed_held : (event : ℕ) (xs : List Expr) (d : Expr) (members ws : List ℕ) → FewStmts (flat_stmt (s.Multi event xs (Some d) members) p ws) →
+  delayed_few_held : (event : ℕ) (xs : List Expr) (d : Expr) (members ws : List ℕ) → FewStmts (flat_stmt (s.Multi event xs (Some d) members) p ws) →
       (let one = f.each (map flat_expr xs) p ws in let last = flat_expr d p one.locals in FewExprs (record { value = one.value ++ last.value ∷ []; locals = last.locals }))
-  delayed_held event xs d members ws few =
+  delayed_few_held event xs d members ws few =
       subst FewExprs (each_last (map flat_expr xs) (flat_expr d) p ws) (group_held event (length (map flat_expr xs)) true members (map flat_expr xs ++ flat_expr d ∷ []) ws (delayed_few event xs d members ws few))
 
   pub delayed_args : (event : ℕ) (xs : List Expr) (d : Expr) (members ws : List ℕ) → FewStmts (flat_stmt (s.Multi event xs (Some d) members) p ws) → FewExprs (f.each (map flat_expr xs) p ws)
   delayed_args event xs d members ws few =
       let one = f.each (map flat_expr xs) p ws in
       let last = flat_expr d p one.locals in
-      few_part (expr_longer d one.locals) (λ scope h. named_before one.value (last.value ∷ []) scope h) (delayed_held event xs d members ws few)
+      few_part (expr_longer d one.locals) (λ scope h. named_before one.value (last.value ∷ []) scope h) (delayed_few_held event xs d members ws few)
 
   pub delayed_last : (event : ℕ) (xs : List Expr) (d : Expr) (members ws mid : List ℕ) → mid ≡ (f.each (map flat_expr xs) p ws).locals → FewStmts (flat_stmt (s.Multi event xs (Some d) members) p ws) → FewExpr (flat_expr d p mid)
   delayed_last event xs d members ws mid l few =
       let one = f.each (map flat_expr xs) p ws in
       let last = flat_expr d p one.locals in
-      rw l (few_part (omega arith) (λ scope h. (and_parts _ _ (named_behind one.value (last.value ∷ []) scope h)).0) (delayed_held event xs d members ws few))
+      rw l (few_part (omega arith) (λ scope h. (and_parts _ _ (named_behind one.value (last.value ∷ []) scope h)).0) (delayed_few_held event xs d members ws few))
 
-  pub delayed_group : (event m : ℕ) (xs : List Expr) (d last : Expr) (members ws mid after : List ℕ) (first held : List Expr) → m ≡ length xs → first ≡ (f.each (map flat_expr xs) p ws).value → mid ≡ (f.each (map flat_expr xs) p ws).locals →
-      last ≡ (flat_expr d p mid).value → after ≡ (flat_expr d p mid).locals → held ≡ first ++ last ∷ [] → FewStmts (flat_stmt (s.Multi event xs (Some d) members) p ws) → (length after + length held ≤ most) × (m ≤ length held)
-  delayed_group event m xs d last members ws mid after first held many v l x y h few =
-      let made = f.each (map flat_expr xs) p ws in
-      let whole = each_last (map flat_expr xs) (flat_expr d) p ws in
-      let value : held ≡ (f.each (map flat_expr xs ++ flat_expr d ∷ []) p ws).value = h ∙ rw (x, v, l) (sym (ap (λ (q : Flattened (List Expr)). q.value) whole)) in
-      let locals : after ≡ (f.each (map flat_expr xs ++ flat_expr d ∷ []) p ws).locals = y ∙ rw l (sym (ap (λ (q : Flattened (List Expr)). q.locals) whole)) in
+  pub delayed_group : (event m : ℕ) (xs : List Expr) (d last : Expr) (members ws mid after : List ℕ) (first held : List Expr) → m ≡ length xs → flattened first mid ≡ f.each (map flat_expr xs) p ws →
+      flattened last after ≡ flat_expr d p mid → held ≡ first ++ last ∷ [] → FewStmts (flat_stmt (s.Multi event xs (Some d) members) p ws) → (length after + length held ≤ most) × (m ≤ length held)
+  delayed_group event m xs d last members ws mid after first held many h k pushed few =
       let room = group_room event (length (map flat_expr xs)) true members (map flat_expr xs ++ flat_expr d ∷ []) ws (delayed_few event xs d members ws few) in
-      let a : length after + length held ≤ most = rw (value, locals) room in
-      let long = each-length xs p ws in
-      let b : length held ≡ length first + 1 = ap length h ∙ length-append first (last ∷ []) in
-      let c : length first ≡ length xs = ap length v ∙ long in
-      (a, omega arith)
+      let all = delayed_held xs d last mid after p ws first held h k pushed in
+      let more : length held ≡ length first + 1 = ap length pushed ∙ length-append first (last ∷ []) in
+      let long : length first ≡ length xs = ap (λ (q : Flattened (List Expr)). length q.value) h ∙ each-length xs p ws in
+      (subst (λ (q : Flattened (List Expr)). length q.locals + length q.value ≤ most) (sym all) room, omega (arith, many, more, long))

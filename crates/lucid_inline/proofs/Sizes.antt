@@ -9,14 +9,35 @@ use Rattle.lucid_core.specs.declared.body.Expr.TheViews.{size-Expr, size-Stmt, s
 use Rattle.lucid_core.specs.declared.body.Expr.TheVariants as e
 use Rattle.lucid_core.specs.declared.body.Stmt.TheVariants as s
 
-pub below_bin : (whole : Expr) (op : _) (x y : Expr) → whole ≡ e.Bin op x y → size-Expr x < size-Expr whole
-below_bin whole op x y is = let size = v.sized-Bin op x y in rw is (omega arith)
+pub below_un : (whole : Expr) (op : _) (x : Expr) → whole ≡ e.Un op x → size-Expr x < size-Expr whole
+below_un whole op x is = let size = v.sized-Un op x in rw is (omega arith)
 
-pub below_cmp : (whole : Expr) (op : _) (x y : Expr) → whole ≡ e.Cmp op x y → size-Expr x < size-Expr whole
-below_cmp whole op x y is = let size = v.sized-Cmp op x y in rw is (omega arith)
+pub below_cast : (whole : Expr) (w : _) (x : Expr) → whole ≡ e.Cast w x → size-Expr x < size-Expr whole
+below_cast whole w x is = let size = v.sized-Cast w x in rw is (omega arith)
+
+pub below_bin : (whole : Expr) (op : _) (x y : Expr) → whole ≡ e.Bin op x y → (size-Expr x < size-Expr whole) × (size-Expr y < size-Expr whole)
+below_bin whole op x y is = let size = v.sized-Bin op x y in rw is (omega arith, omega arith)
+
+pub below_cmp : (whole : Expr) (op : _) (x y : Expr) → whole ≡ e.Cmp op x y → (size-Expr x < size-Expr whole) × (size-Expr y < size-Expr whole)
+below_cmp whole op x y is = let size = v.sized-Cmp op x y in rw is (omega arith, omega arith)
+
+pub below_hash : (whole : Expr) (w : _) (xs : List Expr) → whole ≡ e.Hash w xs → most (λ x. size-Expr x) xs < size-Expr whole
+below_hash whole w xs is = let size = v.sized-Hash w xs in rw is (omega arith)
+
+pub below_array : (whole : Expr) (t : Touch) → whole ≡ e.Array t → size-Touch t < size-Expr whole
+below_array whole t is = let size = v.sized-Array t in rw is (omega arith)
 
 pub below_fun : (whole : Expr) (k : ℕ) (names : List _) (xs : List Expr) → whole ≡ e.Fun k names xs → most (λ x. size-Expr x) xs < size-Expr whole
 below_fun whole k names xs is = let size = v.sized-Fun k names xs in rw is (omega arith)
+
+pub below_assign : (whole : Stmt) (i : ℕ) (x : Expr) → whole ≡ s.Assign i x → size-Expr x < size-Stmt whole
+below_assign whole i x is = let size = v.sized-Assign i x in rw is (omega arith)
+
+pub below_drop : (whole : Stmt) (x : Expr) → whole ≡ s.Drop x → size-Expr x < size-Stmt whole
+below_drop whole x is = let size = v.sized-Drop x in rw is (omega arith)
+
+pub below_say : (whole : Stmt) (form : ℕ) (xs : List Expr) → whole ≡ s.Say form xs → most (λ x. size-Expr x) xs < size-Stmt whole
+below_say whole form xs is = let size = v.sized-Say form xs in rw is (omega arith)
 
 pub below_if : (whole : Stmt) (x : Expr) (ss ts : List Stmt) → whole ≡ s.If x ss ts → (size-Expr x < size-Stmt whole) × (most (λ t. size-Stmt t) ss < size-Stmt whole) × (most (λ t. size-Stmt t) ts < size-Stmt whole)
 below_if whole x ss ts is = let size = v.sized-If x ss ts in rw is (omega arith, omega arith, omega arith)

@@ -1,10 +1,9 @@
 // Bodies with their calls inlined: a function for each form. `left` is the depth to which parts may still nest.
-ghost use Rattle.std.specs.Prelude.{◌≡◌, IfOk, OnOk, map, option_map, slice_get};
-ghost use Rattle.lucid_core.specs.declared.body.Expr.TheViews.{roll-Expr};
+ghost use Rattle.std.specs.Prelude.{◌≡◌, IfOk, map, option_map, slice_get};
 ghost use Rattle.lucid_inline_spec.specs.Flat.{block as block_of, both, each, flat_expr, flat_stmt, flat_touch, optional as optional_of};
-ghost use Rattle.lucid_inline_spec.specs.Flat.{put_in, puts_of};
+ghost use Rattle.lucid_inline_spec.specs.Flat.{puts_of};
 ghost use Rattle.lucid_inline.specs.Numbers.{FewBoth, FewExpr, FewExprs, FewOptional, FewStmts, FewTouch};
-ghost use Rattle.lucid_inline.specs.Sites.{called, place};
+ghost use Rattle.lucid_inline.specs.Sites.{called, flattened, place};
 
 use crate::group::{group, numbered};
 use crate::single::{assigning, branching, dropping, returning, saying, sending};
@@ -16,8 +15,7 @@ use lucid_core::{Expr, Stmt, Touch, below};
 #[cycle(flatten)]
 fn expr(site: Site, left: u32, locals: &mut Items<Width>, e: &Expr) -> Result<Expr, Memory>
     requires { FewExpr (flat_expr e.now (place site) locals.now) }
-    ensures value { IfOk result (λ x. x ≡ (flat_expr e.now (place site.entry) locals.old).value) }
-    ensures locals { OnOk result (locals.new ≡ (flat_expr e.now (place site.entry) locals.old).locals) }
+    ensures { IfOk result (λ x. flattened x locals.new ≡ flat_expr e.now (place site.entry) locals.old) }
 {
     let left = below(left, 1)?;
     match e {
@@ -65,8 +63,7 @@ fn expr(site: Site, left: u32, locals: &mut Items<Width>, e: &Expr) -> Result<Ex
 #[inline(never)]
 fn boxed(site: Site, left: u32, locals: &mut Items<Width>, e: &Expr) -> Result<Boxed<Expr>, Memory>
     requires { FewExpr (flat_expr e.now (place site) locals.now) }
-    ensures value { IfOk result (λ x. x ≡ (flat_expr e.now (place site.entry) locals.old).value) }
-    ensures locals { OnOk result (locals.new ≡ (flat_expr e.now (place site.entry) locals.old).locals) }
+    ensures { IfOk result (λ x. flattened x locals.new ≡ flat_expr e.now (place site.entry) locals.old) }
 {
     let x = expr(site, left, locals, e)?;
     Ok(Boxed::new(site.alloc, x)?)
@@ -81,12 +78,24 @@ fn touch(
     t: &Touch,
 ) -> Result<Boxed<Touch>, Memory>
     requires { FewTouch (flat_touch t.now (place site) locals.now) }
-    ensures value { IfOk result (λ x. x ≡ (flat_touch t.now (place site.entry) locals.old).value) }
-    ensures locals { OnOk result (locals.new ≡ (flat_touch t.now (place site.entry) locals.old).locals) }
+    ensures { IfOk result (λ x. flattened x locals.new ≡ flat_touch t.now (place site.entry) locals.old) }
 {
     let index = expr(site, left, locals, &t.index)?;
-    let get_arg = expr(site, left, locals, &t.get_arg)?;
-    let set_arg = expr(site, left, locals, &t.set_arg)?;
+    let get_arg = match expr(site, left, locals, &t.get_arg) {
+        Ok(get_arg) => get_arg,
+        Err(memory) => {
+            drop(index);
+            return Err(memory);
+        }
+    };
+    let set_arg = match expr(site, left, locals, &t.set_arg) {
+        Ok(set_arg) => set_arg,
+        Err(memory) => {
+            drop(index);
+            drop(get_arg);
+            return Err(memory);
+        }
+    };
     let made = Touch {
         array: ArrayName::Global(array_at(site.arrays, t.array)),
         index,
@@ -103,8 +112,7 @@ fn touch(
 #[inline(never)]
 fn exprs(site: Site, left: u32, locals: &mut Items<Width>, es: &[Expr]) -> Result<Vec<Expr>, Memory>
     requires { FewExprs (each (map flat_expr es.now) (place site) locals.now) }
-    ensures value { IfOk result (λ xs. xs.items ≡ (each (map flat_expr es.now) (place site.entry) locals.old).value) }
-    ensures locals { OnOk result (locals.new ≡ (each (map flat_expr es.now) (place site.entry) locals.old).locals) }
+    ensures { IfOk result (λ xs. flattened xs.items locals.new ≡ each (map flat_expr es.now) (place site.entry) locals.old) }
 {
     let mut xs = Vec::new(site.alloc);
     for e in es {
@@ -123,8 +131,7 @@ fn optional(
     e: &Option<Expr>,
 ) -> Result<Option<Expr>, Memory>
     requires { FewOptional (optional_of (option_map flat_expr e.now) (place site) locals.now) }
-    ensures value { IfOk result (λ x. x ≡ (optional_of (option_map flat_expr e.now) (place site.entry) locals.old).value) }
-    ensures locals { OnOk result (locals.new ≡ (optional_of (option_map flat_expr e.now) (place site.entry) locals.old).locals) }
+    ensures { IfOk result (λ x. flattened x locals.new ≡ optional_of (option_map flat_expr e.now) (place site.entry) locals.old) }
 {
     match e {
         None => Ok(None),
@@ -147,19 +154,27 @@ fn delay_and_target(
     delay_first: bool,
 ) -> Result<(Option<Expr>, Option<Expr>), Memory>
     requires { FewBoth (both delay_first (optional_of (option_map flat_expr delay.now)) (optional_of (option_map flat_expr to.now)) (place site) locals.now) }
-    ensures value { IfOk result (λ x. x ≡ (both delay_first
-        (optional_of (option_map flat_expr delay.now)) (optional_of (option_map flat_expr to.now)) (place site.entry) locals.old).value) }
-    ensures locals { OnOk result (locals.new ≡ (both delay_first
-        (optional_of (option_map flat_expr delay.now)) (optional_of (option_map flat_expr to.now)) (place site.entry) locals.old).locals) }
+    ensures { IfOk result (λ x. flattened x locals.new ≡ both delay_first
+        (optional_of (option_map flat_expr delay.now)) (optional_of (option_map flat_expr to.now)) (place site.entry) locals.old) }
 {
     if delay_first {
         let delay = optional(site, left, locals, delay)?;
-        let to = optional(site, left, locals, to)?;
-        Ok((delay, to))
+        match optional(site, left, locals, to) {
+            Ok(to) => Ok((delay, to)),
+            Err(memory) => {
+                drop(delay);
+                Err(memory)
+            }
+        }
     } else {
         let to = optional(site, left, locals, to)?;
-        let delay = optional(site, left, locals, delay)?;
-        Ok((delay, to))
+        match optional(site, left, locals, delay) {
+            Ok(delay) => Ok((delay, to)),
+            Err(memory) => {
+                drop(to);
+                Err(memory)
+            }
+        }
     }
 }
 
@@ -172,8 +187,7 @@ pub fn block(
     stmts: &[Stmt],
 ) -> Result<Items<Stmt>, Memory>
     requires { FewStmts (block_of (map flat_stmt stmts.now) (place site) locals.now) }
-    ensures value { IfOk result (λ ss. ss ≡ (block_of (map flat_stmt stmts.now) (place site.entry) locals.old).value) }
-    ensures locals { OnOk result (locals.new ≡ (block_of (map flat_stmt stmts.now) (place site.entry) locals.old).locals) }
+    ensures { IfOk result (λ ss. flattened ss locals.new ≡ block_of (map flat_stmt stmts.now) (place site.entry) locals.old) }
 {
     let mut ss = Items::new(site.alloc);
     for s in stmts {
@@ -186,8 +200,7 @@ pub fn block(
 #[inline(never)]
 fn stmt(site: Site, left: u32, locals: &mut Items<Width>, s: &Stmt) -> Result<Items<Stmt>, Memory>
     requires { FewStmts (flat_stmt s.now (place site) locals.now) }
-    ensures value { IfOk result (λ ss. ss ≡ (flat_stmt s.now (place site.entry) locals.old).value) }
-    ensures locals { OnOk result (locals.new ≡ (flat_stmt s.now (place site.entry) locals.old).locals) }
+    ensures { IfOk result (λ ss. flattened ss locals.new ≡ flat_stmt s.now (place site.entry) locals.old) }
 {
     let left = below(left, 1)?;
     match s {
@@ -202,9 +215,19 @@ fn stmt(site: Site, left: u32, locals: &mut Items<Width>, s: &Stmt) -> Result<It
         Stmt::If(e, yes, no) => {
             let left = below(left, 1)?;
             let e = expr(site, left, locals, e)?;
-            let yes = block(site, left, locals, yes.as_slice())?;
-            let no = block(site, left, locals, no.as_slice())?;
-            branching(site.alloc, e, yes, no)
+            match block(site, left, locals, yes.as_slice()) {
+                Ok(yes) => match block(site, left, locals, no.as_slice()) {
+                    Ok(no) => branching(site.alloc, e, yes, no),
+                    Err(memory) => {
+                        drop(e);
+                        Err(memory)
+                    }
+                },
+                Err(memory) => {
+                    drop(e);
+                    Err(memory)
+                }
+            }
         }
         Stmt::Gen {
             event,
@@ -274,10 +297,8 @@ fn put(
     args: Vec<Expr>,
 ) -> Result<Expr, Memory>
     requires { FewExpr (called (slice_get (puts_of site.funs.now) k) arrays.now args.items locals.now) }
-    ensures value { IfOk result (λ x. x
-        ≡ roll-Expr (put_in (slice_get (puts_of site.entry.funs.now) k) arrays.now args.items locals.old).value) }
-    ensures locals { OnOk result (locals.new
-        ≡ (put_in (slice_get (puts_of site.entry.funs.now) k) arrays.now args.items locals.old).locals) }
+    ensures { IfOk result (λ x. flattened x locals.new
+        ≡ called (slice_get (puts_of site.entry.funs.now) k) arrays.now args.items locals.old) }
 {
     let first = number(locals.len());
     let given = numbered(site.alloc, first, args)?;

@@ -1,10 +1,10 @@
 // Statements of the flat form for a group whose calls are taken out.
-ghost use Rattle.std.specs.Prelude.{◌≡◌, ◌≤◌, ◌+◌, ◌++◌, IfOk, OnOk, map, length};
+ghost use Rattle.std.specs.Prelude.{◌≡◌, ◌≤◌, ◌+◌, IfOk, map, length};
 ghost use Rattle.std.specs.List.{enumerate_from};
 ghost use Rattle.lucid_core.specs.declared.body.Expr.TheViews.{roll-Stmt};
 ghost use Rattle.lucid_inline_spec.specs.Flat.{locals_from, to_member, width_in};
 ghost use Rattle.lucid_inline.specs.Numbers.{most};
-ghost use Rattle.lucid_inline.specs.Sites.{assigned, sent};
+ghost use Rattle.lucid_inline.specs.Sites.{assigned, flattened, sent, sent_to_all};
 
 use crate::site::number;
 use lucid_base::{Bits, Items, Memory, Width};
@@ -133,9 +133,7 @@ pub fn group(
 ) -> Result<Items<Stmt>, Memory>
     requires room { length locals.now + length held.items ≤ most }
     requires held { n ≤ length held.items }
-    ensures value { IfOk result (λ ss. ss
-        ≡ assigned (length locals.old) held.items ++ sent event (length locals.old) n delayed members.now) }
-    ensures locals { OnOk result (locals.new ≡ locals.old ++ map (width_in locals.old) held.items) }
+    ensures { IfOk result (λ ss. flattened ss locals.new ≡ sent_to_all event n delayed members.now held.items locals.old) }
 {
     let first = number(locals.len());
     let added = widths(alloc, locals.as_slice(), held.as_slice())?;

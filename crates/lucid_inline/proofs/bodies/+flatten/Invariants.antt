@@ -1,9 +1,10 @@
 -- Measures: five times the depth of the rest, and a rank among the functions. Invariants: the result of a loop so far and the rest make
 -- the whole.
-use Rattle.std.proofs.Common.{◌≡◌, ◌+◌, ◌*◌, ◌++◌, max, drop, map}
+use Rattle.std.proofs.Common.{◌≡◌, ◌+◌, ◌*◌, max, drop, map}
 use Rattle.lucid_core.specs.Weight.{weight}
 use Rattle.lucid_inline_spec.specs.Flat.{block, each, flat_expr, flat_stmt}
 use Rattle.lucid_inline.specs.Sites.{place}
+use Rattle.lucid_inline.proofs.Puts.{behind}
 use Rattle.lucid_inline.proofs.bodies.+flatten.Given as goal
 
 abbrev pub decreases-expr : goal.decreases-expr
@@ -22,16 +23,10 @@ abbrev pub decreases-put : goal.decreases-put
 decreases-put l = 5 * weight l.site.funs.now
 
 abbrev pub invariant-exprs-loop-e : goal.invariant-exprs-loop-e
-invariant-exprs-loop-e l = record {
-  value : l.xs.items ++ (each (map flat_expr (drop l.e-index l.es)) (place l.site) l.locals).value ≡ (each (map flat_expr l.es) (place l.site) l.fn.locals).value;
-  locals : (each (map flat_expr (drop l.e-index l.es)) (place l.site) l.locals).locals ≡ (each (map flat_expr l.es) (place l.site) l.fn.locals).locals;
-}
+invariant-exprs-loop-e l = behind l.xs.items (each (map flat_expr (drop l.e-index l.es)) (place l.site) l.locals) ≡ each (map flat_expr l.es) (place l.site) l.fn.locals
 
 abbrev pub invariant-block-loop-s : goal.invariant-block-loop-s
-invariant-block-loop-s l = record {
-  value : l.ss ++ (block (map flat_stmt (drop l.s-index l.stmts)) (place l.site) l.locals).value ≡ (block (map flat_stmt l.stmts) (place l.site) l.fn.locals).value;
-  locals : (block (map flat_stmt (drop l.s-index l.stmts)) (place l.site) l.locals).locals ≡ (block (map flat_stmt l.stmts) (place l.site) l.fn.locals).locals;
-}
+invariant-block-loop-s l = behind l.ss (block (map flat_stmt (drop l.s-index l.stmts)) (place l.site) l.locals) ≡ block (map flat_stmt l.stmts) (place l.site) l.fn.locals
 
 abbrev pub decreases-touch : goal.decreases-touch
 decreases-touch l = 5 * (weight l.site.funs.now + goal.size-touch l)
