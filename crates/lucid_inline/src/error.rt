@@ -2,7 +2,7 @@
 use lucid_base::Memory as NoMemory;
 
 /// Why a core has no flat form here. Counts stop at the last `u64`.
-#[derive(Clone, Copy, Debug, PartialEq, Eq)]
+#[derive(Clone, Copy)]
 pub enum InlineError {
     /// The normal form has more ops than there is room for; at this handler, from 0, they pass it.
     TooMany { handler: u32, count: u64 },
