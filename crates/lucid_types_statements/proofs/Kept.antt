@@ -1,5 +1,5 @@
 -- Names that are kept.
-use Rattle.std.proofs.Common.{◌≡◌, ℕ, ◌+◌, ◌-◌, List, ◌∷◌, Some, drop, length, sym, ap, subst, ◌∙◌, arith}
+use Rattle.std.proofs.Common.{◌≡◌, ℕ, ◌+◌, ◌-◌, List, ◌∷◌, Some, Result, Ok, Err, OnOk, drop, length, sym, ap, subst, ◌∙◌, arith}
 use Rattle.std.proofs.lemmas.List.{drop-drop, length-drop}
 use Rattle.lucid_memop.proofs.Parts.{bound, same_some}
 use Rattle.lucid_parse_tree.specs.declared.tree.E.{E}
@@ -11,6 +11,8 @@ use Rattle.lucid_types_spec.specs.Names.{Names, called}
 use Rattle.lucid_types_laws.specs.declared.part.Part.{Part}
 use Rattle.lucid_types_laws.specs.Reading.{core_of}
 use Rattle.lucid_types_laws.specs.Statement.{Taken, declared, type_of}
+use Rattle.lucid_types_expressions.specs.declared.fault.Fault.{Fault}
+use Rattle.lucid_types_statements.specs.Bodies.{Takes}
 use Rattle.lucid_types_statements.specs.Kept.{Keeps}
 
 pub keeps_same : (s : Names) → Keeps s s
@@ -35,5 +37,13 @@ declared_keeps p t n x s new m k h = kept (record { part = p; names = new; numbe
         let v = bound (type_of t) _ r is in
         let c = bound (core_of x s v.0) _ r v.2 in
         subst (λ (q : Taken). Keeps s q.names) (same_some _ r c.2) (keeps_one s (called n (entry.Local (length m.locals) v.0)))
+
+pub declare_keeps : (r : Result Part Fault) (t : Ty) (n : List ℕ) (x : E) (s new : Names) (m k : Numbered) →
+    Takes r new k (declared t n x s m) → OnOk r (Keeps s new)
+declare_keeps (Ok p) t n x s new m k h = declared_keeps p t n x s new m k h
+declare_keeps (Err f) t n x s new m k h = tt
+
+pub keeps_all : (s new : Names) → new ≡ s → Keeps s new
+keeps_all s new is = subst (λ (r : Names). Keeps s r) (sym is) (keeps_same s)
 
 pub ruleset keeping = (keeps_same, keeps_one, keeps_more)

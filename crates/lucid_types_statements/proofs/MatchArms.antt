@@ -1,5 +1,5 @@
 -- The cases of a `match`: all arms first, then put together from the back.
-use Rattle.std.proofs.Common.{◌≡◌, ℕ, ◌^◌, List, [], ◌∷◌, Option, None, Some, Bool, option_map, ◌&&◌, not, map, length, nat_lt, refl, ap, ◌∙◌}
+use Rattle.std.proofs.Common.{◌≡◌, ℕ, ◌^◌, List, [], ◌∷◌, Option, None, Some, Bool, true, option_map, ◌&&◌, not, map, length, nat_lt, refl, ap, ◌∙◌}
 use Rattle.lucid_core.specs.declared.body.Expr.{Expr}
 use Rattle.lucid_core.specs.declared.body.Stmt.TheVariants.{Assign, If}
 use Rattle.lucid_base.specs.Numbers.{all_differ}
@@ -12,14 +12,13 @@ use Rattle.lucid_types_spec.specs.declared.body.Body.{Body}
 use Rattle.lucid_types_spec.specs.declared.scope.ValueType.{ValueType}
 use Rattle.lucid_types_spec.specs.Block.{Numbered, before, is_number, one, one_local}
 use Rattle.lucid_types_spec.specs.Names.{Names}
-use Rattle.lucid_types_laws.specs.declared.part.Part.TheVariants.{Does}
 use Rattle.lucid_types_laws.specs.Partial.{when}
 use Rattle.lucid_types_laws.specs.Lead.{or_32}
 use Rattle.lucid_types_laws.specs.Reading.{free, reading}
 use Rattle.lucid_types_laws.specs.Statement.{Taking, block, cases, is_empty, last_arm, matched, stays, taking}
 use Rattle.lucid_types_laws.proofs.StatementForms.{match_is, match_last_is}
 use Rattle.lucid_types_statements.specs.declared.arms.Arm.{Arm}
-use Rattle.lucid_types_statements.specs.Arms.{value_tested}
+use Rattle.lucid_types_statements.specs.Arms.{are_cases, value_tested}
 use Rattle.lucid_types_statements.specs.Assembly.{chained}
 use Rattle.lucid_types_statements.specs.MatchArms.{arms_of, cases_taken}
 
@@ -83,7 +82,7 @@ tested_is x cs s =
 abbrev pub valued : ℕ → Expr → Body × Numbered → Option (Body × Numbered)
 valued i c b = Some (before (Assign i c ∷ []) b.0, b.1)
 
-abbrev behind_value : E → List (ℕ × List Taking) → Option (List Taking) → Option ValueType → Names → Numbered → Expr → Option (Body × Numbered)
+abbrev pub behind_value : E → List (ℕ × List Taking) → Option (List Taking) → Option ValueType → Names → Numbered → Expr → Option (Body × Numbered)
 behind_value x cs last a s m c =
     cases cs last (length m.locals) (or_32 ((reading x).lead s)) a s (one_local (or_32 ((reading x).lead s)) m) >>= valued (length m.locals) c
 
@@ -91,75 +90,15 @@ pub no_value : (x : E) (cs : List (ℕ × List S)) (last : Option (List Taking))
     value_tested x (map (λ z. z.0) cs) s ≡ None → matched x (cases_taken cs) last a s m ≡ None
 no_value x cs last a s m h = ap (λ (o : Option Expr). o >>= behind_value x (cases_taken cs) last a s m) (tested_is x cs s ∙ h)
 
--- With its value and its arms.
-pub matched_is : (x : E) (cs : List (ℕ × List S)) (last : Option (List Taking)) (a : Option ValueType) (s : Names) (m : Numbered) (c : Expr) →
-    value_tested x (map (λ z. z.0) cs) s ≡ Some c →
-    matched x (cases_taken cs) last a s m
-    ≡ (joined last (length m.locals) (or_32 ((reading x).lead s)) a s
-    (arms_of (cases_taken cs) (or_32 ((reading x).lead s)) a s (one_local (or_32 ((reading x).lead s)) m))
-    >>= valued (length m.locals) c)
-matched_is x cs last a s m c h =
-    ap (λ (o : Option Expr). o >>= behind_value x (cases_taken cs) last a s m) (tested_is x cs s ∙ h)
-    ∙ ap (λ (o : Option (Body × Numbered)). o >>= valued (length m.locals) c)
-    (cases_joined (cases_taken cs) last (length m.locals) (or_32 ((reading x).lead s)) a s (one_local (or_32 ((reading x).lead s)) m))
+-- These are cases, so the value decides.
+pub matched_is : (x : E) (cs : List (ℕ × List S)) (last : Option (List Taking)) (a : Option ValueType) (s : Names) (m : Numbered) →
+    are_cases (map (λ z. z.0) cs) ≡ true →
+    matched x (cases_taken cs) last a s m ≡ (free (reading x) s >>= behind_value x (cases_taken cs) last a s m)
+matched_is x cs last a s m h = ap (λ (o : Option Expr). o >>= behind_value x (cases_taken cs) last a s m)
+    (tested_is x cs s ∙ ap (λ (b : Bool). when b (free (reading x) s)) h)
 
 -- Whether a last arm is there or not.
 pub match_any : (x : E) (cs : List (ℕ × List S)) (last : Option (List S)) (a : Option ValueType) (s : Names) (m : Numbered) →
     taking (form.Match x cs last) a s m ≡ stays s (matched x (cases_taken cs) (option_map (map taking) last) a s m)
 match_any x cs None a s m = ap (λ (f : Taking). f a s m) (match_is x cs)
 match_any x cs (Some last) a s m = ap (λ (f : Taking). f a s m) (match_last_is x cs last)
-
--- Without a value, and with one.
-pub value_missing : (x : E) (cs : List (ℕ × List S)) (last : Option (List S)) (a : Option ValueType) (s : Names) (m : Numbered) →
-    value_tested x (map (λ z. z.0) cs) s ≡ None → taking (form.Match x cs last) a s m ≡ None
-value_missing x cs last a s m h = match_any x cs last a s m ∙ ap (stays s) (no_value x cs (option_map (map taking) last) a s m h)
-
-pub value_there : (x : E) (cs : List (ℕ × List S)) (last : Option (List S)) (a : Option ValueType) (s : Names) (m : Numbered) (c : Expr) →
-    value_tested x (map (λ z. z.0) cs) s ≡ Some c →
-    taking (form.Match x cs last) a s m
-    ≡ stays s (joined (option_map (map taking) last) (length m.locals) (or_32 ((reading x).lead s)) a s
-    (arms_of (cases_taken cs) (or_32 ((reading x).lead s)) a s (one_local (or_32 ((reading x).lead s)) m))
-    >>= valued (length m.locals) c)
-value_there x cs last a s m c h = match_any x cs last a s m ∙ ap (stays s) (matched_is x cs (option_map (map taking) last) a s m c h)
-
--- Where the arms give nothing, where the last one gives nothing, and where all are there.
-pub no_arms : (x : E) (cs : List (ℕ × List S)) (last : Option (List S)) (a : Option ValueType) (s : Names) (m : Numbered) →
-    arms_of (cases_taken cs) (or_32 ((reading x).lead s)) a s (one_local (or_32 ((reading x).lead s)) m) ≡ None → taking (form.Match x cs last) a s m ≡ None
-no_arms x cs last a s m h = by_value (value_tested x (map (λ z. z.0) cs) s) refl
-  where
-    by_value : (o : Option Expr) → value_tested x (map (λ z. z.0) cs) s ≡ o → taking (form.Match x cs last) a s m ≡ None
-    by_value None is = value_missing x cs last a s m is
-    by_value (Some c) is = value_there x cs last a s m c is
-        ∙ ap (λ (r : Option (List Arm × Numbered)).
-        stays s (joined (option_map (map taking) last) (length m.locals) (or_32 ((reading x).lead s)) a s r >>= valued (length m.locals) c)) h
-
-pub no_last : (x : E) (cs : List (ℕ × List S)) (last : Option (List S)) (a : Option ValueType) (s : Names) (m l : Numbered) (arms : List Arm) →
-    arms_of (cases_taken cs) (or_32 ((reading x).lead s)) a s (one_local (or_32 ((reading x).lead s)) m) ≡ Some (arms, l) →
-    last_arm (option_map (map taking) last) a s l ≡ None → taking (form.Match x cs last) a s m ≡ None
-no_last x cs last a s m l arms h none = by_value (value_tested x (map (λ z. z.0) cs) s) refl
-  where
-    by_value : (o : Option Expr) → value_tested x (map (λ z. z.0) cs) s ≡ o → taking (form.Match x cs last) a s m ≡ None
-    by_value None is = value_missing x cs last a s m is
-    by_value (Some c) is = value_there x cs last a s m c is
-        ∙ ap (λ (r : Option (List Arm × Numbered)).
-        stays s (joined (option_map (map taking) last) (length m.locals) (or_32 ((reading x).lead s)) a s r >>= valued (length m.locals) c)) h
-        ∙ ap (λ (r : Option (Body × Numbered)).
-        stays s ((r >>= all_chosen (length m.locals) (or_32 ((reading x).lead s)) arms) >>= valued (length m.locals) c)) none
-
-pub match_taken : (x : E) (cs : List (ℕ × List S)) (last : Option (List S)) (a : Option ValueType) (s : Names) (m l k : Numbered) (c : Expr)
-    (arms : List Arm) (b : Body) → value_tested x (map (λ z. z.0) cs) s ≡ Some c →
-    arms_of (cases_taken cs) (or_32 ((reading x).lead s)) a s (one_local (or_32 ((reading x).lead s)) m) ≡ Some (arms, l) →
-    last_arm (option_map (map taking) last) a s l ≡ Some (b, k) →
-    taking (form.Match x cs last) a s m
-    ≡ Some (record {
-      part = Does (before (Assign (length m.locals) c ∷ []) (chained (length m.locals) (or_32 ((reading x).lead s)) arms b));
-      names = s;
-      numbered = k;
-    })
-match_taken x cs last a s m l k c arms b is h there = value_there x cs last a s m c is
-    ∙ ap (λ (r : Option (List Arm × Numbered)).
-    stays s (joined (option_map (map taking) last) (length m.locals) (or_32 ((reading x).lead s)) a s r >>= valued (length m.locals) c)) h
-    ∙ ap (λ (r : Option (Body × Numbered)).
-    stays s ((r >>= all_chosen (length m.locals) (or_32 ((reading x).lead s)) arms) >>= valued (length m.locals) c)) there
-
-pub ruleset matching = (value_missing, no_arms, no_last, match_taken)

@@ -16,11 +16,6 @@ abbrev pub GivesRest : Result Rest Fault → Option Body → Type 0
 GivesRest (Ok r) o = o ≡ Some (rest_of r)
 GivesRest (Err f) o = Fails f o
 
--- There are statements after it.
-abbrev pub GivesSome : Result Rest Fault → Option (Option Body) → Type 0
-GivesSome (Ok r) o = o ≡ Some (Some (rest_of r))
-GivesSome (Err f) o = Fails f o
-
 -- A choice for each arm on this local of this width, whose second branch is all that follows.
 abbrev pub chained : ℕ → ℕ → List Arm → Body → Body
 chained i w [] last = last

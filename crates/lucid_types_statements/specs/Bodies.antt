@@ -12,6 +12,10 @@ abbrev pub Takes : Result Part Fault → Names → Numbered → Option Taken →
 Takes (Ok p) s m o = o ≡ Some (record { part = p; names = s; numbered = m })
 Takes (Err f) s m o = Fails f o
 
+-- A part of its block, with any names and any numbered unchanged.
+abbrev pub Adds : Result Part Fault → Part → Type 0
+Adds r p = (s : Names) (m : Numbered) → Takes r s m (Some (record { part = p; names = s; numbered = m }))
+
 -- The result, and the locals and texts numbered after it.
 abbrev pub Leaves : {A : Type 0} → Result A Fault → Numbered → Option (A × Numbered) → Type 0
 Leaves (Ok x) m o = o ≡ Some (x, m)

@@ -1,19 +1,22 @@
 // The statements of a block, put together from the back.
-ghost use Rattle.std.specs.Prelude.{◌≡◌, ◌++◌, None, Some, option_map, reverse, IfOk, OnOk};
-ghost use Rattle.lucid_core.specs.declared.body.Stmt.TheVariants as core;
+ghost use Rattle.std.specs.Prelude.{◌≡◌, ◌++◌, None, Some, option_map, reverse, OnOk};
 ghost use Rattle.lucid_core.specs.Endings.{of_either};
-ghost use Rattle.lucid_types_spec.specs.Block.{one};
+ghost use Rattle.lucid_types_spec.specs.declared.scope.ValueType.TheVariants.{Bool};
 ghost use Rattle.lucid_types_laws.specs.declared.part.Part.TheVariants.{Does};
+ghost use Rattle.lucid_types_laws.specs.Reading.{core_of};
 ghost use Rattle.lucid_types_laws.specs.Statement.{chosen, onto, or_empty, put};
 ghost use Rattle.lucid_types_expressions.specs.Gives.{Gives};
-ghost use Rattle.lucid_types_statements.specs.Assembly.{GivesRest, GivesSome, rest_of};
+ghost use Rattle.lucid_types_statements.specs.Assembly.{GivesRest, rest_of};
+ghost use Rattle.lucid_types_statements.specs.Bodies.{Adds};
 
-use crate::simple::one;
+use crate::simple::{one, part};
 use lucid_base::{Items, Memory};
 use lucid_core::{Ending, Expr, Stmt};
-use lucid_types_expressions::Fault;
+use lucid_parse_tree::E;
+use lucid_types_expressions::{Fault, expression};
 use lucid_types_laws::Part;
-use lucid_types_spec::Body;
+use lucid_types_scope::Scope;
+use lucid_types_spec::{Body, ValueType};
 use std::alloc::Global;
 
 /// The rest after a statement: its steps, the last first.
@@ -25,6 +28,7 @@ pub struct Rest {
 
 /// The body of these parts in order.
 #[tactic(auto, using(crate::proofs::Onto::onto_last, std::proofs::lemmas::Grind::common_steps))]
+#[inline(never)]
 pub fn assemble(alloc: Global, parts: Items<Part>) -> Result<Body, Fault>
     ensures { Gives result (option_map or_empty (onto parts None)) }
 {
@@ -34,28 +38,38 @@ pub fn assemble(alloc: Global, parts: Items<Part>) -> Result<Body, Fault>
             steps: Items::new(alloc),
             ending: Ending::Never,
         }),
-        Some(last) => {
-            let rest = alone(alloc, last)?;
-            let Rest { mut steps, ending } = all_before(alloc, parts, rest)?;
-            steps.reverse();
-            Ok(Body {
-                steps: Items::from_vec(steps),
-                ending,
-            })
-        }
+        Some(last) => match alone(alloc, last) {
+            Ok(rest) => all_before(alloc, parts, rest),
+            Err(fault) => {
+                drop(parts);
+                Err(fault)
+            }
+        },
     }
 }
 
 #[tactic(auto, using(crate::proofs::Onto::onto_last, std::proofs::lemmas::Grind::common_steps))]
-fn all_before(alloc: Global, parts: Items<Part>, rest: Rest) -> Result<Rest, Fault>
-    ensures { GivesSome result (onto parts (Some (rest_of rest))) }
+fn all_before(alloc: Global, parts: Items<Part>, rest: Rest) -> Result<Body, Fault>
+    ensures { Gives result (option_map or_empty (onto parts (Some (rest_of rest)))) }
 {
     let mut parts = parts;
     let mut rest = rest;
     'parts: while let Some(part) = parts.pop() {
         rest = before(alloc, part, rest)?;
     }
-    Ok(rest)
+    Ok(in_order(rest))
+}
+
+/// The body of the rest.
+fn in_order(rest: Rest) -> Body
+    ensures { result ≡ rest_of rest }
+{
+    let Rest { mut steps, ending } = rest;
+    steps.reverse();
+    Body {
+        steps: Items::from_vec(steps),
+        ending,
+    }
 }
 
 /// The last part of a block.
@@ -63,21 +77,34 @@ fn alone(alloc: Global, part: Part) -> Result<Rest, Fault>
     ensures { GivesRest result (put part None) }
 {
     match part {
-        Part::Does(Body { steps, ending }) => {
-            let mut behind = Vec::new(alloc);
-            add(&mut behind, steps)?;
-            Ok(Rest {
-                steps: behind,
-                ending,
-            })
-        }
+        Part::Does(body) => turn(alloc, body),
         Part::Guard(test, yes) => {
-            let mut behind = Vec::new(alloc);
-            behind.push(Stmt::If(test, yes, Items::new(alloc)))?;
-            Ok(Rest {
-                steps: behind,
-                ending: Ending::Sometimes,
-            })
+            match one(
+                alloc,
+                Stmt::If(test, yes, Items::new(alloc)),
+                Ending::Sometimes,
+            ) {
+                Ok(body) => turn(alloc, body),
+                Err(_) => Err(Fault::Memory),
+            }
+        }
+    }
+}
+
+/// The steps of a body, the last first.
+fn turn(alloc: Global, body: Body) -> Result<Rest, Fault>
+    ensures { GivesRest result (Some body) }
+{
+    let Body { steps, ending } = body;
+    let mut behind = Vec::new(alloc);
+    match add(&mut behind, steps) {
+        Ok(()) => Ok(Rest {
+            steps: behind,
+            ending,
+        }),
+        Err(_) => {
+            drop(behind);
+            Err(Fault::Memory)
         }
     }
 }
@@ -86,32 +113,51 @@ fn alone(alloc: Global, part: Part) -> Result<Rest, Fault>
 fn before(alloc: Global, part: Part, rest: Rest) -> Result<Rest, Fault>
     ensures { GivesRest result (put part (Some (rest_of rest))) }
 {
-    let Rest {
-        steps: mut behind,
-        ending,
-    } = rest;
     match part {
-        Part::Does(
-            Body {
-                steps,
-                ending: Ending::Never,
-            },
-        ) => {
-            add(&mut behind, steps)?;
-            Ok(Rest {
-                steps: behind,
-                ending,
-            })
-        }
-        Part::Does(_) => Err(Fault::NoRule),
+        Part::Does(body) => does_before(body, rest),
         Part::Guard(test, yes) => {
-            behind.reverse();
-            let mut steps = Vec::new(alloc);
-            steps.push(Stmt::If(test, yes, Items::from_vec(behind)))?;
-            Ok(Rest {
-                steps,
-                ending: either(Ending::Always, ending),
-            })
+            let Body { steps: no, ending } = in_order(rest);
+            match one(
+                alloc,
+                Stmt::If(test, yes, no),
+                either(Ending::Always, ending),
+            ) {
+                Ok(body) => turn(alloc, body),
+                Err(_) => Err(Fault::Memory),
+            }
+        }
+    }
+}
+
+/// A body before the rest. NoRule if it returns on some path.
+fn does_before(body: Body, rest: Rest) -> Result<Rest, Fault>
+    ensures { GivesRest result (put (Does body) (Some (rest_of rest))) }
+{
+    let Body {
+        steps,
+        ending: first,
+    } = body;
+    match first {
+        Ending::Never => {
+            let Rest {
+                steps: mut behind,
+                ending,
+            } = rest;
+            match add(&mut behind, steps) {
+                Ok(()) => Ok(Rest {
+                    steps: behind,
+                    ending,
+                }),
+                Err(_) => {
+                    drop(behind);
+                    Err(Fault::Memory)
+                }
+            }
+        }
+        _ => {
+            drop(steps);
+            drop(rest);
+            Err(Fault::NoRule)
         }
     }
 }
@@ -122,7 +168,14 @@ fn add(behind: &mut Vec<Stmt>, steps: Items<Stmt>) -> Result<(), Memory>
 {
     let mut steps = steps;
     'steps: while let Some(step) = steps.pop() {
-        behind.push(step)?;
+        match behind.push(step) {
+            Ok(()) => {}
+            Err(failed) => {
+                drop(failed);
+                drop(steps);
+                return Err(Memory);
+            }
+        }
     }
     Ok(())
 }
@@ -144,9 +197,49 @@ pub fn either(first: Ending, second: Ending) -> Ending
     }
 }
 
-/// An if of these branches. Without a second one, a branch that always returns is a guard of all the rest.
-pub fn chosen(alloc: Global, test: Expr, yes: Body, no: Option<Body>) -> Result<Part, Memory>
-    ensures { IfOk result (λ part. part ≡ chosen test yes no) }
+/// The body of one part alone.
+#[inline(never)]
+pub fn only(alloc: Global, part: Part) -> Result<Option<Body>, Fault>
+    ensures { Gives result (option_map Some (put part None)) }
+{
+    match part {
+        Part::Does(body) => Ok(Some(body)),
+        Part::Guard(test, yes) => {
+            match one(
+                alloc,
+                Stmt::If(test, yes, Items::new(alloc)),
+                Ending::Sometimes,
+            ) {
+                Ok(body) => Ok(Some(body)),
+                Err(_) => Err(Fault::Memory),
+            }
+        }
+    }
+}
+
+/// An if on this test with these branches. Without a second one, a branch that always returns is a guard of all the rest.
+#[inline(never)]
+pub fn chosen(
+    alloc: Global,
+    scope: &Scope,
+    test: &E,
+    yes: Body,
+    no: Option<Body>,
+) -> Result<Part, Fault>
+    ensures { Gives result (option_map (λ c. chosen c yes no) (core_of test.now scope.now Bool)) }
+{
+    match expression(alloc, scope, ValueType::Bool, test) {
+        Ok(test) => branched(alloc, test, yes, no),
+        Err(fault) => {
+            drop(yes);
+            drop(no);
+            Err(fault)
+        }
+    }
+}
+
+fn branched(alloc: Global, test: Expr, yes: Body, no: Option<Body>) -> Result<Part, Fault>
+    ensures { Adds result (chosen test yes no) }
 {
     let Body {
         steps: yes,
@@ -158,29 +251,14 @@ pub fn chosen(alloc: Global, test: Expr, yes: Body, no: Option<Body>) -> Result<
                 steps: no,
                 ending: second,
             },
-        ) => branches(alloc, test, yes, no, either(first, second)),
+        ) => part(alloc, Stmt::If(test, yes, no), either(first, second)),
         None => match first {
             Ending::Always => Ok(Part::Guard(test, yes)),
-            _ => branches(
+            _ => part(
                 alloc,
-                test,
-                yes,
-                Items::new(alloc),
+                Stmt::If(test, yes, Items::new(alloc)),
                 either(first, Ending::Never),
             ),
         },
     }
-}
-
-fn branches(
-    alloc: Global,
-    test: Expr,
-    yes: Items<Stmt>,
-    no: Items<Stmt>,
-    ending: Ending,
-) -> Result<Part, Memory>
-    ensures { IfOk result (λ part. part ≡ Does (one (core.If test yes no) ending)) }
-{
-    let body = one(alloc, Stmt::If(test, yes, no), ending)?;
-    Ok(Part::Does(body))
 }

@@ -25,14 +25,14 @@ pub fn sending(alloc: Global, scope: &Scope, x: &V) -> Result<Sending, Fault>
     match x {
         V::Paren(x) => sending(alloc, scope, x.get()),
         V::Call(n, xs) => event(alloc, scope, n, xs.as_slice()),
-        V::Delay(x, y) => {
-            let inner = sending(alloc, scope, x.get())?;
-            delay(alloc, scope, inner, y)
-        }
-        V::Locate(x, y) => {
-            let inner = sending(alloc, scope, x.get())?;
-            locate(alloc, scope, inner, y)
-        }
+        V::Delay(x, y) => match sending(alloc, scope, x.get()) {
+            Ok(inner) => delay(alloc, scope, inner, y),
+            Err(fault) => Err(fault),
+        },
+        V::Locate(x, y) => match sending(alloc, scope, x.get()) {
+            Ok(inner) => locate(alloc, scope, inner, y),
+            Err(fault) => Err(fault),
+        },
     }
 }
 
@@ -41,15 +41,22 @@ fn event(alloc: Global, scope: &Scope, n: &Id, xs: &[E]) -> Result<Sending, Faul
 {
     match scope.find(n) {
         Some(Entry::Event(event, widths)) => {
-            let params = int_params(alloc, widths.as_slice())?;
-            let Arguments { names: _, values } = given(alloc, scope, params.as_slice(), xs)?;
-            Ok(Sending {
-                event: *event,
-                args: values,
-                delay: None,
-                to: Destination::Here,
-                delay_first: false,
-            })
+            match int_params(alloc, widths.as_slice()) {
+                Ok(params) => match given(alloc, scope, params.as_slice(), xs) {
+                    Ok(Arguments { names, values }) => {
+                        drop(names);
+                        Ok(Sending {
+                            event: *event,
+                            args: values,
+                            delay: None,
+                            to: Destination::Here,
+                            delay_first: false,
+                        })
+                    }
+                    Err(fault) => Err(fault),
+                },
+                Err(_) => Err(Fault::Memory),
+            }
         }
         _ => Err(Fault::NoRule),
     }

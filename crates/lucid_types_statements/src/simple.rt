@@ -4,11 +4,10 @@ ghost use Rattle.lucid_types_spec.specs.declared.scope.Entry.TheVariants as entr
 ghost use Rattle.lucid_types_spec.specs.Block.{Numbered, one, one_local};
 ghost use Rattle.lucid_types_spec.specs.Names.{called};
 ghost use Rattle.lucid_types_spec.specs.Types.{width_of};
-ghost use Rattle.lucid_core.specs.declared.ending.Ending.TheVariants.{Never};
 ghost use Rattle.lucid_types_laws.specs.declared.part.Part.TheVariants.{Does};
-ghost use Rattle.lucid_types_laws.specs.Statement.{assigned, call_dropped, declared, generated, printed, returned, simple, touch_dropped};
+ghost use Rattle.lucid_types_laws.specs.Statement.{assigned, call_dropped, declared, generated, printed, returned, simple, stays, touch_dropped};
 ghost use Rattle.lucid_types_scope.specs.Numbered.{numbered_of};
-ghost use Rattle.lucid_types_statements.specs.Bodies.{Leaves, Takes};
+ghost use Rattle.lucid_types_statements.specs.Bodies.{Adds, Takes};
 
 use crate::print_holes::holes;
 use crate::sendings::{self, sending};
@@ -27,19 +26,28 @@ pub fn one(alloc: Global, step: Stmt, ending: Ending) -> Result<Body, Memory>
     ensures { IfOk result (λ body. body ≡ one step ending) }
 {
     let mut steps = Items::new(alloc);
-    steps.push(step)?;
-    Ok(Body { steps, ending })
+    match steps.push(step) {
+        Ok(()) => Ok(Body { steps, ending }),
+        Err(_) => {
+            drop(steps);
+            Err(Memory)
+        }
+    }
 }
 
-/// A statement that never returns.
-fn does(alloc: Global, step: Stmt) -> Result<Part, Memory>
-    ensures { IfOk result (λ part. part ≡ Does (one step Never)) }
+/// One statement as a part of its block. It is not inlined, so that nested blocks take little stack; nor are the forms of statements.
+#[inline(never)]
+pub fn part(alloc: Global, step: Stmt, ending: Ending) -> Result<Part, Fault>
+    ensures { Adds result (Does (one step ending)) }
 {
-    let body = one(alloc, step, Ending::Never)?;
-    Ok(Part::Does(body))
+    match one(alloc, step, ending) {
+        Ok(body) => Ok(Part::Does(body)),
+        Err(_) => Err(Fault::Memory),
+    }
 }
 
 /// A declared local, with its name and its number behind it. NoRule if its type or its value has none.
+#[inline(never)]
 pub fn declare(
     alloc: Global,
     scope: &mut Scope,
@@ -52,16 +60,16 @@ pub fn declare(
 {
     match type_of(t) {
         None => Err(Fault::NoRule),
-        Some(t) => {
-            let c = expression(alloc, scope, t, x)?;
-            match enter_local(alloc, scope, numbering, n, t) {
-                Ok(local) => Ok(does(alloc, Stmt::Assign(local, c))?),
+        Some(t) => match expression(alloc, scope, t, x) {
+            Ok(c) => match enter_local(alloc, scope, numbering, n, &t) {
+                Ok(local) => part(alloc, Stmt::Assign(local, c), Ending::Never),
                 Err(_) => {
                     drop(c);
                     Err(Fault::Memory)
                 }
-            }
-        }
+            },
+            Err(fault) => Err(fault),
+        },
     }
 }
 
@@ -71,16 +79,16 @@ fn enter_local(
     scope: &mut Scope,
     numbering: &mut Numbering,
     n: &Id,
-    t: ValueType,
+    t: &ValueType,
 ) -> Result<u32, Memory>
     ensures local { IfOk result (λ i. i ≡ length numbering.old.locals) }
-    ensures names { IfOk result (λ i. scope.new ≡ called n.now (entry.Local i t) ∷ scope.old) }
-    ensures numbered { OnOk result (numbered_of numbering.new ≡ one_local (width_of t) (numbered_of numbering.old)) }
+    ensures names { IfOk result (λ i. scope.new ≡ called n.now (entry.Local i t.now) ∷ scope.old) }
+    ensures numbered { OnOk result (numbered_of numbering.new ≡ one_local (width_of t.now) (numbered_of numbering.old)) }
 {
-    let local = new_local(numbering, width_of(t))?;
+    let local = new_local(numbering, width_of(*t))?;
     scope.enter(Named {
         name: n.copy(alloc)?,
-        entry: Entry::Local(local, t),
+        entry: Entry::Local(local, *t),
     })?;
     Ok(local)
 }
@@ -96,81 +104,105 @@ pub fn new_local(numbering: &mut Numbering, width: Width) -> Result<u32, Memory>
 }
 
 /// An assignment. NoRule if the name is no local's, or the value doesn't have its type.
+#[inline(never)]
 pub fn assign(alloc: Global, scope: &Scope, n: &Id, x: &E) -> Result<Part, Fault>
     ensures { (m : Numbered) → Takes result scope.now m (simple scope.now m (assigned n.now x.now scope.now)) }
 {
     match scope.find(n) {
-        Some(Entry::Local(local, t)) => {
-            let c = expression(alloc, scope, *t, x)?;
-            Ok(does(alloc, Stmt::Assign(*local, c))?)
-        }
+        Some(Entry::Local(local, t)) => match expression(alloc, scope, *t, x) {
+            Ok(c) => part(alloc, Stmt::Assign(*local, c), Ending::Never),
+            Err(fault) => Err(fault),
+        },
         _ => Err(Fault::NoRule),
     }
 }
 
 /// A call of a function, whose value is dropped.
+#[inline(never)]
 pub fn drop_call(alloc: Global, scope: &Scope, n: &Id, xs: &[E]) -> Result<Part, Fault>
     ensures { (m : Numbered) → Takes result scope.now m (simple scope.now m (call_dropped n.now xs.now scope.now)) }
 {
-    let (_, c) = call(alloc, scope, n, xs)?;
-    Ok(does(alloc, Stmt::Drop(c))?)
+    match call(alloc, scope, n, xs) {
+        Ok((_, c)) => part(alloc, Stmt::Drop(c), Ending::Never),
+        Err(fault) => Err(fault),
+    }
 }
 
 /// A call of an array, whose value is dropped.
+#[inline(never)]
 pub fn drop_touch(alloc: Global, scope: &Scope, x: &A) -> Result<Part, Fault>
     ensures { (m : Numbered) → Takes result scope.now m (simple scope.now m (touch_dropped x.now scope.now)) }
 {
-    let (_, c) = touch(alloc, scope, x)?;
-    let c = Boxed::new(alloc, c)?;
-    Ok(does(alloc, Stmt::Drop(Expr::Array(c)))?)
+    match touch(alloc, scope, x) {
+        Ok((_, c)) => match Boxed::new(alloc, c) {
+            Ok(c) => part(alloc, Stmt::Drop(Expr::Array(c)), Ending::Never),
+            Err(_) => Err(Fault::Memory),
+        },
+        Err(fault) => Err(fault),
+    }
 }
 
 /// A `generate` statement.
+#[inline(never)]
 pub fn generate(alloc: Global, scope: &Scope, x: &V) -> Result<Part, Fault>
     ensures { (m : Numbered) → Takes result scope.now m (simple scope.now m (generated x.now scope.now)) }
 {
-    let out = sending(alloc, scope, x)?;
-    Ok(does(alloc, sendings::sent(out))?)
+    match sending(alloc, scope, x) {
+        Ok(out) => part(alloc, sendings::sent(out), Ending::Never),
+        Err(fault) => Err(fault),
+    }
 }
 
 /// A print. NoRule if its arguments are not as many as its text has `%d`.
+#[inline(never)]
 pub fn print(
     alloc: Global,
     scope: &Scope,
     numbering: &mut Numbering,
     text: &Id,
     xs: &[E],
-) -> Result<Body, Fault>
-    ensures { Leaves result (numbered_of numbering.new) (printed text.now xs.now scope.now (numbered_of numbering.old)) }
+) -> Result<Part, Fault>
+    ensures { Takes result scope.now (numbered_of numbering.new) (stays scope.now (printed text.now xs.now scope.now (numbered_of numbering.old))) }
 {
-    let args = all_free(alloc, scope, xs)?;
-    if args.len() != holes(text.bytes()) {
-        return Err(Fault::NoRule);
+    match all_free(alloc, scope, xs) {
+        Ok(args) => {
+            if args.len() != holes(text.bytes()) {
+                drop(args);
+                return Err(Fault::NoRule);
+            }
+            match numbering.forms.number(alloc, text) {
+                Ok(form) => part(alloc, Stmt::Say { form, args }, Ending::Never),
+                Err(_) => {
+                    drop(args);
+                    Err(Fault::Memory)
+                }
+            }
+        }
+        Err(fault) => Err(fault),
     }
-    let form = numbering.forms.number(alloc, text)?;
-    Ok(one(alloc, Stmt::Say { form, args }, Ending::Never)?)
 }
 
 /// A return in a body with this answer. NoRule if it gives a value and the answer is none, or the other way round.
+#[inline(never)]
 pub fn give_back(
     alloc: Global,
     answer: &Option<ValueType>,
     scope: &Scope,
     x: &Option<E>,
-) -> Result<Body, Fault>
-    ensures { (m : Numbered) → Leaves result m (returned answer.now x.now scope.now m) }
+) -> Result<Part, Fault>
+    ensures { (m : Numbered) → Takes result scope.now m (stays scope.now (returned answer.now x.now scope.now m)) }
 {
     match answer {
         None => match x {
-            None => Ok(one(alloc, Stmt::Return(None), Ending::Always)?),
+            None => part(alloc, Stmt::Return(None), Ending::Always),
             Some(_) => Err(Fault::NoRule),
         },
         Some(t) => match x {
             None => Err(Fault::NoRule),
-            Some(x) => {
-                let c = expression(alloc, scope, *t, x)?;
-                Ok(one(alloc, Stmt::Return(Some(c)), Ending::Always)?)
-            }
+            Some(x) => match expression(alloc, scope, *t, x) {
+                Ok(c) => part(alloc, Stmt::Return(Some(c)), Ending::Always),
+                Err(fault) => Err(fault),
+            },
         },
     }
 }

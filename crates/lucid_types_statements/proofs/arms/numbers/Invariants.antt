@@ -3,4 +3,4 @@ use Rattle.std.proofs.Common.{◌≡◌, map, take}
 use Rattle.lucid_types_statements.proofs.arms.numbers.Given as goal
 
 abbrev pub invariant-loop-case : goal.invariant-loop-case
-invariant-loop-case l = l.numbers.items ≡ map (λ z. z.0) (take l.case-index l.cases)
+invariant-loop-case l = l.numbers ≡ map (λ z. z.0) (take l.case-index l.cases)
