@@ -1,5 +1,5 @@
 -- The spelling and the typing of a program without `match` do not depend on those of a `match`.
-use Rattle.std.proofs.Common.{◌≡◌, ◌↔◌, List, [], ◌∷◌, Bool, true, false, ◌&&◌, Some, map, refl, sym, ap, ap₂, subst, ◌∙◌}
+use Rattle.std.proofs.Common.{◌≡◌, ◌↔◌, ℕ, ◌+◌, List, [], ◌∷◌, Bool, true, false, ◌&&◌, Option, None, Some, Result, map, refl, sym, ap, ap₂, subst, ◌∙◌}
 use Rattle.std.specs.List.{list_all}
 use Rattle.std.proofs.lemmas.Bool.{and_parts}
 use Rattle.lucid_core.specs.Numbers.{all_hold}
@@ -14,12 +14,16 @@ use Rattle.lucid_parse_tree.specs.declared.tree.DeclKind.TheVariants as d
 use Rattle.lucid_parse_tree.specs.declared.tree.No.{No, fold-No, fold-roll-No, roll-No, map-No}
 use Rattle.lucid_parse_tree.specs.declared.tree.No.TheOpen.{No-F, S-F, C-F}
 use Rattle.lucid_parse_tree.specs.declared.tree.S.{S, fold-S, fold-roll-S, ind-S, roll-S, map-S}
-use Rattle.lucid_types_laws.specs.Laws.{ComputesBlocks}
+use Rattle.lucid_parse_tree.specs.declared.tree.Tree.{Tree}
+use Rattle.lucid_types_laws.specs.Declaration.{declaration}
+use Rattle.lucid_types_laws.specs.Laws.{ComputesBlocks, DecidesPrograms}
 use Rattle.lucid_types_laws.specs.Statement as typing
 use Rattle.lucid_types_laws.specs.Statement.{Blocking, Other, Taking}
 use Rattle.lucid_types_spec.specs.Block.{Block}
-use Rattle.lucid_types_spec.specs.Limits.{cases_are_few, cases_of_choice, cases_of_no, cases_of_statement}
-use Rattle.lucid_top_laws.specs.Matches.{MatchesAreApart, Spelling, Typing, declaration_with, has_no_match, no_match_step, spelled_with, statement_with, statements_of}
+use Rattle.lucid_types_spec.specs.Declaration.{Definitions, parts_of, start}
+use Rattle.lucid_types_spec.specs.Found.{Adds, Decides, Refusal, found, on_limit, on_made}
+use Rattle.lucid_types_spec.specs.Limits.{cases_are_few, cases_of_choice, cases_of_no, cases_of_statement, passed}
+use Rattle.lucid_top_laws.specs.Matches.{MatchesAreApart, Spelling, Typing, declaration_with, definitions_with, fun_with, handle_with, has_no_match, no_match_step, spelled_with, statement_with, statements_of}
 
 abbrev other_test : No → Bool
 other_test = fold-No Bool Bool Bool cases_of_no no_match_step cases_of_choice
@@ -164,6 +168,39 @@ module _ (other : Typing) where
       map typing.taking xs ≡ map (fold-S Other Taking Taking typing.other_step (statement_with other) typing.choice_step) xs
   typed xs there = sym (body_same typing.other_step (statement_with other) typing.statement_step typing.choice_step typed_same xs there)
 
+  definitions : (number line : ℕ) (x : DeclKind) (m : Definitions) → list_all has_no_match (statements_of x) ≡ true →
+      definitions_with other number line x m ≡ declaration number line x m
+  definitions number line (d.Const t n v) m there = refl
+  definitions number line (d.Global short w n s) m there = refl
+  definitions number line (d.Memop n first second ss) m there = refl
+  definitions number line (d.Event n ps) m there = refl
+  definitions number line (d.Handle n ps ss) m there = ap (λ (fs : List Taking). handle_with (typing.block fs) number line n ps m) (sym (typed ss there))
+  definitions number line (d.Fun a n ps ss) m there = ap (λ (fs : List Taking). fun_with (typing.block fs) number line a n ps m) (sym (typed ss there))
+  definitions number line (d.Group n ms) m there = refl
+
+  same_next : (number : ℕ) (x : Decl) (o : Option Definitions) (f g : Definitions → Result Definitions Refusal) → ((l : Definitions) → f l ≡ g l) →
+      on_made number x o f ≡ on_made number x o g
+  same_next number x None f g same = refl
+  same_next number x (Some l) f g same = ap (on_limit number x.line (passed x.kind (parts_of l))) (same l)
+
+  all_found : (number : ℕ) (m : Definitions) (xs : List Decl) → list_all (λ (x : Decl). list_all has_no_match (statements_of x.kind)) xs ≡ true →
+      found (definitions_with other) number m xs ≡ found declaration number m xs
+  all_found number m [] there = refl
+  all_found number m (x ∷ xs) there =
+      let parts = and_parts _ _ there in
+      ap (λ (o : Option Definitions). on_made number x o (λ l. found (definitions_with other) (number + 1) l xs)) (definitions number x.line x.kind m parts.0)
+      ∙ same_next number x (declaration number x.line x.kind m) (λ l. found (definitions_with other) (number + 1) l xs) (λ l. found declaration (number + 1) l xs)
+      (λ l. all_found (number + 1) l xs parts.1)
+
+-- A function that finds the same decides the same.
+decided : (one two : Adds) (tree : Tree) → found two 1 start tree.decls ≡ found one 1 start tree.decls → Decides one tree → Decides two tree
+decided one two tree same of = record {
+  typed = λ core typed. let r = of.typed core typed in (r.0, same ∙ r.1, r.2);
+  refused = λ number line limit refused. same ∙ of.refused number line limit refused;
+  on_ok = λ m is. of.on_ok m (sym same ∙ is);
+  on_err = λ r is. of.on_err r (sym same ∙ is);
+}
+
 -- ---- the limit
 
 few_same : (y : S-F Bool Bool Bool) → is_match y ≡ false → cases_of_statement y ≡ no_match_step y
@@ -183,9 +220,10 @@ few (x ∷ xs) there =
     let parts = and_parts _ _ there in
     ap₂ (λ (a b : Bool). a && b) (fold_same cases_of_no cases_of_statement no_match_step cases_of_choice few_same x parts.0 ∙ parts.0) (few xs parts.1)
 
-pub apart : ComputesBlocks → MatchesAreApart
-apart computes = record {
+pub apart : ComputesBlocks → DecidesPrograms → MatchesAreApart
+apart computes decides = record {
   spelling = λ other tree there. ap (λ (fs : List Spelled). spelling.all_of fs []) (all_declared other tree.decls there);
-  typing = λ other xs there a s m b k. subst (λ (fs : List Taking). (typing.block fs a s m ≡ Some (b, k)) ↔ Block a s m xs b k) (typed other xs there) (computes a s m xs b k);
+  typing = λ other tree there. decided declaration (definitions_with other) tree (all_found other 1 start tree.decls there) (decides tree);
+  bodies = λ other xs there a s m b k. subst (λ (fs : List Taking). (typing.block fs a s m ≡ Some (b, k)) ↔ Block a s m xs b k) (typed other xs there) (computes a s m xs b k);
   limit = few;
 }

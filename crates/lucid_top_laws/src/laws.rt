@@ -148,12 +148,13 @@ pub fn undeclared_groups_are_apart()
     ensures { UndeclaredGroupsAreApart }
 {}
 
-/// A law: if no statement of a program is a `match`, its spelling and its typing are those of the language without `match`. A core has no
-/// `match`.
+/// A law: if no statement of a program is a `match`, its spelling and its typing are those of the language without `match`. Its core, or
+/// its first refusal, is the same whatever a `match` means. A core has no `match`.
 pub fn matches_are_apart()
     ensures { MatchesAreApart }
 {
     blocks_are_computed();
+    programs_are_decided();
 }
 
 /// A law: a text in which no template begins is read by the language without templates.
