@@ -11,6 +11,7 @@ mod GroupTreesLemmas
 mod GroupsLemmas
 mod HandlerExamples
 mod LawsLemmas
+mod LevelsLemmas
 mod MatchesLemmas
 pub mod Moving
 mod OursLemmas

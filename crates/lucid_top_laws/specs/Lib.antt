@@ -2,6 +2,7 @@ pub mod Calls
 pub mod GroupTrees
 pub mod Groups
 pub mod Laws
+pub mod Levels
 pub mod Matches
 pub mod Moves
 pub mod Packet

@@ -10,6 +10,7 @@ ghost use Rattle.lucid_top_fit.specs.Room.{RefusedForRoom};
 ghost use Rattle.lucid_top_laws.specs.GroupTrees.{UndeclaredGroupsAreApart};
 ghost use Rattle.lucid_top_laws.specs.Groups.{GroupsAreApart};
 ghost use Rattle.lucid_top_laws.specs.Laws.{AnswersAreOne, AnswersAreThere};
+ghost use Rattle.lucid_top_laws.specs.Levels.{RoomyCodeIsPlaced};
 ghost use Rattle.lucid_top_laws.specs.Matches.{MatchesAreApart};
 ghost use Rattle.lucid_top_laws.specs.Moves.{MovesRunWhole};
 ghost use Rattle.lucid_top_laws.specs.Packet.{AuditsRunWhole, FitsRunWhole, RunsWhole};
@@ -90,6 +91,13 @@ pub fn nodes_lack_room()
     the_first_refusal_is_found();
     declarations_are_computed();
     commands_lack_room();
+}
+
+/// A law: if the counts of code keep their limits and each node has room in a table of its own at its level, first fit places the code.
+pub fn roomy_code_is_placed()
+    ensures { RoomyCodeIsPlaced }
+{
+    layouts_are_there();
 }
 
 /// A law: the same holds for all placed code that represents a program, however it was placed.
