@@ -106,16 +106,16 @@ is_scenario = (told, (text_utf8, told_is), refl)
 
 -- ---- the normal form
 
-expr_becomes : (y : Expr-F Expr Stmt Touch) (p : Site) (ws : List ℕ) → flat_expr (roll-Expr y) p ws ≡ f.expr_step (map-Expr Expr Stmt Touch (Flatten Expr) (Flatten (List Stmt)) (Flatten Touch) flat_expr flat_stmt flat_touch y) p ws
+pub expr_becomes : (y : Expr-F Expr Stmt Touch) (p : Site) (ws : List ℕ) → flat_expr (roll-Expr y) p ws ≡ f.expr_step (map-Expr Expr Stmt Touch (Flatten Expr) (Flatten (List Stmt)) (Flatten Touch) flat_expr flat_stmt flat_touch y) p ws
 expr_becomes y p ws = ap (λ (t : Flatten Expr). t p ws) (fold-roll-Expr (Flatten Expr) (Flatten (List Stmt)) (Flatten Touch) f.expr_step f.stmt_step f.touch_step y)
 
-stmt_becomes : (y : Stmt-F Expr Stmt Touch) (p : Site) (ws : List ℕ) → flat_stmt (roll-Stmt y) p ws ≡ f.stmt_step (map-Stmt Expr Stmt Touch (Flatten Expr) (Flatten (List Stmt)) (Flatten Touch) flat_expr flat_stmt flat_touch y) p ws
+pub stmt_becomes : (y : Stmt-F Expr Stmt Touch) (p : Site) (ws : List ℕ) → flat_stmt (roll-Stmt y) p ws ≡ f.stmt_step (map-Stmt Expr Stmt Touch (Flatten Expr) (Flatten (List Stmt)) (Flatten Touch) flat_expr flat_stmt flat_touch y) p ws
 stmt_becomes y p ws = ap (λ (t : Flatten (List Stmt)). t p ws) (fold-roll-Stmt (Flatten Expr) (Flatten (List Stmt)) (Flatten Touch) f.expr_step f.stmt_step f.touch_step y)
 
-touch_becomes : (y : Touch-F Expr Stmt Touch) (p : Site) (ws : List ℕ) → flat_touch (roll-Touch y) p ws ≡ f.touch_step (map-Touch Expr Stmt Touch (Flatten Expr) (Flatten (List Stmt)) (Flatten Touch) flat_expr flat_stmt flat_touch y) p ws
+pub touch_becomes : (y : Touch-F Expr Stmt Touch) (p : Site) (ws : List ℕ) → flat_touch (roll-Touch y) p ws ≡ f.touch_step (map-Touch Expr Stmt Touch (Flatten Expr) (Flatten (List Stmt)) (Flatten Touch) flat_expr flat_stmt flat_touch y) p ws
 touch_becomes y p ws = ap (λ (t : Flatten Touch). t p ws) (fold-roll-Touch (Flatten Expr) (Flatten (List Stmt)) (Flatten Touch) f.expr_step f.stmt_step f.touch_step y)
 
-ruleset becomes = (expr_becomes, stmt_becomes, touch_becomes)
+pub ruleset becomes = (expr_becomes, stmt_becomes, touch_becomes)
 
 -- The program calls no function, so it is its own flat form.
 flat_is : flat_of core ≡ core

@@ -1,10 +1,13 @@
 mod AnswersThereLemmas
+mod BenchExamples
 mod Declares
 mod Empty
 mod Entering
 mod FlightExamples
+mod GeneratedCode
 mod GeneratedCore
 mod GeneratedProgram
+mod GeneratedRun
 mod GeneratedSettings
 mod GeneratedTree
 mod GroupTreesLemmas

@@ -15,7 +15,8 @@ pub use laws::{
     plain_texts_are_read, refused_for_room, roomy_code_is_placed, undeclared_groups_are_apart,
 };
 pub use worked::{
-    a_log_is_summarized, a_scene_is_generated, a_template_is_expanded, generated_texts_are_read,
-    limits_are_generated, once_is_answered, pipelines_are_answered, placements_are_answered,
-    run_whole_is_answered, run_with_an_event_is_answered, two_packets_are_answered,
+    a_log_is_summarized, a_scene_is_generated, a_template_is_expanded, bench_is_answered,
+    generated_texts_are_read, limits_are_generated, once_is_answered, pipelines_are_answered,
+    placements_are_answered, run_whole_is_answered, run_with_an_event_is_answered,
+    two_packets_are_answered,
 };

@@ -5,6 +5,7 @@ ghost use Rattle.lucid_top.specs.Answer.{Answers};
 ghost use Rattle.lucid_top_laws.specs.Calls.{expand, once, over_an_event, run_pipe, run_whole};
 ghost use Rattle.lucid_top_laws.specs.Summaries.{AreRead};
 
+use crate::roomy_code_is_placed;
 use lucid_base::Span;
 use lucid_lex::{Kind, Sign, Token, Word};
 use lucid_parse_spec::declarations_are_read_as_spelled;
@@ -120,4 +121,14 @@ pub fn generated_texts_are_read()
     ensures { AreRead 69426392 1 }
 {
     declarations_are_read_as_spelled();
+}
+
+/// `bench 69426392 1` is answered: first fit places the 88 nodes of that program, its network runs nine events, one is pending at the end,
+/// and the line summarizes the log.
+pub fn bench_is_answered()
+    ensures { Answers (over_an_event (codes "bench" ∷ codes "69426392" ∷ codes "1" ∷ []))
+        (Ok (codes "bench seed 69426392 n 1 entered 9 lost 0 pending 1 bytes 599 fnv c51af7c75b63ebe7\n")) }
+{
+    declarations_are_read_as_spelled();
+    roomy_code_is_placed();
 }
