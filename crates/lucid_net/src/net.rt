@@ -242,7 +242,9 @@ impl<'a> Net<'a> {
         ensures memory { result ≢ Err memory_error }
     {
         let mut net = self;
-        net.end(sink)
+        let ended = net.end(sink);
+        drop(net);
+        ended
     }
 
     /// Ends a network that is not used again.
@@ -271,7 +273,10 @@ impl<'a> Net<'a> {
         let mut net = self;
         match all_ticks(&mut net, sink, watch) {
             Ok(()) => net.drain(sink),
-            Err(error) => Err(error),
+            Err(error) => {
+                drop(net);
+                Err(error)
+            }
         }
     }
 }
