@@ -19,7 +19,7 @@ use Rattle.lucid_top_words.specs.Words.{number_of, word_at}
 use Rattle.lucid_top_words.proofs.Readings.{short}
 use Rattle.lucid_top.specs.Call.{files_named}
 use Rattle.lucid_top.specs.Answer.{Answers, AnswersTo, CommandAnswers, OverTexts, Question, command_files, given}
-use Rattle.lucid_top.specs.Premises.{HasCore, HasValue}
+use Rattle.lucid_top.specs.Premises.{HasCore}
 use Rattle.lucid_top.specs.Headline.{Accepted, AuditAccepts, FirstFitPlaces, Hold, Holds, NoneFailed, Three, drive, code_by, network_log, network_sights, placed_by, run_pipe, run_placed, run_whole, snap, snapshot_log, steps_log, steps_sights}
 use Rattle.lucid_top.specs.Drive.{DriveAnswers, DriveShows}
 use Rattle.lucid_top.specs.Pipes.{IsReady, Ready, piped, ready, target}

@@ -12,7 +12,7 @@ use Rattle.lucid_top.specs.Headline.{Accepted, AuditAccepts, FirstFitPlaces, Thr
 use Rattle.lucid_top.specs.PremisesLaws.{IsAccepted}
 use Rattle.lucid_top_fit.specs.Fit.{Composed, Fit, IsComposed, IsFitted, IsPlaced, composed, fit_of, normal_of}
 use Rattle.lucid_top_fit.specs.Passes.{PassView}
-use Rattle.lucid_top_fit.specs.Placing.{IsAudited, IsCounted, IsPlan}
+use Rattle.lucid_top_fit.specs.Placing.{IsAudited, IsPlan}
 use Rattle.lucid_top_program.specs.Program.{AreTokens, IsElaborated, IsExpanded, IsOrdered, IsParsed, IsProgram, IsProgramFrom, IsProgramOf, IsRead, IsSource}
 use Rattle.lucid_top_words.specs.declared.refusal.Refusal.{Refusal}
 use Rattle.lucid_top_words.specs.Outcome.{After, FollowedBy}

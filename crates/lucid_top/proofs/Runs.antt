@@ -21,7 +21,7 @@ use Rattle.lucid_net.specs.Wanting.{StopsAt}
 use Rattle.lucid_net_spec.specs.Ways.{Network}
 use Rattle.lucid_top.specs.Headline.{OutOfMemory, Wrote}
 use Rattle.lucid_top_words.proofs.Seen.{All, Prefix, all-of, some-of}
-use Rattle.lucid_top_words.proofs.Parts.{Declines-first, went_on}
+use Rattle.lucid_top_words.proofs.Parts.{Declines-first, one-text, went_on}
 
 -- memory ran out of a part as it did of the whole
 ran-out : (X Y : Type 0) (r : Refusal) → RanOut {X = X} (Err r) → RanOut {X = Y} (Err r)
@@ -135,6 +135,18 @@ runs-for g ps ps' end is runs = subst (λ (e : Command). PassesRun (CommandRuns 
 
 pub shows-for : {c d : Command} (g : Given) (old new : Seen) (end : End) → c ≡ d → Shown (CommandShows d g) old new end → Shown (CommandShows c g) old new end
 shows-for g old new end is shown = subst (λ (e : Command). Shown (CommandShows e g) old new end) (sym is) shown
+
+-- one that runs no passes left them as they were
+pub no-passes : {c d : Command} (g : Given) (ps : List PassView) (end : End) → c ≡ d → ((now : code.CodeParts) → CommandRuns d g now → ⊥) → PassesRun (CommandRuns c g) ps ps end
+no-passes g ps end is none = runs-for g ps ps end is (inl (refl, λ now on. absurd (none now on)))
+
+-- one that shows the watch nothing
+none-shown : (seen : Seen) (end : End) → Shown (λ o. o ≡ Ok []) seen seen end
+none-shown seen (Ok u) = inl (one-text [], refl)
+none-shown seen (Err r) = inl refl
+
+pub no-sights : {c d : Command} (g : Given) (seen : Seen) (end : End) → c ≡ d → CommandShows d g ≡ (λ o. o ≡ Ok []) → Shown (CommandShows c g) seen seen end
+no-sights g seen end is none = shows-for g seen seen end is (subst (λ (shows : Result (List Sight) Refusal → Type 0). Shown shows seen seen end) (sym none) (none-shown seen end))
 
 -- what was written as a view has it was written to the sink
 pub wrote-of : {W : Type 0} (w : W → Option (List ℕ)) (f : W → ℕ) (old new : W) (result : Status) (text : List ℕ) →

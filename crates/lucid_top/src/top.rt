@@ -220,6 +220,11 @@ fn work<F: Files, W: Sink, V: Watch>(
     let Some(command) = Command::read(words) else {
         return Err(Refusal::Usage);
     };
-    let texts = read_files(alloc, files, words, command.files())?;
-    perform(alloc, command, words, texts.as_slice(), out, passes, watch)
+    match read_files(alloc, files, words, command.files()) {
+        Ok(texts) => perform(alloc, command, words, texts.as_slice(), out, passes, watch),
+        Err(refusal) => {
+            drop(command);
+            Err(refusal)
+        }
+    }
 }

@@ -33,7 +33,9 @@ pub fn audit<W: Sink>(
 {
     let names = names(alloc, passes)?;
     let pipes = prepare(alloc, texts, passes)?;
-    put_fit(alloc, out, names.as_slice(), &pipes.fitted)
+    let ended = put_fit(alloc, out, names.as_slice(), &pipes.fitted);
+    drop(pipes);
+    ended
 }
 
 // The pipeline with the places of the third text.

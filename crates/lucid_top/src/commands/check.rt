@@ -22,7 +22,9 @@ pub fn check<W: Sink>(alloc: Global, texts: &[Vec<u8>], out: &mut W) -> Result<(
         Performs nowhere answers W.written W.faults out.old out.new result }
 {
     let core = prepare(alloc, text_at(texts, 0))?;
-    put(out, &core)?;
+    let ended = put(out, &core);
+    drop(core);
+    ended?;
     Ok(())
 }
 

@@ -38,22 +38,24 @@ pub fn drive<W: Sink, V: Watch>(
         Shown (DriveShows (text 0) (text 1) (text 2) passes') (V.seen watch.old) (V.seen watch.new) result }
 {
     let ready = Ready::read(alloc, texts, passes)?;
-    drive_ready(alloc, &ready, out, watch)
+    drive_ready(alloc, ready, out, watch)
 }
 
 // Does the steps, and takes no memory once the pipe is there.
 fn drive_ready<W: Sink, V: Watch>(
     alloc: Global,
-    ready: &Ready,
+    ready: Ready,
     out: &mut W,
     watch: &mut V,
 ) -> Result<(), Refusal>
-    requires { ReadyKeeps ready.now }
-    ensures performs { let text = drive_log (driven (ready_view ready.now)) in
+    requires { ReadyKeeps ready }
+    ensures performs { let text = drive_log (driven (ready_view ready)) in
         Performs nowhere (λ o. o ≡ Ok text) W.written W.faults out.old out.new result }
-    ensures shown { Shown (λ o. o ≡ Ok (sights (driven (ready_view ready.now)))) (V.seen watch.old) (V.seen watch.new) result }
+    ensures shown { Shown (λ o. o ≡ Ok (sights (driven (ready_view ready)))) (V.seen watch.old) (V.seen watch.new) result }
 {
     let core = &ready.pipes.target.core;
     let placed = &ready.pipes.fitted.placed;
-    drive_on_pipe(alloc, core, placed, &ready.scene, out, watch)
+    let ended = drive_on_pipe(alloc, core, placed, &ready.scene, out, watch);
+    drop(ready);
+    ended
 }

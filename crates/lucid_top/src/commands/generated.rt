@@ -72,22 +72,22 @@ pub fn bench<W: Sink, V: Watch>(
 {
     let texts = texts(alloc, seed, events)?;
     let ready = Ready::read(alloc, texts.as_slice(), passes)?;
-    bench_ready(alloc, &ready, seed, events, out, watch)
+    bench_ready(alloc, ready, seed, events, out, watch)
 }
 
 // Runs the network, and writes the line.
 fn bench_ready<W: Sink, V: Watch>(
     alloc: Global,
-    ready: &Ready,
+    ready: Ready,
     seed: u64,
     events: u32,
     out: &mut W,
     watch: &mut V,
 ) -> Result<(), Refusal>
-    requires { ReadyKeeps ready.now }
-    ensures performs { let line = bench_line seed events (log (network_of (ready_view ready.now))) in
+    requires { ReadyKeeps ready }
+    ensures performs { let line = bench_line seed events (log (network_of (ready_view ready))) in
         Performs nowhere (λ o. o ≡ Ok line) W.written W.faults out.old out.new result }
-    ensures shown { Shown (λ o. o ≡ Ok (sights_of (ready_view ready.now))) (V.seen watch.old) (V.seen watch.new) result }
+    ensures shown { Shown (λ o. o ≡ Ok (sights_of (ready_view ready))) (V.seen watch.old) (V.seen watch.new) result }
 {
     let tally = tallied(alloc, ready, watch)?;
     put_bench(out, seed, events as u64, &tally)?;
@@ -107,15 +107,18 @@ fn texts(alloc: Global, seed: u64, events: u32) -> Result<Vec<Vec<u8>>, Memory>
 }
 
 // The tally of the log of the network. A log that has more bytes than 64 bits can number counts as out of memory.
-fn tallied<V: Watch>(alloc: Global, ready: &Ready, watch: &mut V) -> Result<Tally, Refusal>
-    requires { ReadyKeeps ready.now }
-    ensures log { IfOk result (λ tally. tally.bytes ≡ log (network_of (ready_view ready.now))) }
+fn tallied<V: Watch>(alloc: Global, ready: Ready, watch: &mut V) -> Result<Tally, Refusal>
+    requires { ReadyKeeps ready }
+    ensures log { IfOk result (λ tally. tally.bytes ≡ log (network_of (ready_view ready))) }
     ensures memory { IfErr result (λ r. r ≡ refusal.Memory) }
-    ensures shown { Shown (λ o. o ≡ Ok (sights_of (ready_view ready.now))) (V.seen watch.old) (V.seen watch.new) result }
+    ensures shown { Shown (λ o. o ≡ Ok (sights_of (ready_view ready))) (V.seen watch.old) (V.seen watch.new) result }
 {
     let mut tally = Tally::new();
     match run_network(alloc, ready, &mut tally, watch) {
         Ok(()) => Ok(tally),
-        Err(_) => Err(Refusal::Memory),
+        Err(refusal) => {
+            drop(refusal);
+            Err(Refusal::Memory)
+        }
     }
 }

@@ -35,7 +35,9 @@ pub fn layout<W: Sink>(
 {
     let names = names(alloc, passes)?;
     let pipes = Pipes::read(alloc, texts, passes)?;
-    put_fit(alloc, out, names.as_slice(), &pipes.fitted)
+    let ended = put_fit(alloc, out, names.as_slice(), &pipes.fitted);
+    drop(pipes);
+    ended
 }
 
 /// Writes the lines of the passes of these names, and those of the layout.

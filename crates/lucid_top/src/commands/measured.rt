@@ -2,14 +2,14 @@
 // nodes.
 ghost use Rattle.std.specs.Prelude.{◌≡◌, ◌<◌, IfOk, length};
 ghost use Rattle.lucid_pass_spec.specs.Replace.{MayReplace};
-ghost use Rattle.lucid_top_fit.specs.Fit.{RunsOn, made_view, normal_of};
+ghost use Rattle.lucid_top_fit.specs.Fit.{made_view, normal_of};
 ghost use Rattle.lucid_top_fit.specs.Passes.{PassesRun, passes_view};
 ghost use Rattle.lucid_top_words.specs.Files.{texts_in};
 ghost use Rattle.lucid_top_words.specs.Outcome.{Prepares};
 ghost use Rattle.lucid_top_words.specs.Words.{word_at};
 ghost use Rattle.lucid_top.specs.Held.{MeasuredKeeps, PipesKeep, TargetKeeps, measured_view, pipes_view, target_view};
 ghost use Rattle.lucid_top.specs.Pipes.{RunsCode};
-ghost use Rattle.lucid_top.specs.Placed.{IsAuditedIn, IsMeasured, IsMeasuredAs, IsMeasuredIn};
+ghost use Rattle.lucid_top.specs.Placed.{IsAuditedIn, IsMeasured, IsMeasuredAs};
 
 use crate::commands::setup::{Measured, Pipes, Target};
 use lucid_pass::Pass;
@@ -32,7 +32,13 @@ impl Measured {
             PassesRun (RunsCode (text 0) (text 1)) (seen passes.old.items) (seen passes.new.items) result }
     {
         let target = Target::read(alloc, texts)?;
-        measured_in(alloc, target, passes)
+        match composed(alloc, &target.core, passes) {
+            Ok(made) => measured_as(alloc, target, made),
+            Err(refusal) => {
+                drop(target);
+                Err(refusal)
+            }
+        }
     }
 
     /// Returns the pipeline with the places that the text gives.
@@ -43,32 +49,27 @@ impl Measured {
         ensures target { IfOk result (λ p. p.target ≡ self.target) }
     {
         let Measured { target, made } = self;
-        let plan = plan(alloc, text, &made.code)?;
-        let placed = audited(alloc, &target.core, &target.limits, made.code, &plan)?;
-        Ok(Pipes {
-            target,
-            fitted: Fitting {
-                placed,
-                gone: made.gone,
+        match plan(alloc, text, &made.code) {
+            Ok(plan) => match audited(alloc, &target.core, &target.limits, made.code, &plan) {
+                Ok(placed) => Ok(Pipes {
+                    target,
+                    fitted: Fitting {
+                        placed,
+                        gone: made.gone,
+                    },
+                }),
+                Err(refusal) => {
+                    drop(target);
+                    Err(refusal)
+                }
             },
-        })
+            Err(refusal) => {
+                drop(target);
+                drop(made);
+                Err(refusal)
+            }
+        }
     }
-}
-
-fn measured_in(
-    alloc: Global,
-    target: Target,
-    passes: &mut Vec<Box<dyn Pass>>,
-) -> Result<Measured, Refusal>
-    requires { TargetKeeps target }
-    ensures measured { let passes' = passes_view called gives count passes.old.items in
-        Prepares (IsMeasuredIn passes' (target_view target)) measured_view result }
-    ensures keeps { IfOk result MeasuredKeeps }
-    ensures ran { let seen = passes_view called gives count in
-        PassesRun (RunsOn target.core) (seen passes.old.items) (seen passes.new.items) result }
-{
-    let made = composed(alloc, &target.core, passes)?;
-    measured_as(alloc, target, made)
 }
 
 // The counts keep their limits.
@@ -78,6 +79,12 @@ fn measured_as(alloc: Global, target: Target, made: Composition) -> Result<Measu
     ensures measured { Prepares (IsMeasuredAs (target_view target) (made_view made)) measured_view result }
     ensures keeps { IfOk result MeasuredKeeps }
 {
-    counted(alloc, &target.core, &target.limits, &made.code)?;
-    Ok(Measured { target, made })
+    match counted(alloc, &target.core, &target.limits, &made.code) {
+        Ok(()) => Ok(Measured { target, made }),
+        Err(refusal) => {
+            drop(target);
+            drop(made);
+            Err(refusal)
+        }
+    }
 }

@@ -18,18 +18,18 @@ use std::alloc::Global;
 /// for events that wait, and the log of the ticks before is written in full by then.
 pub fn run_network<W: Sink, V: Watch>(
     alloc: Global,
-    ready: &Ready,
+    ready: Ready,
     out: &mut W,
     watch: &mut V,
 ) -> Result<(), Refusal>
-    requires { ReadyKeeps ready.now }
-    ensures performs { let r = ready_view ready.now in
+    requires { ReadyKeeps ready }
+    ensures performs { let r = ready_view ready in
         Performs (StopsAt (network_of r)) (λ o. o ≡ Ok (log (network_of r))) W.written W.faults out.old out.new result }
-    ensures shown { Shown (λ o. o ≡ Ok (sights_of (ready_view ready.now))) (V.seen watch.old) (V.seen watch.new) result }
+    ensures shown { Shown (λ o. o ≡ Ok (sights_of (ready_view ready))) (V.seen watch.old) (V.seen watch.new) result }
 {
     let target = &ready.pipes.target;
     let placed = &ready.pipes.fitted.placed;
-    run_on_pipes(
+    let ended = run_on_pipes(
         alloc,
         &target.core,
         placed,
@@ -37,5 +37,7 @@ pub fn run_network<W: Sink, V: Watch>(
         &target.limits,
         out,
         watch,
-    )
+    );
+    drop(ready);
+    ended
 }

@@ -33,7 +33,9 @@ pub fn once<W: Sink>(
         Performs nowhere answers W.written W.faults out.old out.new result }
 {
     let ran = prepare(alloc, text_at(texts, 0), word_bytes(words, 2), arguments)?;
-    put(out, &ran)?;
+    let ended = put(out, &ran);
+    drop(ran);
+    ended?;
     Ok(())
 }
 

@@ -1,12 +1,11 @@
 // The setup of commands over pipelines from the texts of their files: a program that is placed in the stages of a target, and a scenario.
 ghost use Rattle.std.specs.Prelude.{◌<◌, IfOk, length};
-ghost use Rattle.lucid_top_fit.specs.Fit.{RunsOn};
 ghost use Rattle.lucid_top_fit.specs.Passes.{PassesRun, passes_view};
 ghost use Rattle.lucid_top_words.specs.Files.{texts_in};
 ghost use Rattle.lucid_top_words.specs.Outcome.{Prepares};
 ghost use Rattle.lucid_top_words.specs.Words.{word_at};
-ghost use Rattle.lucid_top.specs.Held.{PipesKeep, ReadyKeeps, TargetKeeps, pipes_view, ready_view, target_view};
-ghost use Rattle.lucid_top.specs.Pipes.{IsPiped, IsPlacedIn, IsReady, IsSet, RunsCode};
+ghost use Rattle.lucid_top.specs.Held.{PipesKeep, ReadyKeeps, pipes_view, ready_view};
+ghost use Rattle.lucid_top.specs.Pipes.{IsPiped, IsReady, RunsCode};
 
 use crate::commands::setup::{Pipes, Ready, Target};
 use crate::commands::text_at;
@@ -31,25 +30,14 @@ impl Pipes {
             PassesRun (RunsCode (text 0) (text 1)) (seen passes.old.items) (seen passes.new.items) result }
     {
         let target = Target::read(alloc, texts)?;
-        placed_in(alloc, target, passes)
+        match fitted(alloc, &target.core, &target.limits, passes) {
+            Ok(fitted) => Ok(Pipes { target, fitted }),
+            Err(refusal) => {
+                drop(target);
+                Err(refusal)
+            }
+        }
     }
-}
-
-// Places the code that the passes make of the program by first fit.
-fn placed_in(
-    alloc: Global,
-    target: Target,
-    passes: &mut Vec<Box<dyn Pass>>,
-) -> Result<Pipes, Refusal>
-    requires { TargetKeeps target }
-    ensures pipes { let passes' = passes_view called gives count passes.old.items in
-        Prepares (IsPlacedIn passes' (target_view target)) pipes_view result }
-    ensures keeps { IfOk result PipesKeep }
-    ensures ran { let seen = passes_view called gives count in
-        PassesRun (RunsOn target.core) (seen passes.old.items) (seen passes.new.items) result }
-{
-    let fitted = fitted(alloc, &target.core, &target.limits, passes)?;
-    Ok(Pipes { target, fitted })
 }
 
 impl Ready {
@@ -67,16 +55,12 @@ impl Ready {
             PassesRun (RunsCode (text 0) (text 1)) (seen passes.old.items) (seen passes.new.items) result }
     {
         let pipes = Pipes::read(alloc, texts, passes)?;
-        set(alloc, pipes, text_at(texts, 2))
+        match scenario(alloc, text_at(texts, 2), &pipes.target.core) {
+            Ok(scene) => Ok(Ready { pipes, scene }),
+            Err(refusal) => {
+                drop(pipes);
+                Err(refusal)
+            }
+        }
     }
-}
-
-// The scenario that the text writes for them.
-fn set(alloc: Global, pipes: Pipes, text: &[u8]) -> Result<Ready, Refusal>
-    requires { PipesKeep pipes }
-    ensures ready { Prepares (IsSet text.now (pipes_view pipes)) ready_view result }
-    ensures keeps { IfOk result ReadyKeeps }
-{
-    let scene = scenario(alloc, text, &pipes.target.core)?;
-    Ok(Ready { pipes, scene })
 }

@@ -35,5 +35,5 @@ pub fn run_pipe<W: Sink, V: Watch>(
         Shown (RunPipeShows (text 0) (text 1) (text 2) passes') (V.seen watch.old) (V.seen watch.new) result }
 {
     let ready = Ready::read(alloc, texts, passes)?;
-    run_network(alloc, &ready, out, watch)
+    run_network(alloc, ready, out, watch)
 }

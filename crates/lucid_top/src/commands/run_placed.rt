@@ -41,7 +41,7 @@ pub fn run_placed<W: Sink, V: Watch>(
         Shown (RunPlacedShows (text 0) (text 1) (text 2) (text 3) passes') (V.seen watch.old) (V.seen watch.new) result }
 {
     let ready = prepare(alloc, texts, passes)?;
-    run_network(alloc, &ready, out, watch)
+    run_network(alloc, ready, out, watch)
 }
 
 // The pipelines with the places of the fourth text, ready to run.
@@ -71,8 +71,13 @@ fn with_scenario(
     ensures ready { Prepares (IsReadyOn text.now placement.now (measured_view measured)) ready_view result }
     ensures keeps { IfOk result ReadyKeeps }
 {
-    let scene = scenario(alloc, text, &measured.target.core)?;
-    with_places(alloc, measured, scene, placement)
+    match scenario(alloc, text, &measured.target.core) {
+        Ok(scene) => with_places(alloc, measured, scene, placement),
+        Err(refusal) => {
+            drop(measured);
+            Err(refusal)
+        }
+    }
 }
 
 fn with_places(
@@ -86,6 +91,11 @@ fn with_places(
     ensures ready { Prepares (IsPlacedOn scene placement.now (measured_view measured)) ready_view result }
     ensures keeps { IfOk result ReadyKeeps }
 {
-    let pipes = measured.place(alloc, placement)?;
-    Ok(Ready { pipes, scene })
+    match measured.place(alloc, placement) {
+        Ok(pipes) => Ok(Ready { pipes, scene }),
+        Err(refusal) => {
+            drop(scene);
+            Err(refusal)
+        }
+    }
 }

@@ -6,8 +6,8 @@ ghost use Rattle.lucid_top_words.specs.Files.{texts_in};
 ghost use Rattle.lucid_top_words.specs.Outcome.{Prepares};
 ghost use Rattle.lucid_top_words.specs.Words.{word_at};
 ghost use Rattle.lucid_top_words.specs.Writing.{Performs, anywhere};
-ghost use Rattle.lucid_top.specs.Held.{NetworkKeeps, target_view};
-ghost use Rattle.lucid_top.specs.RunWhole.{RunWholeAnswers, RunsUnder};
+ghost use Rattle.lucid_top.specs.Held.{NetworkKeeps};
+ghost use Rattle.lucid_top.specs.RunWhole.{RunWholeAnswers};
 
 use crate::commands::setup::{Network, Target};
 use crate::commands::text_at;
@@ -26,7 +26,9 @@ pub fn run_whole<W: Sink>(alloc: Global, texts: &[Vec<u8>], out: &mut W) -> Resu
         Performs anywhere (RunWholeAnswers (text 0) (text 1) (text 2)) W.written W.faults out.old out.new result }
 {
     let network = prepare(alloc, texts)?;
-    match put(alloc, out, &network) {
+    let ended = put(alloc, out, &network);
+    drop(network);
+    match ended {
         Ok(()) => Ok(()),
         Err(error) => Err(of_net(error)),
     }
@@ -40,15 +42,13 @@ fn prepare(alloc: Global, texts: &[Vec<u8>]) -> Result<Network, Refusal>
     ensures keeps { IfOk result NetworkKeeps }
 {
     let target = Target::read(alloc, texts)?;
-    with_scenario(alloc, target, text_at(texts, 2))
-}
-
-fn with_scenario(alloc: Global, target: Target, text: &[u8]) -> Result<Network, Refusal>
-    ensures log { Prepares (RunsUnder text.now (target_view target)) (λ n. log (whole n.target.core n.scene n.target.limits)) result }
-    ensures keeps { IfOk result NetworkKeeps }
-{
-    let scene = scenario(alloc, text, &target.core)?;
-    Ok(Network { target, scene })
+    match scenario(alloc, text_at(texts, 2), &target.core) {
+        Ok(scene) => Ok(Network { target, scene }),
+        Err(refusal) => {
+            drop(target);
+            Err(refusal)
+        }
+    }
 }
 
 // Writes the log, block by block.

@@ -35,7 +35,9 @@ pub fn snap<W: Sink>(
         PassesRun (RunsCode (text 0) (text 1)) (seen passes.old.items) (seen passes.new.items) result }
 {
     let ready = Ready::read(alloc, texts, passes)?;
-    snap_ready(alloc, &ready, after, out)
+    let ended = snap_ready(alloc, &ready, after, out);
+    drop(ready);
+    ended
 }
 
 fn snap_ready<W: Sink>(alloc: Global, ready: &Ready, after: u64, out: &mut W) -> Result<(), Refusal>
@@ -46,7 +48,9 @@ fn snap_ready<W: Sink>(alloc: Global, ready: &Ready, after: u64, out: &mut W) ->
     let placed = &ready.pipes.fitted.placed;
     let mut pipe = Pipe::new(alloc, placed)?;
     let core = &ready.pipes.target.core;
-    match snap_pipe(alloc, &mut pipe, placed, core, &ready.scene, after, out) {
+    let ended = snap_pipe(alloc, &mut pipe, placed, core, &ready.scene, after, out);
+    drop(pipe);
+    match ended {
         Ok(()) => Ok(()),
         Err(error) => Err(of_snap(error)),
     }

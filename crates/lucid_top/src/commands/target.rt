@@ -1,15 +1,13 @@
 // A program under the limits of a target, from the texts of their files.
 ghost use Rattle.std.specs.Prelude.{◌<◌, IfOk, length};
-ghost use Rattle.lucid_effects_spec.specs.Order.{IsAccepted};
 ghost use Rattle.lucid_top_words.specs.Files.{texts_in};
 ghost use Rattle.lucid_top_words.specs.Outcome.{Prepares};
 ghost use Rattle.lucid_top_words.specs.Words.{word_at};
 ghost use Rattle.lucid_top.specs.Held.{TargetKeeps, target_view};
-ghost use Rattle.lucid_top.specs.Pipes.{IsTarget, IsUnder};
+ghost use Rattle.lucid_top.specs.Pipes.{IsTarget};
 
 use crate::commands::setup::Target;
 use crate::commands::text_at;
-use lucid_core::Core;
 use lucid_top_program::{accepted, limits};
 use lucid_top_words::Refusal;
 use std::alloc::Global;
@@ -23,16 +21,12 @@ impl Target {
         ensures keeps { IfOk result TargetKeeps }
     {
         let core = accepted(alloc, text_at(texts, 0))?;
-        under(alloc, core, text_at(texts, 1))
+        match limits(alloc, text_at(texts, 1)) {
+            Ok(limits) => Ok(Target { core, limits }),
+            Err(refusal) => {
+                drop(core);
+                Err(refusal)
+            }
+        }
     }
-}
-
-// The program under the limits that the text writes.
-fn under(alloc: Global, core: Core, text: &[u8]) -> Result<Target, Refusal>
-    requires { IsAccepted core }
-    ensures target { Prepares (IsUnder core text.now) target_view result }
-    ensures keeps { IfOk result TargetKeeps }
-{
-    let limits = limits(alloc, text)?;
-    Ok(Target { core, limits })
 }

@@ -1,4 +1,3 @@
-use Rattle.std.proofs.Common.{◌↔◌}
 use Rattle.lucid_top.proofs.Headlines.{is-program}
 use Rattle.lucid_top.proofs.PremisesLemmas.{audits, fits, has-core}
 use Rattle.lucid_top.proofs.premises.premises_are_exact.Goals as goal

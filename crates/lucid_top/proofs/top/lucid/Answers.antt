@@ -117,3 +117,9 @@ returns-clause-passes g c = laws.passes-clause c.call.ensures.ended
 
 pub returns-clause-told : goal.returns-clause-told
 returns-clause-told g c = laws.told-clause c.call.ensures.ended
+
+pub returns-clause-unread : goal.returns-clause-unread
+returns-clause-unread g c = c.call.ensures.unread
+
+pub returns-clause-tries : goal.returns-clause-tries
+returns-clause-tries g c = c.call.ensures.tries

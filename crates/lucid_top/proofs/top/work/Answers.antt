@@ -1,11 +1,10 @@
-use Rattle.std.proofs.Common.{◌≡◌, ◌∙◌, List, length, ap, refl, subst, Some, None, Err, rules, sym}
+use Rattle.std.proofs.Common.{◌≡◌, ◌∙◌, List, length, ap, refl, subst, Some, None, rules, sym}
 use Rattle.std.proofs.lemmas.List.{length-map}
 use Rattle.lucid_top.specs.Answer.{MayStop, command_files}
 use Rattle.lucid_top.specs.Call.{bytes_of}
 use Rattle.lucid_top_words.specs.Command.{command_of}
 use Rattle.lucid_top_words.specs.Files.{TriesOnly, texts_in}
 use Rattle.lucid_top_words.specs.declared.command.NamedFile.{NamedFile}
-use Rattle.lucid_top_words.specs.Outcome.{End}
 use Rattle.lucid_top_words.specs.Views.{files_view}
 use Rattle.lucid_top_words.proofs.Readings.{read-length}
 use Rattle.lucid_top_words.proofs.Seen.{performs-in, nothing-kept}
@@ -17,38 +16,37 @@ returns-in_default-clause-done g c =
     let is : command_of (bytes_of c.args.words.now) ≡ None = search rules in
     does-usage _ is refl nothing-kept refl refl
 
-pub returns-in_err-texts-clause-done : goal.returns-in_err-texts-clause-done
-returns-in_err-texts-clause-done g c =
+pub returns-in-Ok-clause-done : goal.returns-in-Ok-clause-done
+returns-in-Ok-clause-done g c =
     let is : command_of (bytes_of c.args.words.now) ≡ Some c.in-Some.command = search rules in
-    let end : ◌≡◌ {A = End} c.from_residual.result (Err c.in_err-texts.field-0.0) = search rules in
-    does-refused c.in-Some.command _ is c.files.ensures.files c.in_err-texts.ensures.reads end nothing-kept refl refl
-
-pub returns-clause-done : goal.returns-clause-done
-returns-clause-done g c =
-    let is : command_of (bytes_of c.args.words.now) ≡ Some c.in-Some.command = search rules in
-    does-performed c.in-Some.command _ is c.files.ensures.files c.in_ok-texts.ensures.reads c.as_slice.ensures.value
+    does-performed c.in-Some.command _ is c.files.ensures.files c.in-Ok.ensures.reads c.as_slice.ensures.value
     (performs-in g.W.Sink.written g.W.Sink.faults c.args.out.now c.perform.new.out (MayStop c.in-Some.command _) _ c.perform.result c.perform.ensures.performs)
     c.perform.ensures.ran c.perform.ensures.shown
 
-pub returns-in_err-texts-clause-unread : goal.returns-in_err-texts-clause-unread
-returns-in_err-texts-clause-unread g c = λ none.
+pub returns-in-Err-clause-done : goal.returns-in-Err-clause-done
+returns-in-Err-clause-done g c =
+    let is : command_of (bytes_of c.args.words.now) ≡ Some c.in-Some.command = search rules in
+    does-refused c.in-Some.command _ is c.files.ensures.files c.in-Err.ensures.reads refl nothing-kept refl refl
+
+pub returns-in-Ok-clause-unread : goal.returns-in-Ok-clause-unread
+returns-in-Ok-clause-unread g c = λ none.
     let is : command_of (bytes_of c.args.words.now) ≡ Some c.in-Some.command = search rules in
     c.read_files.ensures.none (c.files.ensures.files ∙ sym (ap command_files is) ∙ none)
 
-pub returns-clause-unread : goal.returns-clause-unread
-returns-clause-unread g c = λ none.
+pub returns-in-Err-clause-unread : goal.returns-in-Err-clause-unread
+returns-in-Err-clause-unread g c = λ none.
     let is : command_of (bytes_of c.args.words.now) ≡ Some c.in-Some.command = search rules in
     c.read_files.ensures.none (c.files.ensures.files ∙ sym (ap command_files is) ∙ none)
 
-pub returns-in_err-texts-clause-tries : goal.returns-in_err-texts-clause-tries
-returns-in_err-texts-clause-tries g c =
+pub returns-in-Ok-clause-tries : goal.returns-in-Ok-clause-tries
+returns-in-Ok-clause-tries g c =
     let words = bytes_of c.args.words.now in
     let is : command_of words ≡ Some c.in-Some.command = search rules in
     subst (λ (files : List NamedFile). TriesOnly words files (g.F.Files.tried c.args.files.now) (g.F.Files.tried c.read_files.new.files))
     (c.files.ensures.files ∙ sym (ap command_files is)) c.read_files.ensures.tries
 
-pub returns-clause-tries : goal.returns-clause-tries
-returns-clause-tries g c =
+pub returns-in-Err-clause-tries : goal.returns-in-Err-clause-tries
+returns-in-Err-clause-tries g c =
     let words = bytes_of c.args.words.now in
     let is : command_of words ≡ Some c.in-Some.command = search rules in
     subst (λ (files : List NamedFile). TriesOnly words files (g.F.Files.tried c.args.files.now) (g.F.Files.tried c.read_files.new.files))
@@ -58,6 +56,6 @@ pub perform-requires : goal.perform-requires
 perform-requires g c =
     let words = bytes_of c.args.words.now in
     let seen = files_view g.F.Files.held g.F.Files.given g.F.Files.faults in
-    let read = read-length words (seen c.args.files.now) (seen c.read_files.new.files) c.files.result.now (texts_in c.in_ok-texts.texts.items) c.in_ok-texts.ensures.reads in
-    let many : length c.in_ok-texts.texts.items ≡ length (texts_in c.in_ok-texts.texts.items) = sym (length-map c.in_ok-texts.texts.items _) in
+    let read = read-length words (seen c.args.files.now) (seen c.read_files.new.files) c.files.result.now (texts_in c.in-Ok.texts.items) c.in-Ok.ensures.reads in
+    let many : length c.in-Ok.texts.items ≡ length (texts_in c.in-Ok.texts.items) = sym (length-map c.in-Ok.texts.items _) in
     record { texts = ap length c.as_slice.ensures.value ∙ many ∙ read ∙ ap length c.files.ensures.files; counted = search rules }

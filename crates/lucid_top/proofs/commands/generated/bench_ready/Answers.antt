@@ -16,30 +16,30 @@ use Rattle.lucid_top.proofs.commands.generated.bench_ready.Goals as goal
 
 pub returns-in_err-tally-clause-performs : goal.returns-in_err-tally-clause-performs
 returns-in_err-tally-clause-performs g c =
-    let text = bench_line c.args.seed c.args.events (log (network_of (ready_view c.args.ready.now))) in
+    let text = bench_line c.args.seed c.args.events (log (network_of (ready_view c.args.ready))) in
     ended-by-memory nowhere (λ (o : Outcome). o ≡ Ok text) g.W.Sink.written g.W.Sink.faults c.args.out.now c.in_err-tally.field-0.0 c.from_residual.result c.in_err-tally.ensures.memory (search rules)
 
 pub returns-in_err-tally-clause-shown : goal.returns-in_err-tally-clause-shown
 returns-in_err-tally-clause-shown g c =
-    shown-refused (λ (o : Result (List Sight) Refusal). o ≡ Ok (sights_of (ready_view c.args.ready.now))) (g.V.Watch.seen c.args.watch.now) (g.V.Watch.seen c.tallied.new.watch)
+    shown-refused (λ (o : Result (List Sight) Refusal). o ≡ Ok (sights_of (ready_view c.args.ready))) (g.V.Watch.seen c.args.watch.now) (g.V.Watch.seen c.tallied.new.watch)
     c.in_err-tally.field-0.0 c.from_residual.result c.in_err-tally.ensures.shown (search rules)
 
 pub returns-in_err-put_bench-clause-performs : goal.returns-in_err-put_bench-clause-performs
 returns-in_err-put_bench-clause-performs g c =
-    let line : bench_line c.args.seed c.args.events c.in_ok-tally.tally.bytes ≡ bench_line c.args.seed c.args.events (log (network_of (ready_view c.args.ready.now))) = ap (bench_line c.args.seed c.args.events) c.in_ok-tally.ensures.log in
-    let text = bench_line c.args.seed c.args.events (log (network_of (ready_view c.args.ready.now))) in
+    let line : bench_line c.args.seed c.args.events c.in_ok-tally.tally.bytes ≡ bench_line c.args.seed c.args.events (log (network_of (ready_view c.args.ready))) = ap (bench_line c.args.seed c.args.events) c.in_ok-tally.ensures.log in
+    let text = bench_line c.args.seed c.args.events (log (network_of (ready_view c.args.ready))) in
     cut nowhere g.W.Sink.written g.W.Sink.faults c.args.out.now c.put_bench.new.sink text c.from_residual-in_err-put_bench.result
     (subst (PutsPart g.W.Sink.written g.W.Sink.faults c.args.out.now c.put_bench.new.sink) line c.in_err-put_bench.ensures.part) (search rules)
 
 pub returns-in_err-put_bench-clause-shown : goal.returns-in_err-put_bench-clause-shown
 returns-in_err-put_bench-clause-shown g c =
-    shown-cut (λ (o : Result (List Sight) Refusal). o ≡ Ok (sights_of (ready_view c.args.ready.now))) (g.V.Watch.seen c.args.watch.now) (g.V.Watch.seen c.tallied.new.watch) c.in_ok-tally.tally
+    shown-cut (λ (o : Result (List Sight) Refusal). o ≡ Ok (sights_of (ready_view c.args.ready))) (g.V.Watch.seen c.args.watch.now) (g.V.Watch.seen c.tallied.new.watch) c.in_ok-tally.tally
     refusal.WriteFault c.from_residual-in_err-put_bench.result c.in_ok-tally.ensures.shown (search rules)
 
 pub returns-clause-performs : goal.returns-clause-performs
 returns-clause-performs g c =
-    let line : bench_line c.args.seed c.args.events c.in_ok-tally.tally.bytes ≡ bench_line c.args.seed c.args.events (log (network_of (ready_view c.args.ready.now))) = ap (bench_line c.args.seed c.args.events) c.in_ok-tally.ensures.log in
-    let text = bench_line c.args.seed c.args.events (log (network_of (ready_view c.args.ready.now))) in
+    let line : bench_line c.args.seed c.args.events c.in_ok-tally.tally.bytes ≡ bench_line c.args.seed c.args.events (log (network_of (ready_view c.args.ready))) = ap (bench_line c.args.seed c.args.events) c.in_ok-tally.ensures.log in
+    let text = bench_line c.args.seed c.args.events (log (network_of (ready_view c.args.ready))) in
     (text, one-text text, subst (PutsAll g.W.Sink.written g.W.Sink.faults c.args.out.now c.put_bench.new.sink) line c.in_ok-put_bench.ensures.all)
 
 pub returns-clause-shown : goal.returns-clause-shown

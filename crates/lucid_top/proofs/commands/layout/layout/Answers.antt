@@ -31,10 +31,10 @@ returns-clause-performs g c =
     let text = word_at (texts_in c.args.texts.now) in
     let ps = passes_view (λ b. (goal.Pass-dyn g (b.vtable, b.value)).called b.value) (λ b. (goal.Pass-dyn g (b.vtable, b.value)).gives b.value) (λ b. (goal.Pass-dyn g (b.vtable, b.value)).count b.value) c.args.passes.now.items in
     let names : c.as_slice.result.now ≡ map PassView.name ps = c.as_slice.ensures.value ∙ c.in_ok-names.ensures ∙ names-of _ _ _ c.args.passes.now.items in
-    performs-after g.W.Sink.written g.W.Sink.faults c.args.out.now c.put_fit.new.out nowhere (IsPiped (text 0) (text 1) ps) (λ p (o : Outcome). o ≡ Ok (fit_text (map PassView.name ps) p.fitted))
-    c.in_ok-pipes.ensures.pipes (λ begun none. none) c.put_fit.result
-    (subst (λ (ns : List (List ℕ)). Performs nowhere (λ (o : Outcome). o ≡ Ok (fit_text ns (fit_view c.in_ok-pipes.pipes.fitted))) g.W.Sink.written g.W.Sink.faults c.args.out.now c.put_fit.new.out c.put_fit.result)
-    names c.put_fit.ensures)
+    performs-after g.W.Sink.written g.W.Sink.faults c.args.out.now c.put_fit-ended.new.out nowhere (IsPiped (text 0) (text 1) ps) (λ p (o : Outcome). o ≡ Ok (fit_text (map PassView.name ps) p.fitted))
+    c.in_ok-pipes.ensures.pipes (λ begun none. none) c.put_fit-ended.result
+    (subst (λ (ns : List (List ℕ)). Performs nowhere (λ (o : Outcome). o ≡ Ok (fit_text ns (fit_view c.in_ok-pipes.pipes.fitted))) g.W.Sink.written g.W.Sink.faults c.args.out.now c.put_fit-ended.new.out c.put_fit-ended.result)
+    names c.put_fit-ended.ensures)
 
 pub returns-clause-ran : goal.returns-clause-ran
-returns-clause-ran g c = ran-ok Pipes (Unit {0}) _ _ _ c.in_ok-pipes.pipes c.put_fit.result c.in_ok-pipes.ensures.ran
+returns-clause-ran g c = ran-ok Pipes (Unit {0}) _ _ _ c.in_ok-pipes.pipes c.put_fit-ended.result c.in_ok-pipes.ensures.ran

@@ -26,8 +26,8 @@ pub returns-clause-performs : goal.returns-clause-performs
 returns-clause-performs g c =
     let text = word_at (texts_in c.args.texts.now) in
     let ps = passes_view (λ b. (goal.Pass-dyn g (b.vtable, b.value)).called b.value) (λ b. (goal.Pass-dyn g (b.vtable, b.value)).gives b.value) (λ b. (goal.Pass-dyn g (b.vtable, b.value)).count b.value) c.args.passes.now.items in
-    performs-after g.W.Sink.written g.W.Sink.faults c.args.out.now c.snap_ready.new.out anywhere (IsReady (text 0) (text 1) (text 2) ps) (λ r (p : Outcome). p ≡ Ok (snap_log (driven r) c.args.after))
-    c.in_ok-ready.ensures.ready (λ begun stops. stops) c.snap_ready.result c.snap_ready.ensures
+    performs-after g.W.Sink.written g.W.Sink.faults c.args.out.now c.snap_ready-ended.new.out anywhere (IsReady (text 0) (text 1) (text 2) ps) (λ r (p : Outcome). p ≡ Ok (snap_log (driven r) c.args.after))
+    c.in_ok-ready.ensures.ready (λ begun stops. stops) c.snap_ready-ended.result c.snap_ready-ended.ensures
 
 pub returns-clause-ran : goal.returns-clause-ran
-returns-clause-ran g c = ran-ok Ready (Unit {0}) _ _ _ c.in_ok-ready.ready c.snap_ready.result c.in_ok-ready.ensures.ran
+returns-clause-ran g c = ran-ok Ready (Unit {0}) _ _ _ c.in_ok-ready.ready c.snap_ready-ended.result c.in_ok-ready.ensures.ran

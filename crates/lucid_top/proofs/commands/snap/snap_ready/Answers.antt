@@ -15,12 +15,12 @@ returns-in-Ok g c =
     let r = ready_view c.args.ready.now in
     let is : drive_of r.pipes.under.core c.in_ok-pipe.pipe r.scene ≡ driven r = ap (λ (p : PipeParts). drive_of r.pipes.under.core p r.scene) c.in_ok-pipe.ensures in
     let text = snap_log (driven r) c.args.after in
-    (text, one-text text, subst (λ (d : Drive). Writes g.W.Sink.written g.W.Sink.faults c.args.out.now c.snap.new.sink (snap_log d c.args.after) (Ok tt)) is c.in-Ok.ensures)
+    (text, one-text text, subst (λ (d : Drive). Writes g.W.Sink.written g.W.Sink.faults c.args.out.now c.snap-ended.new.sink (snap_log d c.args.after) (Ok tt)) is c.in-Ok.ensures)
 
-pub returns : goal.returns
-returns g c =
+pub returns-in-Err : goal.returns-in-Err
+returns-in-Err g c =
     let r = ready_view c.args.ready.now in
     let is : drive_of r.pipes.under.core c.in_ok-pipe.pipe r.scene ≡ driven r = ap (λ (p : PipeParts). drive_of r.pipes.under.core p r.scene) c.in_ok-pipe.ensures in
     let text = snap_log (driven r) c.args.after in
-    snap-stopped g.W.Sink.written g.W.Sink.faults c.args.out.now c.snap.new.sink text c.in-Err.error (Err c.of_snap.result)
-    (subst (λ (d : Drive). Writes g.W.Sink.written g.W.Sink.faults c.args.out.now c.snap.new.sink (snap_log d c.args.after) (Err c.in-Err.error)) is c.in-Err.ensures) (search rules)
+    snap-stopped g.W.Sink.written g.W.Sink.faults c.args.out.now c.snap-ended.new.sink text c.in-Err.error (Err c.of_snap.result)
+    (subst (λ (d : Drive). Writes g.W.Sink.written g.W.Sink.faults c.args.out.now c.snap-ended.new.sink (snap_log d c.args.after) (Err c.in-Err.error)) is c.in-Err.ensures) (search rules)
