@@ -17,6 +17,7 @@ use Rattle.lucid_top_words.specs.declared.status.Status.TheVariants as status
 use Rattle.lucid_top_words.specs.Views.{sink_view}
 use Rattle.lucid_top_words.specs.Words.{word_at}
 use Rattle.std.specs.Io.KnownBytes.{Keeps}
+use Rattle.lucid_io.specs.Puts.{PutsPart}
 use Rattle.lucid_net.specs.Wanting.{StopsAt}
 use Rattle.lucid_net_spec.specs.Ways.{Network}
 use Rattle.lucid_top.specs.Headline.{OutOfMemory, Wrote}
@@ -71,19 +72,30 @@ pub ran-in : (Y : Type 0) (texts texts' : List (List ℕ)) (ps ps' : List PassVi
     PassesRun {X = Y} (RunsCode (word_at texts 0) (word_at texts 1)) ps ps' end → PassesRun {X = Y} (RunsCode (word_at texts' 0) (word_at texts' 1)) ps ps' end
 ran-in Y texts texts' ps ps' end same ran = subst (λ (l : List (List ℕ)). PassesRun {X = Y} (RunsCode (word_at l 0) (word_at l 1)) ps ps' end) same ran
 
+-- ---- an answer that is known
+
+module _ {W : Type 0} (w : W → Option (List ℕ)) (f : W → ℕ) (out out' : W) (stops : List ℕ → Type 0) (answers : Outcome → Type 0) where
+  refused-as : (r : Refusal) → Declines answers r → Untouched w f out out' → Performs stops answers w f out out' (Err r)
+  refused-as refusal.Memory d nothing = inl nothing
+  refused-as refusal.WriteFault d nothing = absurd d
+  refused-as (refusal.ReadFault word) d nothing = absurd d
+  refused-as (refusal.TooLong word) d nothing = absurd d
+  refused-as r d nothing = (d, nothing)
+
+  -- the refusal is the answer, with nothing written
+  pub refused : (r : Refusal) (end : End) → Declines answers r → end ≡ Err r → Untouched w f out out' → Performs stops answers w f out out' end
+  refused r end d is nothing = subst (Performs stops answers w f out out') (sym is) (refused-as r d nothing)
+
+  -- a write of the text failed
+  pub answer-cut : (text : List ℕ) (end : End) → IsTheAnswer answers (Ok text) → PutsPart w f out out' text → end ≡ Err refusal.WriteFault → Performs stops answers w f out out' end
+  answer-cut text end answer part is = subst (Performs stops answers w f out out') (sym is) (text, answer, part)
+
 -- ---- a part, and what comes after it
 
 module _ {W : Type 0} {X : Type 0} (w : W → Option (List ℕ)) (f : W → ℕ) (out out' : W) (stops : List ℕ → Type 0) (part : Result X Refusal → Type 0) (rest : X → Outcome → Type 0) where
-  declined-as : (r : Refusal) → Declines (FollowedBy part rest) r → Untouched w f out out' → Performs stops (FollowedBy part rest) w f out out' (Err r)
-  declined-as refusal.Memory d nothing = inl nothing
-  declined-as refusal.WriteFault d nothing = absurd d
-  declined-as (refusal.ReadFault word) d nothing = absurd d
-  declined-as (refusal.TooLong word) d nothing = absurd d
-  declined-as r d nothing = (d, nothing)
-
   -- the part was declined, with nothing written
   pub declined : (r : Refusal) (end : End) → Declines part r → end ≡ Err r → Untouched w f out out' → Performs stops (FollowedBy part rest) w f out out' end
-  declined r end d is nothing = subst (Performs stops (FollowedBy part rest) w f out out') (sym is) (declined-as r (Declines-first part rest r d) nothing)
+  declined r end d is nothing = refused w f out out' stops (FollowedBy part rest) r end (Declines-first part rest r d) is nothing
 
   module _ {x : X} {s : List ℕ → Type 0} (is : IsTheAnswer part (Ok x)) (may : (begun : List ℕ) → s begun → stops begun) where
     after-refusal : (r : Refusal) → Refuses s (rest x) w f out out' r → Refuses stops (FollowedBy part rest) w f out out' r
