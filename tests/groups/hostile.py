@@ -5,6 +5,8 @@ that table. Fails on a signal, on a status other than the expected one, on secon
 that grows faster than the bound allows. The gate makes only inputs that take less than two seconds, at full size. `--only NAME` takes one.
 Sees no shapes that are not below. Names that collide in a hash table are in the group `collisions`; `names` and `keys` are the hardest
 for ordered maps.
+
+Seen to fail: statements of a block that are each kept in a list with room for four (238 MB for 1 MiB of assignments).
 """
 from __future__ import annotations
 
@@ -28,6 +30,10 @@ EVENTS = f"event out(int n);«@:event g#({PARAMS});handle g#({PARAMS}){{{MATCHES
 TESTED = "".join(f"if({letter}==0){{generate out({number});}}" for number, letter in enumerate(LETTERS))
 TESTED_SENDS = f"event out(int n);«@:event g#({PARAMS});handle g#({PARAMS}){{{TESTED}}}»"
 ELSE_SENDS = """event out(int n);«@:fun void s#(int a,int b){if(a==#){}else{if(b==#){generate out(#);}}}event g#(int a,int b);handle g#(int a,int b){s#(a,b);}»"""
+ASSIGNMENTS = "event e();handle e(){int a=0;«@:a=1;»}"
+DROPPED = "fun void v(){}event e();handle e(){«@:v();»}"
+# Each addition keeps a guard of all returns before it.
+SUMS = "event out(int n);event e(int z);handle e(int z){int s=0;«1700:if(z==1){return;}»«@:s=s+z;»generate out(s);}"
 EARLY = "event e(int z);handle e(int z){«@:if(z==1){return;}»}"
 CHAIN = "fun void f0(){}«@:fun void f##(){f#();}»event e();handle e(){f@();}"
 NAMES = "«@:event «200:n»#();»"
@@ -131,6 +137,9 @@ SHAPES = {
     "512 sends behind tests of 8 parameters": Shape(TESTED_SENDS, LAYOUT, 64, 1, 20, growth=2.5),
     "2,048 sends behind tests of 8 parameters": Shape(TESTED_SENDS, LAYOUT, 256, 3, 60, growth=2.5),
     "10,000 early returns": Shape(EARLY, CHECK, 10000, 1, 100, True),
+    "1 MiB of assignments": Shape(ASSIGNMENTS, CHECK, 262130, 1, 120, True),
+    "1 MiB of calls": Shape(DROPPED, CHECK, 262130, 1, 120, True),
+    "1,100 additions behind 1,700 early returns": Shape(SUMS, LAYOUT, 1100, 1, 220, status=7),
     "a chain of 1,000 functions": Shape(CHAIN, LAYOUT, 1000, 1, 60, True, limits="{}"),
     "4,900 names with one beginning": Shape(NAMES, CHECK, 4900, 2, 100, True),
     "a tower of 20 functions": Shape(TOWER, ONCE, 19, 1, 30, True, growth=float("inf")),

@@ -21,7 +21,8 @@ use Rattle.lucid_types_laws.specs.Statement.{Other, Taken, Taking, block, body_o
 use Rattle.lucid_types_expressions.specs.declared.fault.Fault.{Fault}
 use Rattle.lucid_types_expressions.specs.declared.fault.Fault.TheVariants.{NoRule, Memory}
 use Rattle.lucid_types_expressions.specs.Gives.{Fails, Gives}
-use Rattle.lucid_types_statements.specs.Bodies.{Adds, Leaves, Takes}
+use Rattle.lucid_types_statements.specs.Assembly.{HaveTheEffect}
+use Rattle.lucid_types_statements.specs.Bodies.{Adds, Leaves, LeavesParts, Takes, before_rest}
 use Rattle.lucid_types_statements.specs.MatchArms.{with_parts}
 
 -- ---- answers that may be none
@@ -65,16 +66,30 @@ put_together (Err NoRule) None m g = refl
 put_together (Err NoRule) (Some o) m g = absurd (cc)
 put_together (Err Memory) o m g = tt
 
+-- A block is its parts before nothing.
+abbrev as_block : Option (Option Body × Numbered) → Option (Body × Numbered)
+as_block o = o >>= (λ q. Some (or_empty q.0, q.1))
+
+before_nothing : (o : Option (List Part × Numbered)) →
+    (o >>= (λ all. onto all.0 None >>= (λ b. Some (or_empty b, all.1)))) ≡ as_block (before_rest None o)
+before_nothing None = refl
+before_nothing (Some q) = by (onto q.0 None)
+  where
+    by : (o : Option (Option Body)) → (o >>= (λ b. Some (or_empty b, q.1))) ≡ as_block (o >>= (λ b. Some (b, q.1)))
+    by None = refl
+    by (Some b) = refl
+
 pub assembled : (r : Result Body Fault) (ps : List Part) (fs : List Taking) (a : Option ValueType) (s : Names) (m k : Numbered) →
-    parts fs a s m ≡ Some (ps, k) → Gives r (option_map or_empty (onto ps None)) → Leaves r k (block fs a s m)
+    LeavesParts (Ok ps) k (parts fs a s m) → Gives r (option_map or_empty (onto ps None)) → Leaves r k (block fs a s m)
 assembled r ps fs a s m k h g =
-    subst (λ (o : Option (List Part × Numbered)). Leaves r k (o >>= (λ all. onto all.0 None >>= (λ b. Some (or_empty b, all.1))))) (sym h)
+    subst (λ (o : Option (Body × Numbered)). Leaves r k o)
+    (before_nothing (Some (ps, k)) ∙ ap as_block (sym (h None)) ∙ sym (before_nothing (parts fs a s m)))
     (put_together r (onto ps None) k g)
 
-pub parts_fail : (f : Fault) (fs : List Taking) (a : Option ValueType) (s : Names) (m : Numbered) → Fails f (parts fs a s m) → Fails f (block fs a s m)
+pub parts_fail : (f : Fault) (fs : List Taking) (a : Option ValueType) (s : Names) (m : Numbered) →
+    Fails f (before_rest None (parts fs a s m)) → Fails f (block fs a s m)
 parts_fail f fs a s m =
-    fails_with f (parts fs a s m) (block fs a s m)
-    (ap (λ (o : Option (List Part × Numbered)). o >>= (λ all. onto all.0 None >>= (λ b. Some (or_empty b, all.1)))))
+    fails_with f (before_rest None (parts fs a s m)) (block fs a s m) (λ none. before_nothing (parts fs a s m) ∙ ap as_block none)
 
 -- ---- a statement more
 
@@ -91,31 +106,45 @@ from_one : (xs : List S) (i : ℕ) (x : S) (front : List Part) (a : Option Value
     with_parts front (parts (map taking (drop i xs)) a s m) ≡ with_parts front (parts (taking x ∷ map taking (drop (i + 1) xs)) a s m)
 from_one xs i x front a s m h is = ap (λ (ys : List S). with_parts front (parts (map taking ys) a s m)) (first_left xs i x h is)
 
+-- The parts so far and those that are left have the effect of all.
+abbrev pub AreLeft : List Part → Option (List Part × Numbered) → Option (List Part × Numbered) → Type 0
+AreLeft front o all = (rest : Option Body) → before_rest rest (with_parts front o) ≡ before_rest rest all
+
+pub all_left : (o : Option (List Part × Numbered)) → AreLeft [] o o
+all_left None rest = refl
+all_left (Some q) rest = refl
+
+exchanged : (ps qs : List Part) (rest : Option Body) (o : Option (List Part × Numbered)) → HaveTheEffect ps qs →
+    before_rest rest (with_parts ps o) ≡ before_rest rest (with_parts qs o)
+exchanged ps qs rest None h = refl
+exchanged ps qs rest (Some q) h = ap (λ (o : Option (Option Body)). o >>= (λ b. Some (b, q.1))) (h q.0 rest)
+
 pub next_part : (xs : List S) (i : ℕ) (x : S) (front more : List Part) (p : Part) (a : Option ValueType) (s r : Names) (m k : Numbered)
     (all : Option (List Part × Numbered)) → i < length xs → x ≡ get_or xs i x →
-    with_parts front (parts (map taking (drop i xs)) a s m) ≡ all → taking x a s m ≡ Some (record { part = p; names = r; numbered = k }) →
-    more ≡ front ++ p ∷ [] → with_parts more (parts (map taking (drop (i + 1) xs)) a r k) ≡ all
-next_part xs i x front more p a s r m k all h is left of more_is =
-    ap (λ (ps : List Part). with_parts ps (parts (map taking (drop (i + 1) xs)) a r k)) more_is
-    ∙ before_more front p (parts (map taking (drop (i + 1) xs)) a r k)
+    AreLeft front (parts (map taking (drop i xs)) a s m) all → taking x a s m ≡ Some (record { part = p; names = r; numbered = k }) →
+    HaveTheEffect more (front ++ p ∷ []) → AreLeft more (parts (map taking (drop (i + 1) xs)) a r k) all
+next_part xs i x front more p a s r m k all h is left of effect rest =
+    exchanged more (front ++ p ∷ []) rest (parts (map taking (drop (i + 1) xs)) a r k) effect
+    ∙ ap (before_rest rest) (before_more front p (parts (map taking (drop (i + 1) xs)) a r k)
     ∙ ap (λ (o : Option Taken). with_parts front (o >>= (λ y. parts (map taking (drop (i + 1) xs)) a y.names y.numbered
-    >>= (λ rest. Some (y.part ∷ rest.0, rest.1))))) (sym of)
-    ∙ sym (from_one xs i x front a s m h is) ∙ left
+    >>= (λ q. Some (y.part ∷ q.0, q.1))))) (sym of)
+    ∙ sym (from_one xs i x front a s m h is))
+    ∙ left rest
 
 pub no_part : (f : Fault) (xs : List S) (i : ℕ) (x : S) (front : List Part) (a : Option ValueType) (s : Names) (m : Numbered)
     (all : Option (List Part × Numbered)) → i < length xs → x ≡ get_or xs i x →
-    with_parts front (parts (map taking (drop i xs)) a s m) ≡ all → Fails f (taking x a s m) → Fails f all
+    AreLeft front (parts (map taking (drop i xs)) a s m) all → Fails f (taking x a s m) → Fails f (before_rest None all)
 no_part f xs i x front a s m all h is left =
-    fails_with f (taking x a s m) all (λ none. sym left ∙ from_one xs i x front a s m h is
+    fails_with f (taking x a s m) (before_rest None all) (λ none. sym (left None) ∙ ap (before_rest None) (from_one xs i x front a s m h is
     ∙ ap (λ (o : Option Taken). with_parts front (o >>= (λ y. parts (map taking (drop (i + 1) xs)) a y.names y.numbered
-    >>= (λ rest. Some (y.part ∷ rest.0, rest.1))))) none)
+    >>= (λ q. Some (y.part ∷ q.0, q.1))))) none))
 
 pub last_part : (xs : List S) (i : ℕ) (front : List Part) (a : Option ValueType) (s : Names) (m : Numbered)
-    (all : Option (List Part × Numbered)) → length xs ≤ i → with_parts front (parts (map taking (drop i xs)) a s m) ≡ all →
-    all ≡ Some (front, m)
-last_part xs i front a s m all h left =
-    sym left ∙ ap (λ (ys : List S). with_parts front (parts (map taking ys) a s m)) (drop_of_length-le xs h)
-    ∙ ap (λ (ps : List Part). Some (ps, m)) (append-nil front)
+    (all : Option (List Part × Numbered)) → length xs ≤ i → AreLeft front (parts (map taking (drop i xs)) a s m) all →
+    LeavesParts (Ok front) m all
+last_part xs i front a s m all h left rest =
+    sym (left rest) ∙ ap (before_rest rest) (ap (λ (ys : List S). with_parts front (parts (map taking ys) a s m)) (drop_of_length-le xs h)
+    ∙ ap (λ (ps : List Part). Some (ps, m)) (append-nil front))
 
 -- ---- choices
 

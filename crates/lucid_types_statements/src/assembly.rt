@@ -1,12 +1,13 @@
 // The statements of a block, put together from the back.
-ghost use Rattle.std.specs.Prelude.{◌≡◌, ◌++◌, None, Some, option_map, reverse, OnOk};
+ghost use Rattle.std.specs.Prelude.{◌≡◌, ◌++◌, [], ◌∷◌, None, Some, option_map, reverse, OnOk};
 ghost use Rattle.lucid_core.specs.Endings.{of_either};
 ghost use Rattle.lucid_types_spec.specs.declared.scope.ValueType.TheVariants.{Bool};
+ghost use Rattle.lucid_types_spec.specs.Block.{before};
 ghost use Rattle.lucid_types_laws.specs.declared.part.Part.TheVariants.{Does};
 ghost use Rattle.lucid_types_laws.specs.Reading.{core_of};
 ghost use Rattle.lucid_types_laws.specs.Statement.{chosen, onto, or_empty, put};
 ghost use Rattle.lucid_types_expressions.specs.Gives.{Gives};
-ghost use Rattle.lucid_types_statements.specs.Assembly.{GivesRest, rest_of};
+ghost use Rattle.lucid_types_statements.specs.Assembly.{GivesRest, HaveTheEffect, rest_of};
 ghost use Rattle.lucid_types_statements.specs.Bodies.{Adds};
 
 use crate::simple::{one, part};
@@ -26,6 +27,57 @@ pub struct Rest {
     ending: Ending,
 }
 
+/// Puts a part behind these, for any rest. Steps that go on are one part with the steps behind them, so a long block takes little memory.
+#[inline(never)]
+pub fn add_part(parts: &mut Items<Part>, part: Part) -> Result<(), Memory>
+    ensures { OnOk result (HaveTheEffect parts.new (parts.old ++ part ∷ [])) }
+{
+    match part {
+        Part::Does(body) => add_steps(parts, body),
+        Part::Guard(test, yes) => Ok(parts.push(Part::Guard(test, yes))?),
+    }
+}
+
+fn add_steps(parts: &mut Items<Part>, body: Body) -> Result<(), Memory>
+    ensures { OnOk result (HaveTheEffect parts.new (parts.old ++ Does body ∷ [])) }
+{
+    match parts.pop() {
+        None => Ok(parts.push(Part::Does(body))?),
+        Some(Part::Guard(test, yes)) => add_both(parts, Part::Guard(test, yes), body),
+        Some(Part::Does(last)) => match last.ending {
+            Ending::Never => add_joined(parts, last.steps, body),
+            _ => add_both(parts, Part::Does(last), body),
+        },
+    }
+}
+
+fn add_both(parts: &mut Items<Part>, part: Part, body: Body) -> Result<(), Memory>
+    ensures { OnOk result (parts.new ≡ (parts.old ++ part ∷ []) ++ Does body ∷ []) }
+{
+    match parts.push(part) {
+        Ok(()) => Ok(parts.push(Part::Does(body))?),
+        Err(_) => {
+            drop(body);
+            Err(Memory)
+        }
+    }
+}
+
+/// Adds these steps and those of the body as one part.
+fn add_joined(parts: &mut Items<Part>, steps: Items<Stmt>, body: Body) -> Result<(), Memory>
+    ensures { OnOk result (parts.new ≡ parts.old ++ Does (before steps body) ∷ []) }
+{
+    let mut all = steps;
+    let Body { steps, ending } = body;
+    match all.append(steps) {
+        Ok(()) => Ok(parts.push(Part::Does(Body { steps: all, ending }))?),
+        Err(_) => {
+            drop(all);
+            Err(Memory)
+        }
+    }
+}
+
 /// The body of these parts in order.
 #[tactic(auto, using(crate::proofs::Onto::onto_last, std::proofs::lemmas::Grind::common_steps))]
 #[inline(never)]
@@ -33,18 +85,29 @@ pub fn assemble(alloc: Global, parts: Items<Part>) -> Result<Body, Fault>
     ensures { Gives result (option_map or_empty (onto parts None)) }
 {
     let mut parts = parts;
-    match parts.pop() {
-        None => Ok(Body {
+    let Some(last) = parts.pop() else {
+        return Ok(Body {
             steps: Items::new(alloc),
             ending: Ending::Never,
-        }),
-        Some(last) => match alone(alloc, last) {
-            Ok(rest) => all_before(alloc, parts, rest),
-            Err(fault) => {
-                drop(parts);
-                Err(fault)
+        });
+    };
+    match alone(alloc, last) {
+        Ok(body) => {
+            if parts.is_empty() {
+                return Ok(body);
             }
-        },
+            match turn(alloc, body) {
+                Ok(rest) => all_before(alloc, parts, rest),
+                Err(fault) => {
+                    drop(parts);
+                    Err(fault)
+                }
+            }
+        }
+        Err(fault) => {
+            drop(parts);
+            Err(fault)
+        }
     }
 }
 
@@ -72,19 +135,19 @@ fn in_order(rest: Rest) -> Body
     }
 }
 
-/// The last part of a block.
-fn alone(alloc: Global, part: Part) -> Result<Rest, Fault>
-    ensures { GivesRest result (put part None) }
+/// The body of one part alone.
+fn alone(alloc: Global, part: Part) -> Result<Body, Fault>
+    ensures { Gives result (put part None) }
 {
     match part {
-        Part::Does(body) => turn(alloc, body),
+        Part::Does(body) => Ok(body),
         Part::Guard(test, yes) => {
             match one(
                 alloc,
                 Stmt::If(test, yes, Items::new(alloc)),
                 Ending::Sometimes,
             ) {
-                Ok(body) => turn(alloc, body),
+                Ok(body) => Ok(body),
                 Err(_) => Err(Fault::Memory),
             }
         }
@@ -197,23 +260,14 @@ pub fn either(first: Ending, second: Ending) -> Ending
     }
 }
 
-/// The body of one part alone.
+/// The body of one part alone, as the second branch of an if.
 #[inline(never)]
 pub fn only(alloc: Global, part: Part) -> Result<Option<Body>, Fault>
     ensures { Gives result (option_map Some (put part None)) }
 {
-    match part {
-        Part::Does(body) => Ok(Some(body)),
-        Part::Guard(test, yes) => {
-            match one(
-                alloc,
-                Stmt::If(test, yes, Items::new(alloc)),
-                Ending::Sometimes,
-            ) {
-                Ok(body) => Ok(Some(body)),
-                Err(_) => Err(Fault::Memory),
-            }
-        }
+    match alone(alloc, part) {
+        Ok(body) => Ok(Some(body)),
+        Err(fault) => Err(fault),
     }
 }
 

@@ -3,11 +3,11 @@ ghost use Rattle.std.specs.Prelude.{◌≡◌, map, option_map, OnOk};
 ghost use Rattle.lucid_types_laws.specs.Statement.{body_of, choosing, last_arm, other, other_of, parts, taking};
 ghost use Rattle.lucid_types_statements.specs.MatchArms.{arms_of, cases_taken};
 ghost use Rattle.lucid_types_scope.specs.Numbered.{numbered_of};
-ghost use Rattle.lucid_types_statements.specs.Bodies.{Leaves, Takes};
+ghost use Rattle.lucid_types_statements.specs.Bodies.{Leaves, LeavesParts, Takes};
 ghost use Rattle.lucid_types_statements.specs.Kept.{Keeps};
 
 use crate::arms::{Arm, begin, joined};
-use crate::assembly::{assemble, chosen, only};
+use crate::assembly::{add_part, assemble, chosen, only};
 use crate::simple::{assign, declare, drop_call, drop_touch, generate, give_back, print};
 use lucid_base::{Items, Width};
 use lucid_core::Ending;
@@ -79,7 +79,7 @@ pub fn block(
     }
 }
 
-/// The statements of a block, one after another.
+/// The statements of a block, one after another, as parts with their effect.
 #[cycle(block)]
 fn statements(
     alloc: Global,
@@ -88,13 +88,13 @@ fn statements(
     numbering: &mut Numbering,
     xs: &[S],
 ) -> Result<Items<Part>, Fault>
-    ensures gives { Leaves result (numbered_of numbering.new) (parts (map taking xs.now) answer.now scope.old (numbered_of numbering.old)) }
+    ensures gives { LeavesParts result (numbered_of numbering.new) (parts (map taking xs.now) answer.now scope.old (numbered_of numbering.old)) }
     ensures kept { OnOk result (Keeps scope.old scope.new) }
 {
     let mut parts = Items::new(alloc);
     for x in xs {
         match statement(alloc, answer, scope, numbering, x) {
-            Ok(part) => parts.push(part)?,
+            Ok(part) => add_part(&mut parts, part)?,
             Err(fault) => {
                 drop(parts);
                 return Err(fault);

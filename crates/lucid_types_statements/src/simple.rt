@@ -21,11 +21,15 @@ use lucid_types_scope::{Numbering, Scope};
 use lucid_types_spec::{Body, Entry, Named, ValueType};
 use std::alloc::Global;
 
-/// A body of one statement.
+/// A body of one statement. It takes memory for this one alone, since a long block has as many of these.
 pub fn one(alloc: Global, step: Stmt, ending: Ending) -> Result<Body, Memory>
     ensures { IfOk result (λ body. body ≡ one step ending) }
 {
-    let mut steps = Items::new(alloc);
+    let Ok(steps) = Vec::with_capacity(alloc, 1) else {
+        drop(step);
+        return Err(Memory);
+    };
+    let mut steps = Items::from_vec(steps);
     match steps.push(step) {
         Ok(()) => Ok(Body { steps, ending }),
         Err(_) => {

@@ -3,7 +3,7 @@ use Rattle.std.proofs.Common.{ℕ, ◌-◌, List, rules, drop, length, map, refl
 use Rattle.std.proofs.lemmas.Result.{on_ok_weaker}
 use Rattle.lucid_parse_tree.specs.declared.tree.S.{S}
 use Rattle.lucid_parse_tree.specs.declared.tree.S.TheVariants as form
-use Rattle.lucid_types_laws.specs.Statement.{taking}
+use Rattle.lucid_types_laws.specs.Statement.{parts, taking}
 use Rattle.lucid_types_laws.proofs.StatementForms.{absent_is, array_is, assign_is, call_is, cond_is, declare_is, generate_is, printf_is, return_is}
 use Rattle.lucid_types_scope.specs.Numbered.{numbered_of}
 use Rattle.lucid_types_statements.proofs.Assembled.{assembled, block_done, block_fails, chain_done, chain_fails, choice_done, last_part, next_part}
@@ -114,20 +114,21 @@ block-returns-in-Err-clause-gives t c =
 pub statements-returns-in-Err-clause-gives : goal.statements-returns-in-Err-clause-gives
 statements-returns-in-Err-clause-gives t c =
     no_part c.in-Err.fault c.args.xs.now c.loop-x.x-index c.x-item.result c.loop-x.parts c.args.answer.now c.loop-x.scope
-    (numbered_of c.loop-x.numbering) _ c.loop-x-test.true c.x-item.is c.loop-x.invariant.left c.in-Err.ensures.gives
+    (numbered_of c.loop-x.numbering) (parts (map taking c.args.xs.now) c.args.answer.now c.args.scope.now (numbered_of c.args.numbering.now)) c.loop-x-test.true c.x-item.is c.loop-x.invariant.left c.in-Err.ensures.gives
 
 pub statements-loop-x-preserved : goal.statements-loop-x-preserved
 statements-loop-x-preserved t c = record {
   left = next_part c.args.xs.now c.loop-x.x-index c.x-item.result c.loop-x.parts _ c.in-Ok.part c.args.answer.now c.loop-x.scope
-      c.statement.new.scope (numbered_of c.loop-x.numbering) (numbered_of c.statement.new.numbering) _ c.loop-x-test.true c.x-item.is
-      c.loop-x.invariant.left c.in-Ok.ensures.gives c.in_ok-push-in-Ok.ensures.ok;
+      c.statement.new.scope (numbered_of c.loop-x.numbering) (numbered_of c.statement.new.numbering)
+      (parts (map taking c.args.xs.now) c.args.answer.now c.args.scope.now (numbered_of c.args.numbering.now)) c.loop-x-test.true
+      c.x-item.is c.loop-x.invariant.left c.in-Ok.ensures.gives c.in_ok-add_part-in-Ok.ensures;
   kept = keeps_more _ _ _ c.loop-x.invariant.kept c.in-Ok.ensures.kept;
 }
 
 pub statements-returns-clause-gives : goal.statements-returns-clause-gives
 statements-returns-clause-gives t c =
-    last_part c.args.xs.now c.loop-x.x-index c.loop-x.parts c.args.answer.now c.loop-x.scope (numbered_of c.loop-x.numbering) _
-    c.loop-x-test.false c.loop-x.invariant.left
+    last_part c.args.xs.now c.loop-x.x-index c.loop-x.parts c.args.answer.now c.loop-x.scope (numbered_of c.loop-x.numbering)
+    (parts (map taking c.args.xs.now) c.args.answer.now c.args.scope.now (numbered_of c.args.numbering.now)) c.loop-x-test.false c.loop-x.invariant.left
 
 -- ---- choices
 

@@ -3,8 +3,9 @@
 use Rattle.std.proofs.Common.{◌≡◌, ◌+◌, ◌*◌, drop, map}
 use Rattle.lucid_types_laws.specs.Statement.{parts, taking}
 use Rattle.lucid_types_scope.specs.Numbered.{numbered_of}
-use Rattle.lucid_types_statements.specs.MatchArms.{arms_of, cases_taken, with_arms, with_parts}
+use Rattle.lucid_types_statements.specs.MatchArms.{arms_of, cases_taken, with_arms}
 use Rattle.lucid_types_statements.specs.Kept.{Keeps}
+use Rattle.lucid_types_statements.proofs.Assembled.{AreLeft}
 use Rattle.lucid_types_statements.proofs.blocks.+block.Given as goal
 
 abbrev pub decreases-statement : goal.decreases-statement
@@ -30,8 +31,8 @@ decreases-last_arm l = 4 * goal.size-last_arm l + 3
 
 abbrev pub invariant-statements-loop-x : goal.invariant-statements-loop-x
 invariant-statements-loop-x l = record {
-  left : with_parts l.parts (parts (map taking (drop l.x-index l.xs)) l.answer l.scope (numbered_of l.numbering))
-      ≡ parts (map taking l.xs) l.answer l.fn.scope (numbered_of l.fn.numbering);
+  left : AreLeft l.parts (parts (map taking (drop l.x-index l.xs)) l.answer l.scope (numbered_of l.numbering))
+      (parts (map taking l.xs) l.answer l.fn.scope (numbered_of l.fn.numbering));
   kept : Keeps l.fn.scope l.scope;
 }
 
