@@ -1,6 +1,6 @@
 // The line of each table of the stages.
-ghost use Rattle.std.specs.Prelude.{◌≡◌, ◌++◌, ℕ, length, IfOk, OnOk, IsTrue};
-ghost use Rattle.lucid_tables.specs.Numbers.{rising, rises, with_numbers};
+ghost use Rattle.std.specs.Prelude.{◌≡◌, ◌++◌, ℕ, length, IfOk, OnOk};
+ghost use Rattle.lucid_tables.specs.Numbers.{rising};
 ghost use Rattle.lucid_tables.specs.Placed.{named_by};
 ghost use Rattle.lucid_layout_text.specs.Text as spec;
 
@@ -8,7 +8,7 @@ use crate::table_line::TableLine;
 use lucid_base::{Items, Memory};
 use lucid_code::Op;
 use lucid_stages::arrays_in;
-use lucid_tables::{StageCode, Table, put_number};
+use lucid_tables::{StageCode, Table, put_numbers};
 use std::alloc::Global;
 use std::slice::from_ref;
 
@@ -78,16 +78,4 @@ fn named(alloc: Global, table: &Table) -> Result<Vec<u32>, Memory>
         put_numbers(row.ops.as_slice(), &mut named)?;
     }
     Ok(named)
-}
-
-/// Puts numbers at their places.
-fn put_numbers(more: &[u32], numbers: &mut Vec<u32>) -> Result<(), Memory>
-    requires { IsTrue (rises numbers.old.items) }
-    ensures value { OnOk result (numbers.new.items ≡ with_numbers numbers.old.items more.now) }
-    ensures rises { OnOk result (IsTrue (rises numbers.new.items)) }
-{
-    for k in more {
-        put_number(numbers, *k)?;
-    }
-    Ok(())
 }

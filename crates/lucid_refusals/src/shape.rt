@@ -1,6 +1,6 @@
 // The shape of rows beside a table: their patterns, or so much of them as the number of rows depends on.
-ghost use Rattle.std.specs.Prelude.{◌≡◌, ◌++◌, [], ◌∷◌, map, true, false, IfOk, IfSome, OnOk, IsTrue};
-ghost use Rattle.lucid_tables.specs.Numbers.{is_in, rises, with_numbers};
+ghost use Rattle.std.specs.Prelude.{◌≡◌, ◌++◌, [], ◌∷◌, true, false, IfOk, IfSome, IsTrue};
+ghost use Rattle.lucid_tables.specs.Numbers.{is_in};
 ghost use Rattle.lucid_merge.specs.Product.{has};
 ghost use Rattle.lucid_merge.specs.RowCounts.{patterns_of, CanMatch};
 ghost use Rattle.lucid_refusals.specs.Refusal.{StandsFor, fields_of, shared};
@@ -9,7 +9,7 @@ use crate::law;
 use lucid_base::{Items, Memory};
 use lucid_code::Literal;
 use lucid_merge::{contradict, is_same};
-use lucid_tables::{Row, put_number};
+use lucid_tables::{Row, put_fields};
 use std::alloc::Global;
 
 /// Whether a row could match: its pattern doesn't ask for two values of one field.
@@ -78,18 +78,6 @@ pub(crate) fn fields_of(alloc: Global, rows: &[Row]) -> Result<Vec<u32>, Memory>
         put_fields(row.pattern.as_slice(), &mut fields)?;
     }
     Ok(fields)
-}
-
-/// Puts the fields of a pattern at their places.
-fn put_fields(pattern: &[Literal], fields: &mut Vec<u32>) -> Result<(), Memory>
-    requires { IsTrue (rises fields.old.items) }
-    ensures value { OnOk result (fields.new.items ≡ with_numbers fields.old.items (map (λ l. l.field) pattern.now)) }
-    ensures rises { OnOk result (IsTrue (rises fields.new.items)) }
-{
-    for literal in pattern {
-        put_number(fields, literal.field)?;
-    }
-    Ok(())
 }
 
 /// The patterns of these rows, in memory of their own.
