@@ -6,6 +6,7 @@
 #![tactic(auto)]
 
 mod bench_line;
+mod history;
 mod laws;
 mod line;
 mod tally;

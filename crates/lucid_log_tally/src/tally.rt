@@ -4,9 +4,9 @@ ghost use Rattle.lucid_base.specs.Hash.{fnv_1a};
 ghost use Rattle.lucid_log_tally.specs.Line.{last_line};
 ghost use Rattle.lucid_log_tally.specs.Tally.{with_more};
 
+use crate::history::History;
 use crate::line::Line;
 use lucid_base::{hash_byte, hash_start};
-use lucid_history::History;
 use lucid_io::{Failed, Sink};
 use std::marker::Model;
 

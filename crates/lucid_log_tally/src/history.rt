@@ -4,9 +4,9 @@ ghost use Rattle.std.specs.Borrow.{ftrue};
 
 use std::marker::{Model, PhantomData};
 
-/// A list that only proofs read. A clause reads it as `items`.
+/// A list that only proofs read. A clause reads it as `items`. It takes no memory, and its methods do nothing at run time.
 #[derive(Drop)]
-pub struct History<T> {
+pub(crate) struct History<T> {
     of: PhantomData<T>,
     pub ghost items: { List T },
 }

@@ -28,12 +28,12 @@ use denote.Triple.Spec.{Meets, triple_of}
 use denote.Triple.Table.{entered}
 use denote.Triple.Walked.{says, Stays, walk_of, ends_at, walk_Meets}
 use Rattle.std.specs.contracts.marker.PhantomData as Mark
-use Rattle.lucid_history.proofs.Made.{none, one, one_made}
-use Rattle.lucid_history.specs.contracts.history.History as History
-use Rattle.lucid_history.specs.contracts.history.History.new as F
-use Rattle.lucid_history.specs.contracts.history.History.new.Key.{name as #self}
-use Rattle.lucid_history.proofs.history.History.new.Statement as stated
-use Rattle.lucid_history.proofs.history.History.new.Code as code
+use Rattle.lucid_log_tally.proofs.Made.{none, one, one_made}
+use Rattle.lucid_log_tally.specs.contracts.history.History as History
+use Rattle.lucid_log_tally.specs.contracts.history.History.new as F
+use Rattle.lucid_log_tally.specs.contracts.history.History.new.Key.{name as #self}
+use Rattle.lucid_log_tally.proofs.history.History.new.Statement as stated
+use Rattle.lucid_log_tally.proofs.history.History.new.Code as code
 
 module _ (T : RattleType) where
   abbrev args : Args
