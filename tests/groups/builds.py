@@ -64,7 +64,7 @@ def project(group: Group, name: str) -> Path:
         (top / folder).mkdir(parents=True)
     shutil.copy2(TOP / "tools/prove", top / "tools")
     (top / "crates.txt").write_text("# A note.\n" + "".join(f"{crate}: {low}\n" for crate, low in CRATES.items()))
-    (top / "tests/seconds").write_text("low 1\nside_f 600\n")
+    (top / "tests/seconds").write_text("low 1\nside_f 200\n")
     tool_file(top / "bin/rt", KIT)
     return top
 
