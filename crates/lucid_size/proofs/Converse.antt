@@ -1,6 +1,6 @@
 -- The outcomes of an expansion exclude each other.
 use Rattle.std.proofs.Common.{◌≡◌, ℕ, ◌≤◌, ◌⊎◌, List, [], length, Option, Some, None, Result, Ok, Err, refl, sym, ◌∙◌, ap, subst, inl, inr, arith}
-use Rattle.std.specs.Prelude.{IfOk, IsErrOf, IsOkAnd}
+use Rattle.std.specs.Prelude.{IfErr, IfOk, IsErrOf, IsOkAnd}
 use Rattle.lucid_lex.specs.declared.token.Token.{Token}
 use Rattle.lucid_lex.specs.Piece.{Piece}
 use Rattle.lucid_lex.specs.Reading.{Reads, joined, tokens_from}
@@ -8,6 +8,7 @@ use Rattle.lucid_size.specs.declared.error.SizeError.{SizeError}
 use Rattle.lucid_size.specs.declared.error.SizeError.TheVariants as errors
 use Rattle.lucid_size.specs.declared.template.Template.{Template}
 use Rattle.lucid_size.specs.Parts.{names_of}
+use Rattle.lucid_size.specs.Error.{Refuses}
 use Rattle.lucid_size.specs.Expansion.{ExpandsTo, IsBroken, IsExpansion, IsTooBig, IsTwice, first_repeat, most}
 use Rattle.lucid_size.specs.Templates.{Cut, templates}
 use Rattle.lucid_size.proofs.Read.{expansion_reads}
@@ -15,11 +16,8 @@ use Rattle.lucid_size.proofs.Unique.{one_expansion, same_ok}
 
 -- facts of a result
 pub record Sound {T : Type 0} (text : List ℕ) (ts : List Token) (items : T → List ℕ) (r : Result T SizeError) : Type 0 where
-  pub ok : IfOk r (λ o. ExpandsTo text ts (items o))
-  pub small : IfOk r (λ o. length (items o) ≤ most)
-  pub broken : (n : ℕ) → IsErrOf r (errors.Broken n) → IsBroken ts n
-  pub twice : (name : List ℕ) → IsErrOf r (errors.Twice name) → IsTwice text ts name
-  pub too_big : IsErrOf r errors.TooBig → IsTooBig text ts
+  pub ok : IfOk r (λ o. ExpandsTo text ts (items o) × (length (items o) ≤ most))
+  pub err : IfErr r (Refuses text ts)
 
 module _ (text : List ℕ) (ts : List Token) where
   whole_or_broken : (n : ℕ) (xs : List Template) → IsBroken ts n → templates ts ≡ Ok xs → ⊥
@@ -50,30 +48,30 @@ module _ (text : List ℕ) (ts : List Token) where
       omega arith
 
   pub if_text : {T : Type 0} (items : T → List ℕ) (r : Result T SizeError) → Sound text ts items r → (out : List ℕ) → ExpandsTo text ts out → length out ≤ most → IsOkAnd r (λ o. items o ≡ out) ⊎ IsErrOf r errors.Memory
-  if_text items (Ok o) s out e small = inl (one_text (items o) out s.ok e)
-  if_text items (Err (errors.Broken n)) s out e small = absurd (whole_or_broken n e.1.found (s.broken n refl) e.1.whole)
-  if_text items (Err (errors.Twice name)) s out e small = absurd (twice_or_text name out (s.twice name refl) e)
-  if_text items (Err errors.TooBig) s out e small = absurd (not_big out e small (s.too_big refl))
+  if_text items (Ok o) s out e small = inl (one_text (items o) out s.ok.0 e)
+  if_text items (Err (errors.Broken n)) s out e small = absurd (whole_or_broken n e.1.found s.err e.1.whole)
+  if_text items (Err (errors.Twice name)) s out e small = absurd (twice_or_text name out s.err e)
+  if_text items (Err errors.TooBig) s out e small = absurd (not_big out e small s.err)
   if_text items (Err errors.Memory) s out e small = inr refl
 
   pub if_broken : {T : Type 0} (items : T → List ℕ) (r : Result T SizeError) → Sound text ts items r → (n : ℕ) → IsBroken ts n → IsErrOf r (errors.Broken n) ⊎ IsErrOf r errors.Memory
-  if_broken items (Ok o) s n b = absurd (whole_or_broken n s.ok.1.found b s.ok.1.whole)
-  if_broken items (Err (errors.Broken k)) s n b = inl (ap (λ i. Err (errors.Broken i)) (one_broken k n (s.broken k refl) b))
-  if_broken items (Err (errors.Twice name)) s n b = let t = s.twice name refl in absurd (whole_or_broken n t.found b t.whole)
-  if_broken items (Err errors.TooBig) s n b = let t = s.too_big refl in absurd (whole_or_broken n t.1.1.found b t.1.1.whole)
+  if_broken items (Ok o) s n b = absurd (whole_or_broken n s.ok.0.1.found b s.ok.0.1.whole)
+  if_broken items (Err (errors.Broken k)) s n b = inl (ap (λ i. Err (errors.Broken i)) (one_broken k n s.err b))
+  if_broken items (Err (errors.Twice name)) s n b = let t = s.err in absurd (whole_or_broken n t.found b t.whole)
+  if_broken items (Err errors.TooBig) s n b = let t = s.err in absurd (whole_or_broken n t.1.1.found b t.1.1.whole)
   if_broken items (Err errors.Memory) s n b = inr refl
 
   pub if_twice : {T : Type 0} (items : T → List ℕ) (r : Result T SizeError) → Sound text ts items r → (name : List ℕ) → IsTwice text ts name → IsErrOf r (errors.Twice name) ⊎ IsErrOf r errors.Memory
-  if_twice items (Ok o) s name t = absurd (twice_or_text name (items o) t s.ok)
-  if_twice items (Err (errors.Broken k)) s name t = absurd (whole_or_broken k t.found (s.broken k refl) t.whole)
-  if_twice items (Err (errors.Twice other)) s name t = inl (ap (λ i. Err (errors.Twice i)) (one_twice other name (s.twice other refl) t))
-  if_twice items (Err errors.TooBig) s name t = let b = s.too_big refl in absurd (twice_or_text name b.0 t b.1)
+  if_twice items (Ok o) s name t = absurd (twice_or_text name (items o) t s.ok.0)
+  if_twice items (Err (errors.Broken k)) s name t = absurd (whole_or_broken k t.found s.err t.whole)
+  if_twice items (Err (errors.Twice other)) s name t = inl (ap (λ i. Err (errors.Twice i)) (one_twice other name s.err t))
+  if_twice items (Err errors.TooBig) s name t = let b = s.err in absurd (twice_or_text name b.0 t b.1)
   if_twice items (Err errors.Memory) s name t = inr refl
 
   pub if_big : {T : Type 0} (items : T → List ℕ) (r : Result T SizeError) → Sound text ts items r → IsTooBig text ts → IsErrOf r errors.TooBig ⊎ IsErrOf r errors.Memory
-  if_big items (Ok o) s b = absurd (not_big (items o) s.ok s.small b)
-  if_big items (Err (errors.Broken k)) s b = absurd (whole_or_broken k b.1.1.found (s.broken k refl) b.1.1.whole)
-  if_big items (Err (errors.Twice other)) s b = absurd (twice_or_text other b.0 (s.twice other refl) b.1)
+  if_big items (Ok o) s b = absurd (not_big (items o) s.ok.0 s.ok.1 b)
+  if_big items (Err (errors.Broken k)) s b = absurd (whole_or_broken k b.1.1.found s.err b.1.1.whole)
+  if_big items (Err (errors.Twice other)) s b = absurd (twice_or_text other b.0 s.err b.1)
   if_big items (Err errors.TooBig) s b = inl refl
   if_big items (Err errors.Memory) s b = inr refl
 
@@ -83,5 +81,5 @@ module _ (text : List ℕ) (ts : List Token) where
       subst (λ l. Reads l (tokens_from 0 pieces)) same (expansion_reads text ts pieces reads is)
 
   pub ok_reads : {T : Type 0} (items : T → List ℕ) (r : Result T SizeError) → Reads text ts → Sound text ts items r → IfOk r (λ o. (pieces : List Piece) → IsExpansion text ts pieces → Reads (items o) (tokens_from 0 pieces))
-  ok_reads items (Ok o) reads s = text_reads (items o) reads s.ok
+  ok_reads items (Ok o) reads s = text_reads (items o) reads s.ok.0
   ok_reads items (Err e) reads s = tt

@@ -2,21 +2,19 @@
 use Rattle.std.proofs.Common.{◌≡◌, ℕ, zero, suc, ◌+◌, ◌<◌, ◌⊎◌, List, [], ◌∷◌, ◌++◌, length, get_or, take, refl, sym, ◌∙◌, ap, subst, inl, inr, ⊎_elim, arith}
 use Rattle.std.specs.Prelude.{slice_set}
 use Rattle.std.specs.List.{Contains}
-use Rattle.std.specs.List.Sorted.{IsStrictlyIncreasing}
 use Rattle.std.proofs.lemmas.List.{take_more}
 use Rattle.std.proofs.lemmas.List.Elements.{Contains-append_cases, Contains-append_left, Contains-append_right}
 use Rattle.lucid_size.specs.declared.step.Instance.{Instance}
-use Rattle.lucid_size.specs.Widths.{AreDealt, row_in, widths_in}
+use Rattle.lucid_size.specs.Widths.{AreDealt, IsRisingOf, row_in, widths_in}
 use Rattle.lucid_size.proofs.Exists.{strictly, widths_all, widths_rise, widths_used}
 use Rattle.lucid_size.proofs.Unique.{rises, same_list}
 
 -- the row that rises with the widths of a template is the one row of these
-pub row_is : (rows : List (List ℕ)) (found : List Instance) (k : ℕ) (dealt r : List ℕ) → AreDealt rows found → dealt ≡ row_in rows k → IsStrictlyIncreasing r →
-    ((n : ℕ) → Contains dealt n → Contains r n) → ((n : ℕ) → Contains r n → Contains dealt n) → r ≡ widths_in found k
-row_is rows found k dealt r d is inc has only =
-    same_list r (widths_in found k) (rises r inc) (rises (widths_in found k) (strictly (widths_in found k) (widths_rise found k)))
-    (λ n h. widths_all found k n (d.only k n (subst (λ l. Contains l n) is (only n h))))
-    (λ n h. has n (subst (λ l. Contains l n) (sym is) (d.all k n (widths_used found k n h))))
+pub row_is : (rows : List (List ℕ)) (found : List Instance) (k : ℕ) (dealt r : List ℕ) → AreDealt rows found → dealt ≡ row_in rows k → IsRisingOf dealt r → r ≡ widths_in found k
+row_is rows found k dealt r d is rising =
+    same_list r (widths_in found k) (rises r rising.rise) (rises (widths_in found k) (strictly (widths_in found k) (widths_rise found k)))
+    (λ n h. widths_all found k n (d.only k n (subst (λ l. Contains l n) is (rising.only n h))))
+    (λ n h. rising.has n (subst (λ l. Contains l n) (sym is) (d.all k n (widths_used found k n h))))
 
 pub row_at : (rows : List (List ℕ)) (k : ℕ) (r : List ℕ) → k < length rows → r ≡ get_or rows k r → r ≡ row_in rows k
 row_at [] k r within is = absurd (omega arith)

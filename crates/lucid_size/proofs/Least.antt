@@ -6,6 +6,8 @@ use Rattle.std.proofs.lemmas.List.Elements.{All-contains, Contains-append_left, 
 use Rattle.std.proofs.lemmas.List.Sums.{sum_by-append, sum_by-cons}
 use Rattle.lucid_lex.specs.declared.token.Token.{Token}
 use Rattle.lucid_lex.specs.Reading.{Reads, joined}
+use Rattle.lucid_size.specs.declared.error.SizeError.{SizeError}
+use Rattle.lucid_size.specs.declared.error.SizeError.TheVariants as errors
 use Rattle.lucid_size.specs.declared.step.Instance.{Instance}
 use Rattle.lucid_size.specs.declared.step.Step.{Step}
 use Rattle.lucid_size.specs.declared.template.Template.{Template}
@@ -17,6 +19,9 @@ use Rattle.lucid_size.specs.Expansion.{ExpandsTo, IsExpansion, IsTooBig, first_r
 use Rattle.lucid_size.specs.Places.{InText}
 use Rattle.lucid_size.specs.Search.{AreUsed, AreWithin, IsUsed, body_in}
 use Rattle.lucid_size.specs.Bytes.{instance_len, step_len, steps_len}
+use Rattle.lucid_size.specs.Cutting.{Tells}
+use Rattle.lucid_size.specs.Error.{NeedsMore, Refuses}
+use Rattle.lucid_size.specs.Names.{Repeats}
 use Rattle.lucid_size.specs.Widths.{widths_in}
 use Rattle.lucid_size.specs.Templates.{templates}
 use Rattle.lucid_size.proofs.Closed.{sum_within}
@@ -177,3 +182,46 @@ too_big text ts xs names outside bodies m reads parts out_within within many big
     let outer : steps_len m 0 outside ≡ steps_len m 0 (outside_from text names ts 0 xs) = ap (steps_len m 0) parts.outside_are in
     let above = big all listed.1 in
     (out, expands text ts xs names outside bodies m all out parts listed.1 refl, omega (arith, sum, rows_sum m bodies widths 0 xs, least, outer, above))
+
+-- ---- the meaning of errors of the parts for the whole
+
+pub cut_refuses : (text : List ℕ) (ts : List Token) (e : SizeError) → Tells (templates ts) e → Refuses text ts e
+cut_refuses text ts (errors.Broken n) h = h
+cut_refuses text ts (errors.Twice name) h = absurd h
+cut_refuses text ts errors.TooBig h = absurd h
+cut_refuses text ts errors.Memory h = tt
+
+pub names_refuse : (text : List ℕ) (ts : List Token) (xs : List Template) → templates ts ≡ Ok xs → (e : SizeError) →
+    Repeats (first_repeat [] (names_of text ts xs)) e → Refuses text ts e
+names_refuse text ts xs whole (errors.Broken n) h = absurd h
+names_refuse text ts xs whole (errors.Twice name) h = record { found = xs; whole = whole; repeats = h }
+names_refuse text ts xs whole errors.TooBig h = absurd h
+names_refuse text ts xs whole errors.Memory h = tt
+
+pub memory_refuses : (text : List ℕ) (ts : List Token) (e : SizeError) → e ≡ errors.Memory → Refuses text ts e
+memory_refuses text ts errors.Memory is = tt
+memory_refuses text ts (errors.Broken n) is = absurd (cc)
+memory_refuses text ts (errors.Twice name) is = absurd (cc)
+memory_refuses text ts errors.TooBig is = absurd (cc)
+
+pub room_refuses : (text : List ℕ) (ts : List Token) (xs : List Template) (names : List (List ℕ)) (outside : List Step) (bodies : List (List Step)) (m : ℕ) →
+    Reads text ts → AreParts text ts xs names outside bodies m → AreWithin (length bodies) outside → All (AreWithin (length bodies)) bodies → length bodies ≡ length xs →
+    (e : SizeError) → NeedsMore most (steps_len m 0 outside) m outside bodies e → Refuses text ts e
+room_refuses text ts xs names outside bodies m reads parts out_within within many (errors.Broken n) h = absurd h
+room_refuses text ts xs names outside bodies m reads parts out_within within many (errors.Twice name) h = absurd h
+room_refuses text ts xs names outside bodies m reads parts out_within within many errors.TooBig h = too_big text ts xs names outside bodies m reads parts out_within within many h
+room_refuses text ts xs names outside bodies m reads parts out_within within many errors.Memory h = tt
+
+-- the room behind the text outside the templates is what they leave of the whole
+pub room_behind_needs : (room whole outer m : ℕ) (outside : List Step) (bodies : List (List Step)) (e : SizeError) → room + outer ≡ whole →
+    NeedsMore room 0 m outside bodies e → NeedsMore whole outer m outside bodies e
+room_behind_needs room whole outer m outside bodies (errors.Broken n) is h = h
+room_behind_needs room whole outer m outside bodies (errors.Twice name) is h = h
+room_behind_needs room whole outer m outside bodies errors.TooBig is h = λ found are. let above = h found are in omega (arith, above, is)
+room_behind_needs room whole outer m outside bodies errors.Memory is h = tt
+
+pub length_refuses : (text : List ℕ) (ts : List Token) (out : List ℕ) (e : SizeError) → e ≡ errors.TooBig → ExpandsTo text ts out → most < length out → Refuses text ts e
+length_refuses text ts out errors.TooBig is are above = (out, are, above)
+length_refuses text ts out errors.Memory is are above = tt
+length_refuses text ts out (errors.Broken n) is are above = absurd (cc)
+length_refuses text ts out (errors.Twice name) is are above = absurd (cc)

@@ -1,5 +1,6 @@
 pub mod Bytes
 pub mod Cutting
+pub mod Error
 pub mod Examples
 pub mod Expansion
 pub mod Kinds

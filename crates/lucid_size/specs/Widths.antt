@@ -1,6 +1,7 @@
 -- The widths of each template's instances, as code deals them out.
 use Rattle.std.specs.Prelude.{ℕ, ◌==◌, if◌then◌else◌, List, [], ◌∷◌, Option, Some, None, slice_get, nat_lt}
 use Rattle.std.specs.List.{Contains}
+use Rattle.std.specs.List.Sorted.{IsStrictlyIncreasing}
 use Rattle.lucid_size.specs.declared.step.Instance.{Instance}
 
 -- the row with one number more: before the first that is above it, and nowhere if it is there
@@ -26,3 +27,9 @@ row_in rows k = row_by (slice_get rows k)
 pub record AreDealt (rows : List (List ℕ)) (found : List Instance) : Type 0 where
   pub only : (k n : ℕ) → Contains (row_in rows k) n → Contains found (record { template = k; width = n })
   pub all : (k n : ℕ) → Contains found (record { template = k; width = n }) → Contains (row_in rows k) n
+
+-- the numbers of the row, each once and rising
+pub record IsRisingOf (row sorted : List ℕ) : Type 0 where
+  pub rise : IsStrictlyIncreasing sorted
+  pub has : (n : ℕ) → Contains row n → Contains sorted n
+  pub only : (n : ℕ) → Contains sorted n → Contains row n

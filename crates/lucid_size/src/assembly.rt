@@ -1,18 +1,18 @@
 // The whole expanded text, part by part.
-ghost use Rattle.std.specs.Prelude.{◌≡◌, ◌≤◌, ◌<◌, ◌++◌, [], All, IfOk, None, OnOk, length, map, slice_get};
+ghost use Rattle.std.specs.Prelude.{◌≡◌, ◌≤◌, ◌<◌, ◌++◌, [], All, IfOk, List, None, OnOk, length, map, slice_get, ℕ};
 ghost use Rattle.lucid_lex.specs.Reading.{Reads, joined};
-ghost use Rattle.lucid_size.specs.Expansion.{written_from};
+ghost use Rattle.lucid_size.specs.Expansion.{instances, written_from};
 ghost use Rattle.lucid_size.specs.Parts as parts;
 ghost use Rattle.lucid_size.specs.Pieces.{pieces_of};
 ghost use Rattle.lucid_size.specs.Places.{AreInOrder, InText};
-ghost use Rattle.lucid_size.specs.Widths.{widths_in};
+ghost use Rattle.lucid_size.specs.Widths.{IsRisingOf, widths_in};
 
 use crate::names::Names;
 use crate::step::{Instance, Step};
 use crate::steps::{add_steps, end_before};
 use crate::template::Template;
 use crate::widths::{deal, rising};
-use crate::writing::{write_instances, write_steps};
+use crate::writing::{put, write_instances, write_steps};
 use lucid_base::{Items, Memory};
 use lucid_lex::{Token, tokens_stand};
 use std::alloc::Global;
@@ -90,16 +90,14 @@ fn write_parts(
             from,
             template.first,
         )?;
-        let widths = rising(alloc, dealt[at].as_slice())?;
-        let written = write_instances(
+        write_used(
+            alloc,
             out,
             text,
             underscores,
             bodies[at].as_slice(),
-            widths.as_slice(),
-        );
-        drop(widths);
-        written?;
+            dealt[at].as_slice(),
+        )?;
         from = template.end;
     }
     let written = write_outside(
@@ -113,6 +111,24 @@ fn write_parts(
         tokens.len(),
     );
     drop(dealt);
+    written
+}
+
+/// Writes the instances of a template at the widths in its row, each once and rising.
+fn write_used(
+    alloc: Global,
+    out: &mut Vec<u8>,
+    text: &[u8],
+    underscores: usize,
+    body: &[Step],
+    row: &[u64],
+) -> Result<(), Memory>
+    requires { All (InText text.now) body.now }
+    ensures { OnOk result ((widths : List ℕ) × IsRisingOf row.now widths × (out.new.items ≡ out.old.items ++ joined (instances text.now underscores body.now widths) [])) }
+{
+    let widths = rising(alloc, row)?;
+    let written = write_instances(out, text, underscores, body, widths.as_slice());
+    drop(widths);
     written
 }
 
@@ -184,8 +200,10 @@ fn write_gap(out: &mut Vec<u8>, text: &[u8], tokens: &[Token], at: usize) -> Res
     ensures { OnOk result (out.new.items ≡ out.old.items ++ (parts.gap_before text.now tokens.now at).bytes) }
 {
     gap_stands(text, tokens, at);
-    out.extend_from_slice(&text[end_before(tokens, at)..start_at(text, tokens, at)])?;
-    Ok(())
+    put(
+        out,
+        &text[end_before(tokens, at)..start_at(text, tokens, at)],
+    )
 }
 
 /// A law: the blanks and comments before a token are in the text. Nothing runs.

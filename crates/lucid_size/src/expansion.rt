@@ -1,19 +1,23 @@
 // The expansion of a text.
-ghost use Rattle.std.specs.Prelude.{◌≡◌, ◌⊎◌, ◌<◌, ◌≤◌, ◌+◌, All, IfOk, IsErrOf, IsOkAnd, List, length, ℕ};
-ghost use Rattle.std.specs.List.{sum_by};
+ghost use Rattle.std.specs.Prelude.{◌≡◌, ◌⊎◌, ◌<◌, ◌≤◌, All, IfErr, IfOk, IsErrOf, IsOkAnd, List, Ok, length, map, ℕ};
 ghost use Rattle.lucid_lex.specs.Piece.{Piece};
 ghost use Rattle.lucid_lex.specs.Reading.{Reads, tokens_from};
 ghost use Rattle.lucid_size.specs.declared.error.SizeError.TheVariants.{Broken, Memory, TooBig, Twice};
 ghost use Rattle.lucid_size.specs.Expansion.{ExpandsTo, IsBroken, IsExpansion, IsTooBig, IsTwice, most};
-ghost use Rattle.lucid_size.specs.Bytes.{instance_len, steps_len};
+ghost use Rattle.lucid_size.specs.Bytes.{steps_len};
+ghost use Rattle.lucid_size.specs.Error.{NeedsMore, Refuses};
+ghost use Rattle.lucid_size.specs.Names.{AreNames};
+ghost use Rattle.lucid_size.specs.Parts as spec;
 ghost use Rattle.lucid_size.specs.Search.{AreUsed, AreWithin};
+ghost use Rattle.lucid_size.specs.Templates as cutting;
 
 use crate::assembly::write_whole;
 use crate::error::SizeError;
-use crate::names::names_of;
+use crate::names::{Names, names_of};
 use crate::parts::{parts_of, parts_stand, templates_stand};
 use crate::room::room_behind;
 use crate::step::{Instance, Step};
+use crate::template::Template;
 use crate::templates::templates;
 use crate::underscores::underscores_in;
 use crate::used::find_used;
@@ -55,33 +59,104 @@ pub fn expand(alloc: Global, text: &[u8], tokens: &[Token]) -> Result<Vec<u8>, S
 /// Returns the expanded text, or one reason why there is none. That no other answer is right follows from these clauses alone.
 fn written_out(alloc: Global, text: &[u8], tokens: &[Token]) -> Result<Vec<u8>, SizeError>
     requires { Reads text.now tokens.now }
-    ensures ok { IfOk result (λ out. ExpandsTo text.now tokens.now out.items) }
-    ensures small { IfOk result (λ out. length out.items ≤ most) }
-    ensures broken { (n : ℕ) → IsErrOf result (Broken n) → IsBroken tokens.now n }
-    ensures twice { (name : List ℕ) → IsErrOf result (Twice name) → IsTwice text.now tokens.now name }
-    ensures too_big { IsErrOf result TooBig → IsTooBig text.now tokens.now }
+    ensures ok { IfOk result (λ out. ExpandsTo text.now tokens.now out.items × (length out.items ≤ most)) }
+    ensures err { IfErr result (Refuses text.now tokens.now) }
 {
     let cut = templates(alloc, tokens)?;
-    let templates = cut.as_slice();
+    let written = write_cut(alloc, text, tokens, cut.as_slice());
+    drop(cut);
+    written
+}
+
+/// Expands a text that is cut into these templates.
+fn write_cut(
+    alloc: Global,
+    text: &[u8],
+    tokens: &[Token],
+    templates: &[Template],
+) -> Result<Vec<u8>, SizeError>
+    requires reads { Reads text.now tokens.now }
+    requires whole { cutting.templates tokens.now ≡ Ok templates.now }
+    ensures ok { IfOk result (λ out. ExpandsTo text.now tokens.now out.items × (length out.items ≤ most)) }
+    ensures err { IfErr result (Refuses text.now tokens.now) }
+{
     templates_stand(text, tokens, templates);
     let names = names_of(alloc, text, tokens, templates)?;
-    let parts = parts_of(alloc, text, tokens, &names, templates)?;
-    let outside = parts.outside.as_slice();
-    let bodies = parts.bodies.as_slice();
-    parts_stand(text, tokens, templates, outside, bodies);
-    let underscores = underscores_in(text, tokens);
-    let found = found_in(alloc, text, outside, bodies, underscores)?;
-    let out = write_whole(
+    let written = write_named(alloc, text, tokens, templates, &names);
+    drop(names);
+    written
+}
+
+/// Expands a text whose templates have these names, no two the same.
+fn write_named(
+    alloc: Global,
+    text: &[u8],
+    tokens: &[Token],
+    templates: &[Template],
+    names: &Names,
+) -> Result<Vec<u8>, SizeError>
+    requires reads { Reads text.now tokens.now }
+    requires names { AreNames text.now tokens.now templates.now names.now }
+    ensures ok { IfOk result (λ out. ExpandsTo text.now tokens.now out.items × (length out.items ≤ most)) }
+    ensures err { IfErr result (Refuses text.now tokens.now) }
+{
+    templates_stand(text, tokens, templates);
+    let parts = parts_of(alloc, text, tokens, names, templates)?;
+    let written = write_parted(
         alloc,
         text,
         tokens,
-        &names,
+        templates,
+        names,
+        parts.outside.as_slice(),
+        parts.bodies.as_slice(),
+    );
+    drop(parts);
+    written
+}
+
+/// Expands a text that has these steps outside its templates and in their bodies.
+fn write_parted(
+    alloc: Global,
+    text: &[u8],
+    tokens: &[Token],
+    templates: &[Template],
+    names: &Names,
+    outside: &[Step],
+    bodies: &[Items<Step>],
+) -> Result<Vec<u8>, SizeError>
+    requires reads { Reads text.now tokens.now }
+    requires names { AreNames text.now tokens.now templates.now names.now }
+    requires outside { outside.now ≡ spec.outside_from text.now names.now tokens.now 0 templates.now }
+    requires bodies { bodies.now ≡ map (spec.body_steps text.now names.now tokens.now) templates.now }
+    ensures ok { IfOk result (λ out. ExpandsTo text.now tokens.now out.items × (length out.items ≤ most)) }
+    ensures err { IfErr result (Refuses text.now tokens.now) }
+{
+    templates_stand(text, tokens, templates);
+    parts_stand(text, tokens, templates, outside, bodies);
+    let underscores = underscores_in(text, tokens);
+    let found = found_in(alloc, text, outside, bodies, underscores)?;
+    let written = write_whole(
+        alloc,
+        text,
+        tokens,
+        names,
         templates,
         bodies,
         found.as_slice(),
         underscores,
-    )?;
+    );
+    drop(found);
+    within_most(written?)
+}
+
+/// Refuses a text that is too long.
+fn within_most(out: Vec<u8>) -> Result<Vec<u8>, SizeError>
+    ensures fits { IfOk result (λ o. (o.items ≡ out.items) × (length o.items ≤ most)) }
+    ensures err { IfErr result (λ e. (e ≡ TooBig) × (most < length out.items)) }
+{
     if out.len() > MOST {
+        drop(out);
         return Err(SizeError::TooBig);
     }
     Ok(out)
@@ -102,9 +177,7 @@ fn found_in(
     requires outer { All (λ s. s.from ≤ s.token.span.end) outside.now }
     ensures found { IfOk result (λ f. AreUsed outside.now bodies.now f.items) }
     ensures within { IfOk result (λ f. All (λ i. i.template < length bodies.now) f.items) }
-    ensures too_big { IsErrOf result TooBig → (found : List Instance) → AreUsed outside.now bodies.now found → most < steps_len underscores 0 outside.now + sum_by (instance_len underscores bodies.now) found }
-    ensures no_broken { (n : ℕ) → IsErrOf result (Broken n) → ⊥ }
-    ensures no_twice { (name : List ℕ) → IsErrOf result (Twice name) → ⊥ }
+    ensures err { IfErr result (NeedsMore most (steps_len underscores 0 outside.now) underscores outside.now bodies.now) }
 {
     match room_behind(underscores, 0, outside, MOST) {
         None => Err(SizeError::TooBig),

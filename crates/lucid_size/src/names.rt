@@ -65,21 +65,39 @@ impl Names {
         if self.place_of(&name).is_some() {
             return Err(SizeError::Twice { name });
         }
-        let added = self.add(alloc, &name);
-        drop(name);
-        added?;
+        self.add(alloc, name)?;
         Ok(())
     }
 
     /// Adds a name that is new.
-    fn add(&mut self, alloc: Global, name: &Id) -> Result<(), Memory>
-        requires { position (bytes_eq name.now) self.old ≡ None }
-        ensures { OnOk result (self.new ≡ self.old ++ name.now ∷ []) }
+    fn add(&mut self, alloc: Global, name: Id) -> Result<(), Memory>
+        requires { position (bytes_eq name) self.old ≡ None }
+        ensures { OnOk result (self.new ≡ self.old ++ name ∷ []) }
     {
-        let key = name.copy(alloc)?;
-        let form = name.copy(alloc)?;
+        match name.copy(alloc) {
+            Ok(key) => self.put(key, name),
+            Err(error) => {
+                drop(name);
+                Err(error)
+            }
+        }
+    }
+
+    /// Adds a name that is new, with a copy of it for the table.
+    fn put(&mut self, key: Id, name: Id) -> Result<(), Memory>
+        requires copy { key ≡ name }
+        requires new { position (bytes_eq name) self.old ≡ None }
+        ensures { OnOk result (self.new ≡ self.old ++ name ∷ []) }
+    {
         let place = self.names.len();
-        self.names.push(form)?;
+        match self.names.push(name) {
+            Ok(()) => {}
+            Err(failed) => {
+                drop(failed);
+                drop(key);
+                return Err(Memory);
+            }
+        }
         match self.places.insert(key, place) {
             Ok(_) => Ok(()),
             Err(failed) => {

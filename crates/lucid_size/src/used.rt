@@ -1,11 +1,9 @@
 // Which instances are used.
-ghost use Rattle.std.specs.Prelude.{◌≡◌, ◌+◌, ◌-◌, ◌<◌, ◌≤◌, [], All, IfOk, IsErrOf, List, OnOk, SomeIff, length, ℕ};
-ghost use Rattle.std.specs.List.{sum_by};
-ghost use Rattle.lucid_size.specs.declared.error.SizeError.TheVariants.{Broken, TooBig, Twice};
-ghost use Rattle.lucid_size.specs.declared.step.Instance.{Instance};
+ghost use Rattle.std.specs.Prelude.{◌≡◌, ◌+◌, ◌-◌, ◌<◌, ◌≤◌, [], All, IfErr, IfOk, OnOk, SomeIff, length};
 ghost use Rattle.lucid_size.specs.Used.{use_of, uses};
 ghost use Rattle.lucid_size.specs.Search.{AreUsed, AreWithin, Sees, with_all, with_one};
-ghost use Rattle.lucid_size.specs.Bytes.{instance_len, steps_len};
+ghost use Rattle.lucid_size.specs.Bytes.{steps_len};
+ghost use Rattle.lucid_size.specs.Error.{NeedsMore};
 
 use crate::error::SizeError;
 use crate::room::room_behind;
@@ -94,9 +92,7 @@ pub(crate) fn find_used(
     requires steps { All (All (λ s. s.from ≤ s.token.span.end)) bodies.now }
     ensures found { IfOk result (λ f. AreUsed outside.now bodies.now f.items) }
     ensures within { IfOk result (λ f. All (λ i. i.template < length bodies.now) f.items) }
-    ensures no_broken { (n : ℕ) → IsErrOf result (Broken n) → ⊥ }
-    ensures no_twice { (name : List ℕ) → IsErrOf result (Twice name) → ⊥ }
-    ensures too_big { IsErrOf result TooBig → (found : List Instance) → AreUsed outside.now bodies.now found → room < sum_by (instance_len underscores bodies.now) found }
+    ensures err { IfErr result (NeedsMore room 0 underscores outside.now bodies.now) }
 {
     let mut used = Used::new(alloc, seeded);
     match search(&mut used, outside, bodies, underscores, room) {
@@ -124,9 +120,7 @@ fn search(
     requires steps { All (All (λ s. s.from ≤ s.token.span.end)) bodies.now }
     ensures found { OnOk result (AreUsed outside.now bodies.now used.new.found.items) }
     ensures within { OnOk result (All (λ i. i.template < length bodies.now) used.new.found.items) }
-    ensures no_broken { (n : ℕ) → IsErrOf result (Broken n) → ⊥ }
-    ensures no_twice { (name : List ℕ) → IsErrOf result (Twice name) → ⊥ }
-    ensures too_big { IsErrOf result TooBig → (found : List Instance) → AreUsed outside.now bodies.now found → room < sum_by (instance_len underscores bodies.now) found }
+    ensures err { IfErr result (NeedsMore room 0 underscores outside.now bodies.now) }
 {
     let mut room = room;
     used.add_uses(0, outside)?;

@@ -1,7 +1,6 @@
 // The widths at which each template is used.
-ghost use Rattle.std.specs.Prelude.{◌≡◌, ◌<◌, [], All, Contains, IfOk, length, ℕ};
-ghost use Rattle.std.specs.List.Sorted.{IsStrictlyIncreasing};
-ghost use Rattle.lucid_size.specs.Widths.{AreDealt};
+ghost use Rattle.std.specs.Prelude.{◌≡◌, ◌<◌, [], All, IfOk, length};
+ghost use Rattle.lucid_size.specs.Widths.{AreDealt, IsRisingOf};
 
 use crate::step::Instance;
 use lucid_base::{Items, Memory};
@@ -38,9 +37,7 @@ fn no_rows(alloc: Global, rows: usize) -> Result<Vec<Items<u64>>, Memory>
 
 /// The same numbers, each once and rising.
 pub(crate) fn rising(alloc: Global, row: &[u64]) -> Result<Vec<u64>, Memory>
-    ensures rise { IfOk result (λ sorted. IsStrictlyIncreasing sorted.items) }
-    ensures has { IfOk result (λ sorted. (n : ℕ) → Contains row.now n → Contains sorted.items n) }
-    ensures only { IfOk result (λ sorted. (n : ℕ) → Contains sorted.items n → Contains row.now n) }
+    ensures { IfOk result (λ sorted. IsRisingOf row.now sorted.items) }
 {
     let mut sorted = Vec::new(alloc);
     sorted.extend_from_slice(row)?;

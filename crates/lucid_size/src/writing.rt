@@ -40,7 +40,7 @@ fn write_step(
     requires { InText text.now step }
     ensures { OnOk result (out.new.items ≡ out.old.items ++ joined (step_pieces text.now underscores width step) []) }
 {
-    out.extend_from_slice(&text[step.from..step.token.span.end])?;
+    put(out, &text[step.from..step.token.span.end])?;
     write_form(out, underscores, width, step.form)
 }
 
@@ -61,8 +61,7 @@ fn put_width(out: &mut Vec<u8>, width: u64) -> Result<(), Memory>
     ensures { OnOk result (out.new.items ≡ out.old.items ++ (decimal width ++ codes ">>")) }
 {
     put_decimal(out, width)?;
-    out.extend_from_slice(b">>")?;
-    Ok(())
+    put(out, b">>")
 }
 
 /// The suffix and `(`.
@@ -70,8 +69,7 @@ fn put_use(out: &mut Vec<u8>, underscores: usize, width: u64) -> Result<(), Memo
     ensures { OnOk result (out.new.items ≡ out.old.items ++ (suffix underscores width ++ codes "(")) }
 {
     put_suffix(out, underscores, width)?;
-    out.extend_from_slice(b"(")?;
-    Ok(())
+    put(out, b"(")
 }
 
 /// Writes the part of an instance's name after that of its template.
@@ -97,7 +95,14 @@ fn put_decimal(out: &mut Vec<u8>, n: u64) -> Result<(), Memory>
     ensures { OnOk result (out.new.items ≡ out.old.items ++ decimal n) }
 {
     let mut buffer = Buffer::new();
-    out.extend_from_slice(buffer.format(n).as_bytes())?;
+    put(out, buffer.format(n).as_bytes())
+}
+
+/// Writes these bytes.
+pub(crate) fn put(out: &mut Vec<u8>, bytes: &[u8]) -> Result<(), Memory>
+    ensures { OnOk result (out.new.items ≡ out.old.items ++ bytes.now) }
+{
+    out.extend_from_slice(bytes)?;
     Ok(())
 }
 
@@ -135,6 +140,6 @@ fn write_instance(
     requires { All (InText text.now) body.now }
     ensures { OnOk result (out.new.items ≡ out.old.items ++ (codes "fun " ++ joined (pieces_of text.now underscores width body.now) [])) }
 {
-    out.extend_from_slice(b"fun ")?;
+    put(out, b"fun ")?;
     write_steps(out, text, underscores, width, body)
 }

@@ -31,14 +31,14 @@ write_outside-written-requires c =
     c.loop-at.invariant.order in
     record { reads = c.requires.reads; order = order; within = omega arith }
 
-pub write_instances-written-requires : goal.write_instances-written-requires
-write_instances-written-requires c =
+pub write_used-requires : goal.write_used-requires
+write_used-requires c =
     let bodies = c.args.bodies.now in
     let at = c.loop-at.at in
     let low : at < length bodies = omega (arith, c.loop-at-test.true, c.requires.same) in
-    let b = c.as_slice-in-loop-at.result.now in
+    let b = c.as_slice.result.now in
     let b_is : b ≡ get_or bodies at b =
-    subst (λ (l : List Step). l ≡ get_or bodies at l) (sym c.as_slice-in-loop-at.ensures) c.index-bodies-at.is in
+    subst (λ (l : List Step). l ≡ get_or bodies at l) (sym c.as_slice.ensures) c.index-bodies-at.is in
     subst (All (InText c.args.text.now)) (sym b_is) (All-get_or (All (InText c.args.text.now)) bodies at b low c.requires.in_text)
 
 pub loop-at-preserved : goal.loop-at-preserved
@@ -55,19 +55,19 @@ loop-at-preserved c =
     let is : x ≡ get_or xs at x = get_any xs at (record { first = 0; name = 0; end = 0 }) x within in
     let next = order_turn ts c.loop-at.from at xs x c.loop-at.invariant.order within is in
     let low : at < length rows = omega (arith, within, c.in_ok-dealt.ensures.many, c.requires.same) in
-    let r = c.as_slice.result.now in
-    let r_is : r ≡ get_or rows at r = subst (λ (l : List ℕ). l ≡ get_or rows at l) (sym c.as_slice.ensures) c.index.ensures in
-    let rises = row_is rows found at r c.in_ok-widths.widths.items c.in_ok-dealt.ensures.dealt (row_at rows at r low r_is)
-    c.in_ok-widths.ensures.rise c.in_ok-widths.ensures.has c.in_ok-widths.ensures.only in
-    let b = c.as_slice-in-loop-at.result.now in
+    let r = c.as_slice-in-loop-at.result.now in
+    let r_is : r ≡ get_or rows at r = subst (λ (l : List ℕ). l ≡ get_or rows at l) (sym c.as_slice-in-loop-at.ensures) c.index.ensures in
+    let used = c.in_ok-write_used.ensures in
+    let rises = row_is rows found at r used.0 c.in_ok-dealt.ensures.dealt (row_at rows at r low r_is) used.1 in
+    let b = c.as_slice.result.now in
     let b_is : b ≡ get_or c.args.bodies.now at b =
-    subst (λ (l : List Step). l ≡ get_or c.args.bodies.now at l) (sym c.as_slice-in-loop-at.ensures) c.index-bodies-at.is in
+    subst (λ (l : List Step). l ≡ get_or c.args.bodies.now at l) (sym c.as_slice.ensures) c.index-bodies-at.is in
     let body = body_at_is text names ts xs c.args.bodies.now at x b c.requires.bodies within is b_is in
     record {
       order = next.2;
-      left = whole_turn text ts c.args.underscores names (widths_in found) c.loop-at.from at xs x b c.as_slice-in-loop-at-2.result.now
-          c.loop-at.out.items c.write_outside.new.out.items c.write_instances-written.new.out.items
-          within is body (c.as_slice-in-loop-at-2.ensures.value ∙ rises) c.in_ok-write_outside.ensures c.in_ok-written.ensures
+      left = whole_turn text ts c.args.underscores names (widths_in found) c.loop-at.from at xs x b used.0
+          c.loop-at.out.items c.write_outside.new.out.items c.write_used.new.out.items
+          within is body rises c.in_ok-write_outside.ensures used.2
           ∙ c.loop-at.invariant.left;
     }
 

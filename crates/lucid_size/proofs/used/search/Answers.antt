@@ -34,13 +34,14 @@ loop-at-preserved c =
       left = let fits = c.in-Some.ensures in let before = c.loop-at.invariant.left in omega (arith, next.1);
     }
 
-pub returns-in-None-clause-too_big : goal.returns-in-None-clause-too_big
-returns-in-None-clause-too_big c = λ _ all are.
+pub returns-in-None-clause-err : goal.returns-in-None-clause-err
+returns-in-None-clause-err c = λ all are.
     let i = c.index-instance.result.now in
     let here : c.loop-at.at < length c.loop-at.used.found.items = let n = c.len.ensures in let t = c.loop-at-test.true in omega arith in
     let body = c.as_slice-body.ensures in
     let body_is : c.as_slice-body.result.now ≡ get_or c.args.bodies.now i.template c.as_slice-body.result.now =
     subst (λ (b : List Step). b ≡ get_or c.args.bodies.now i.template b) (sym body) c.index-bodies-instance.is in
-    no_room c.args.underscores c.args.outside.now c.args.bodies.now c.loop-at.used.found.items c.loop-at.at i c.as_slice-body.result.now
+    let above = no_room c.args.underscores c.args.outside.now c.args.bodies.now c.loop-at.used.found.items c.loop-at.at i c.as_slice-body.result.now
     c.loop-at.room c.args.room
-    c.loop-at.invariant.searching here c.index-instance.ensures body_is c.loop-at.invariant.left c.in-None.ensures all are
+    c.loop-at.invariant.searching here c.index-instance.ensures body_is c.loop-at.invariant.left c.in-None.ensures all are in
+    omega (arith, above)

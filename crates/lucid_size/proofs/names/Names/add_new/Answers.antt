@@ -11,7 +11,7 @@ returns-then-is_some-clause-err c =
     ∙ ap is_some (sym c.place_of.ensures) ∙ sym c.is_some.ensures ∙ c.if-is_some.true in
     some_is at c.args.bytes.now c.in_ok-name.name found c.in_ok-name.ensures
 
-pub add-added-requires : goal.add-added-requires
-add-added-requires c =
+pub add-requires : goal.add-requires
+add-requires c =
     none_is (position (bytes_eq c.in_ok-name.name) c.args.self.now)
     (ap is_some (sym c.place_of.ensures) ∙ sym c.is_some.ensures ∙ c.if-is_some.false)
