@@ -43,7 +43,7 @@ function k names fs w = of (slice_get fs k)
 node : (f : Advance) → Up f → Up (finds.node f)
 node f h fs w = let a = h fs (visit w) in omega (arith, a)
 
-expr_up : (x : Expr) → Up (expr_found x)
+pub expr_up : (x : Expr) → Up (expr_found x)
 expr_up = expr_relates finds finds (λ f g. Up f) nothing (λ f g c d h k. in_turn f g h k) (λ f g c d h k. branches f g h k) array function
     (λ f g h. node f h)
 
@@ -58,7 +58,7 @@ list_up walk h (x ∷ xs) = in_turn (walk x) (sequence finds (map walk xs)) (h x
 pub body_up : (body : List Stmt) → Up (body_found body)
 body_up = list_up stmt_found stmt_up
 
-asked_up : (x : Option Expr) → Up (optional finds (option_map expr_found x))
+pub asked_up : (x : Option Expr) → Up (optional finds (option_map expr_found x))
 asked_up None = nothing
 asked_up (Some x) = expr_up x
 

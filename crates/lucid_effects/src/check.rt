@@ -1,5 +1,5 @@
 // The check of a program.
-ghost use Rattle.std.specs.Prelude.{◌≡◌, ◌++◌, ◌≤◌, ◌+◌, ◌*◌, [], length, take, Err, IfErr, IfOk, IsOk, MatchOption, OnOk};
+ghost use Rattle.std.specs.Prelude.{◌≡◌, ◌++◌, ◌≤◌, ◌+◌, ◌*◌, [], length, take, Err, IfErr, IfOk, IsOk, MatchOption, None, OnOk};
 ghost use Rattle.lucid_effects_spec.specs.Laws.{TouchesRise};
 ghost use Rattle.lucid_effects_spec.specs.Order.{IsAccepted, bodies, fun_bodies};
 ghost use Rattle.lucid_effects_spec.specs.Size.{nodes};
@@ -34,31 +34,33 @@ fn array_count(core: &Core) -> u32
     core.arrays().len() as u32
 }
 
+/// Judges functions, each behind those before it.
 fn check_funs<L: Ledger>(
     alloc: Global,
     arrays: u32,
+    judged: &mut Judged,
     funs: &[FunDef],
     steps: &mut Steps<L>,
-) -> Result<Judged, Memory>
-    ensures schemes { IfOk result (λ j. j.schemes.items ≡ schemes_of funs.now) }
-    ensures first { IfOk result (λ j. IsFirst arrays (fun_bodies [] funs.now) j.first) }
+) -> Result<(), Memory>
+    requires none { judged.old.schemes.items ≡ [] }
+    requires fine { judged.old.first ≡ None }
+    ensures schemes { OnOk result (judged.new.schemes.items ≡ schemes_of funs.now) }
+    ensures first { OnOk result (IsFirst arrays (fun_bodies [] funs.now) judged.new.first) }
     ensures most { FunsTake arrays funs.now steps.old steps.new }
 {
-    let mut schemes: Vec<Scheme> = Vec::new(alloc);
-    let mut first: Option<Refused> = None;
     for f in funs {
         let found = judge(
             alloc,
             arrays,
-            &schemes,
+            &judged.schemes,
             f.decl,
             f.body.as_slice(),
-            &mut first,
+            &mut judged.first,
             steps,
         )?;
-        schemes.push(found)?;
+        judged.schemes.push(found)?;
     }
-    Ok(Judged { schemes, first })
+    Ok(())
 }
 
 fn front(schemes: &[Scheme], count: usize) -> &[Scheme]
@@ -72,43 +74,66 @@ fn front(schemes: &[Scheme], count: usize) -> &[Scheme]
 fn check_handlers<L: Ledger>(
     alloc: Global,
     arrays: u32,
-    judged: Judged,
+    judged: &mut Judged,
     handlers: &[HandlerDef],
     steps: &mut Steps<L>,
-) -> Result<Judged, Memory>
-    ensures schemes { IfOk result (λ j. j.schemes.items ≡ judged.schemes.items ++ handler_schemes judged.schemes.items handlers.now) }
-    ensures first { IfOk result (λ j. JudgesHandlers arrays judged.schemes.items handlers.now judged.first j.first) }
-    ensures most { HandlersTake arrays judged.schemes.items handlers.now steps.old steps.new }
+) -> Result<(), Memory>
+    ensures schemes { OnOk result (judged.new.schemes.items ≡ judged.old.schemes.items ++ handler_schemes judged.old.schemes.items handlers.now) }
+    ensures first { OnOk result (JudgesHandlers arrays judged.old.schemes.items handlers.now judged.old.first judged.new.first) }
+    ensures most { HandlersTake arrays judged.old.schemes.items handlers.now steps.old steps.new }
 {
-    let Judged {
-        mut schemes,
-        mut first,
-    } = judged;
-    let count = schemes.len();
+    let count = judged.schemes.len();
     for h in handlers {
-        let before = front(&schemes, count);
+        let before = front(&judged.schemes, count);
         let found = judge(
             alloc,
             arrays,
             before,
             h.decl,
             h.body.as_slice(),
-            &mut first,
+            &mut judged.first,
             steps,
         )?;
-        schemes.push(found)?;
+        judged.schemes.push(found)?;
     }
-    Ok(Judged { schemes, first })
+    Ok(())
 }
 
+/// Judges all functions, and then all handlers.
+fn judge_all<L: Ledger>(
+    alloc: Global,
+    core: &Core,
+    judged: &mut Judged,
+    steps: &mut Steps<L>,
+) -> Result<(), Memory>
+    requires none { judged.old.schemes.items ≡ [] }
+    requires fine { judged.old.first ≡ None }
+    ensures schemes { OnOk result (judged.new.schemes.items ≡ all_schemes core.now) }
+    ensures first { OnOk result (IsFirst (length core.now.arrays) (bodies core.now) judged.new.first) }
+    ensures most { steps.new ≤ steps.old + nodes core.now * steps_a_node (length core.now.arrays) }
+{
+    let arrays = array_count(core);
+    check_funs(alloc, arrays, judged, core.funs(), steps)?;
+    check_handlers(alloc, arrays, judged, core.handlers(), steps)
+}
+
+/// Returns the findings for all declarations.
 fn check_all<L: Ledger>(alloc: Global, core: &Core, steps: &mut Steps<L>) -> Result<Judged, Memory>
     ensures schemes { IfOk result (λ j. j.schemes.items ≡ all_schemes core.now) }
     ensures first { IfOk result (λ j. IsFirst (length core.now.arrays) (bodies core.now) j.first) }
     ensures most { steps.new ≤ steps.old + nodes core.now * steps_a_node (length core.now.arrays) }
 {
-    let arrays = array_count(core);
-    let funs = check_funs(alloc, arrays, core.funs(), steps)?;
-    check_handlers(alloc, arrays, funs, core.handlers(), steps)
+    let mut judged = Judged {
+        schemes: Vec::new(alloc),
+        first: None,
+    };
+    match judge_all(alloc, core, &mut judged, steps) {
+        Ok(()) => Ok(judged),
+        Err(error) => {
+            drop(judged);
+            Err(error)
+        }
+    }
 }
 
 /// Refuses a program in which such a declaration was found.

@@ -24,14 +24,18 @@ fn scheme<L: Ledger>(
     ensures most { steps.new ≤ (body_found stmts.now schemes.now (begun steps.old)).steps }
 {
     steps.tick();
-    let mut ends = Items::new(alloc);
-    ends.push(Atom::Start)?;
+    let ends = Items::from_slice(alloc, &[Atom::Start])?;
     let mut at = Scheme {
         needs: Order::new(alloc),
         ends,
     };
-    body(alloc, schemes, &mut at, steps, stmts)?;
-    Ok(at)
+    match body(alloc, schemes, &mut at, steps, stmts) {
+        Ok(()) => Ok(at),
+        Err(error) => {
+            drop(at);
+            Err(error)
+        }
+    }
 }
 
 /// Returns the scheme of declaration `decl`, and whether it is the first that isn't in order. A cycle is looked for only if it could be.
@@ -50,8 +54,13 @@ pub fn judge<L: Ledger>(
 {
     let found = scheme(alloc, schemes, stmts, steps)?;
     if is_earlier(first, decl) {
-        let cycle = found.needs.cycle(arrays)?;
-        keep(first, decl, cycle);
+        match found.needs.cycle(arrays) {
+            Ok(cycle) => keep(first, decl, cycle),
+            Err(error) => {
+                drop(found);
+                return Err(error);
+            }
+        }
     }
     Ok(found)
 }

@@ -1,13 +1,12 @@
 // The walk along a body that finds its scheme.
 ghost use Rattle.std.specs.Prelude.{◌≡◌, ◌+◌, ◌≤◌, [], length, map, IfOk, OnOk, Some};
-ghost use Rattle.std.specs.Option.{option_map};
 ghost use Rattle.lucid_constraints.specs.Same.{same_atom, same_pair, join_all};
 ghost use Rattle.lucid_constraints.specs.Substitution.{pair};
-ghost use Rattle.lucid_effects_spec.specs.Evaluation.{optional, sequence};
+ghost use Rattle.lucid_effects_spec.specs.Evaluation.{sequence};
 ghost use Rattle.lucid_effects.specs.Goes.{Goes, walked};
-ghost use Rattle.lucid_effects.specs.Walk.{back_from, behind, first, with_more};
+ghost use Rattle.lucid_effects.specs.Walk.{asked_found, back_from, behind, closed, first, with_more};
 ghost use Rattle.lucid_effects_spec.specs.Schemes.{passes as passes_by, through as through_by, goes_through as goes_through_by, finds};
-ghost use Rattle.lucid_effects_spec.specs.Schemes.{expr_found, given_found, stmt_found, touch_found, body_found};
+ghost use Rattle.lucid_effects_spec.specs.Schemes.{either, expr_found, given_found, stmt_found, touch_found, body_found};
 
 use lucid_base::{ArrayName, Items, Memory, Steps};
 use lucid_constraints::{Atom, Order, Pair, ends_at, join_ends};
@@ -52,10 +51,9 @@ fn passes<L: Ledger>(
     ensures { Goes (passes_by array [] (walked at.old steps.old)) (walked at.new steps.new) result }
 {
     steps.tick();
-    let mut ends = Items::new(alloc);
-    ends.push(Atom::After(array))?;
     add_before(&mut at.needs, steps, at.ends.as_slice(), array)?;
-    at.ends = ends;
+    let ends = Items::from_slice(alloc, &[Atom::After(array)])?;
+    drop(mem::replace(&mut at.ends, ends));
     Ok(())
 }
 
@@ -69,9 +67,9 @@ fn through<L: Ledger>(
     ensures { Goes (through_by (Some f.now) names.now (walked at.old steps.old)) (walked at.new steps.new) result }
 {
     count(steps, f.needs.pairs());
-    let ends = ends_at(alloc, f.ends.as_slice(), names, at.ends.as_slice())?;
     at.needs.take_in(&f.needs, names, at.ends.as_slice())?;
-    at.ends = ends;
+    let ends = ends_at(alloc, f.ends.as_slice(), names, at.ends.as_slice())?;
+    drop(mem::replace(&mut at.ends, ends));
     Ok(())
 }
 
@@ -99,7 +97,9 @@ fn stand_at_both(at: &mut Scheme, left: Items<Atom>) -> Result<(), Memory>
     ensures { OnOk result (at.new ≡ record at.old { ends = join_all same_atom left at.old.ends }) }
 {
     let right = mem::replace(&mut at.ends, left);
-    join_ends(&mut at.ends, right.as_slice())
+    let joined = join_ends(&mut at.ends, right.as_slice());
+    drop(right);
+    joined
 }
 
 /// Adds the ends of a first branch to those of the first branches round it.
@@ -111,7 +111,11 @@ fn keep(firsts: &mut Option<Items<Atom>>, ends: Items<Atom>) -> Result<(), Memor
             *firsts = Some(ends);
             Ok(())
         }
-        Some(before) => join_ends(before, ends.as_slice()),
+        Some(before) => {
+            let joined = join_ends(before, ends.as_slice());
+            drop(ends);
+            joined
+        }
     }
 }
 
@@ -140,23 +144,13 @@ pub fn expr<L: Ledger>(
             steps.tick();
             Ok(())
         }
-        Expr::Un(_, a) => {
+        Expr::Un(_, a) | Expr::Cast(_, a) => {
             steps.tick();
             expr(alloc, schemes, at, steps, a.get())
         }
-        Expr::Bin(_, a, b) => {
+        Expr::Bin(_, a, b) | Expr::Cmp(_, a, b) => {
             steps.tick();
-            expr(alloc, schemes, at, steps, a.get())?;
-            expr(alloc, schemes, at, steps, b.get())
-        }
-        Expr::Cmp(_, a, b) => {
-            steps.tick();
-            expr(alloc, schemes, at, steps, a.get())?;
-            expr(alloc, schemes, at, steps, b.get())
-        }
-        Expr::Cast(_, a) => {
-            steps.tick();
-            expr(alloc, schemes, at, steps, a.get())
+            two(alloc, schemes, at, steps, a.get(), b.get())
         }
         Expr::Hash(_, operands) => {
             steps.tick();
@@ -176,6 +170,22 @@ pub fn expr<L: Ledger>(
             body(alloc, schemes, at, steps, stmts.as_slice())
         }
     }
+}
+
+/// Walks along two expressions, one after the other.
+#[cycle(walk)]
+fn two<L: Ledger>(
+    alloc: Global,
+    schemes: &[Scheme],
+    at: &mut Scheme,
+    steps: &mut Steps<L>,
+    first: &Expr,
+    last: &Expr,
+) -> Result<(), Memory>
+    ensures { Goes (expr_found last.now schemes.now (expr_found first.now schemes.now (walked at.old steps.old))) (walked at.new steps.new) result }
+{
+    expr(alloc, schemes, at, steps, first)?;
+    expr(alloc, schemes, at, steps, last)
 }
 
 #[cycle(walk)]
@@ -220,8 +230,7 @@ fn touch<L: Ledger>(
 ) -> Result<(), Memory>
     ensures { Goes (touch_found t.now schemes.now (walked at.old steps.old)) (walked at.new steps.new) result }
 {
-    expr(alloc, schemes, at, steps, &t.index)?;
-    expr(alloc, schemes, at, steps, &t.get_arg)?;
+    two(alloc, schemes, at, steps, &t.index, &t.get_arg)?;
     expr(alloc, schemes, at, steps, &t.set_arg)?;
     passes(alloc, at, steps, t.array)
 }
@@ -239,16 +248,36 @@ pub fn body<L: Ledger>(
     ensures { Goes (body_found stmts.now schemes.now (walked at.old steps.old)) (walked at.new steps.new) result }
 {
     let mut firsts = None;
+    match along(alloc, schemes, at, steps, &mut firsts, stmts) {
+        Ok(()) => stand_behind(at, firsts),
+        Err(error) => {
+            drop(firsts);
+            Err(error)
+        }
+    }
+}
+
+/// Walks along statements and keeps the ends of the first branches of each `if` that ends a block.
+#[cycle(walk)]
+fn along<L: Ledger>(
+    alloc: Global,
+    schemes: &[Scheme],
+    at: &mut Scheme,
+    steps: &mut Steps<L>,
+    firsts: &mut Option<Items<Atom>>,
+    stmts: &[Stmt],
+) -> Result<(), Memory>
+    ensures { Goes (closed firsts.old (body_found stmts.now schemes.now (walked at.old steps.old))) (closed firsts.new (walked at.new steps.new)) result }
+{
     let mut left = stmts;
     while let Some((Stmt::If(e, a, b), front)) = left.split_last() {
         each(alloc, schemes, at, steps, front)?;
         steps.tick();
         let ends = first_branch(alloc, schemes, at, steps, e, a.as_slice())?;
-        keep(&mut firsts, ends)?;
+        keep(firsts, ends)?;
         left = b.as_slice();
     }
-    each(alloc, schemes, at, steps, left)?;
-    stand_behind(at, firsts)
+    each(alloc, schemes, at, steps, left)
 }
 
 /// Walks along statements, each by itself.
@@ -283,8 +312,52 @@ fn first_branch<L: Ledger>(
 {
     expr(alloc, schemes, at, steps, e)?;
     let began = Items::from_slice(alloc, at.ends.as_slice())?;
-    body(alloc, schemes, at, steps, a)?;
-    Ok(mem::replace(&mut at.ends, began))
+    match body(alloc, schemes, at, steps, a) {
+        Ok(()) => Ok(mem::replace(&mut at.ends, began)),
+        Err(error) => {
+            drop(began);
+            Err(error)
+        }
+    }
+}
+
+/// Walks along an `if` within a block.
+#[cycle(walk)]
+fn branches<L: Ledger>(
+    alloc: Global,
+    schemes: &[Scheme],
+    at: &mut Scheme,
+    steps: &mut Steps<L>,
+    e: &Expr,
+    a: &[Stmt],
+    b: &[Stmt],
+) -> Result<(), Memory>
+    ensures { Goes (either (body_found a.now) (body_found b.now) schemes.now (expr_found e.now schemes.now (walked at.old steps.old))) (walked at.new steps.new) result }
+{
+    let left = first_branch(alloc, schemes, at, steps, e, a)?;
+    match body(alloc, schemes, at, steps, b) {
+        Ok(()) => stand_at_both(at, left),
+        Err(error) => {
+            drop(left);
+            Err(error)
+        }
+    }
+}
+
+/// Walks along two operands that may be left out.
+#[cycle(walk)]
+fn both<L: Ledger>(
+    alloc: Global,
+    schemes: &[Scheme],
+    at: &mut Scheme,
+    steps: &mut Steps<L>,
+    first: &Option<Expr>,
+    last: &Option<Expr>,
+) -> Result<(), Memory>
+    ensures { Goes (asked_found last.now schemes.now (asked_found first.now schemes.now (walked at.old steps.old))) (walked at.new steps.new) result }
+{
+    asked(alloc, schemes, at, steps, first)?;
+    asked(alloc, schemes, at, steps, last)
 }
 
 #[cycle(walk)]
@@ -295,7 +368,7 @@ fn asked<L: Ledger>(
     steps: &mut Steps<L>,
     e: &Option<Expr>,
 ) -> Result<(), Memory>
-    ensures { Goes (optional finds (option_map expr_found e.now) schemes.now (walked at.old steps.old)) (walked at.new steps.new) result }
+    ensures { Goes (asked_found e.now schemes.now (walked at.old steps.old)) (walked at.new steps.new) result }
 {
     match e {
         None => Ok(()),
@@ -315,13 +388,8 @@ fn stmt<L: Ledger>(
 {
     steps.tick();
     match s {
-        Stmt::Assign(_, e) => expr(alloc, schemes, at, steps, e),
-        Stmt::Drop(e) => expr(alloc, schemes, at, steps, e),
-        Stmt::If(e, a, b) => {
-            let left = first_branch(alloc, schemes, at, steps, e, a.as_slice())?;
-            body(alloc, schemes, at, steps, b.as_slice())?;
-            stand_at_both(at, left)
-        }
+        Stmt::Assign(_, e) | Stmt::Drop(e) => expr(alloc, schemes, at, steps, e),
+        Stmt::If(e, a, b) => branches(alloc, schemes, at, steps, e, a.as_slice(), b.as_slice()),
         Stmt::Gen {
             args,
             delay,
@@ -331,11 +399,9 @@ fn stmt<L: Ledger>(
         } => {
             exprs(alloc, schemes, at, steps, args.as_slice())?;
             if *delay_first {
-                asked(alloc, schemes, at, steps, delay)?;
-                asked(alloc, schemes, at, steps, to)
+                both(alloc, schemes, at, steps, delay, to)
             } else {
-                asked(alloc, schemes, at, steps, to)?;
-                asked(alloc, schemes, at, steps, delay)
+                both(alloc, schemes, at, steps, to, delay)
             }
         }
         Stmt::Multi { args, delay, .. } => {

@@ -10,15 +10,15 @@ pub loop-f-preserved : goal.loop-f-preserved
 loop-f-preserved g c =
     let f = c.f-item.result in
     let is : slice_get c.args.funs.now c.loop-f.f-index ≡ Some f = slice_get-get_or c.args.funs.now c.loop-f.f-index f (search rules) ∙ ap (λ x. Some x) (sym c.f-item.is) in
-    let pushed : c.push.new.self.items ≡ c.loop-f.schemes.items ++ c.in_ok-found.found ∷ [] = search rules in
-    let judges = judges_same c.args.arrays c.loop-f.schemes.items c.deref.result.now f.decl f.body c.as_slice.result.now c.loop-f.first c.judge.new.first (search rules) (search rules) c.in_ok-found.ensures.first in
-    let both = fun_turn c.args.arrays c.loop-f.f-index c.loop-f.schemes.items c.push.new.self.items c.in_ok-found.found c.loop-f.first c.judge.new.first pushed
+    let pushed : c.push.new.self.items ≡ c.loop-f.judged.schemes.items ++ c.in_ok-found.found ∷ [] = search rules in
+    let judges = judges_same c.args.arrays c.loop-f.judged.schemes.items c.deref.result.now f.decl f.body c.as_slice.result.now c.loop-f.judged.first c.judge.new.first (search rules) (search rules) c.in_ok-found.ensures.first in
+    let both = fun_turn c.args.arrays c.loop-f.f-index c.loop-f.judged.schemes.items c.push.new.self.items c.in_ok-found.found c.loop-f.judged.first c.judge.new.first pushed
     c.args.funs.now f is (search rules) judges c.loop-f.invariant.schemes c.loop-f.invariant.first in
     record {
       schemes = both.0;
       first = both.1;
       most = λ parts sound own counted.
-          fun_spent parts sound c.args.arrays c.args.steps.now c.loop-f.steps c.judge.new.steps c.loop-f.schemes.items c.loop-f.f-index counted c.args.funs.now own f is c.as_slice.result.now c.loop-f.invariant.schemes (search rules) (search rules)
+          fun_spent parts sound c.args.arrays c.args.steps.now c.loop-f.steps c.judge.new.steps c.loop-f.judged.schemes.items c.loop-f.f-index counted c.args.funs.now own f is c.as_slice.result.now c.loop-f.invariant.schemes (search rules) (search rules)
           (c.loop-f.invariant.most parts sound own counted);
     }
 
@@ -27,7 +27,7 @@ returns-in_err-found-clause-most g c = λ parts sound own counted.
     let f = c.f-item.result in
     let is : slice_get c.args.funs.now c.loop-f.f-index ≡ Some f = slice_get-get_or c.args.funs.now c.loop-f.f-index f (search rules) ∙ ap (λ x. Some x) (sym c.f-item.is) in
     funs_spent (steps_a_node c.args.arrays) c.args.steps.now c.judge.new.steps (c.loop-f.f-index + 1) c.args.funs.now
-    (fun_spent parts sound c.args.arrays c.args.steps.now c.loop-f.steps c.judge.new.steps c.loop-f.schemes.items c.loop-f.f-index counted c.args.funs.now own f is c.as_slice.result.now c.loop-f.invariant.schemes (search rules) (search rules)
+    (fun_spent parts sound c.args.arrays c.args.steps.now c.loop-f.steps c.judge.new.steps c.loop-f.judged.schemes.items c.loop-f.f-index counted c.args.funs.now own f is c.as_slice.result.now c.loop-f.invariant.schemes (search rules) (search rules)
     (c.loop-f.invariant.most parts sound own counted))
 
 pub returns-in_err-push-clause-most : goal.returns-in_err-push-clause-most
@@ -35,5 +35,5 @@ returns-in_err-push-clause-most g c = λ parts sound own counted.
     let f = c.f-item.result in
     let is : slice_get c.args.funs.now c.loop-f.f-index ≡ Some f = slice_get-get_or c.args.funs.now c.loop-f.f-index f (search rules) ∙ ap (λ x. Some x) (sym c.f-item.is) in
     funs_spent (steps_a_node c.args.arrays) c.args.steps.now c.judge.new.steps (c.loop-f.f-index + 1) c.args.funs.now
-    (fun_spent parts sound c.args.arrays c.args.steps.now c.loop-f.steps c.judge.new.steps c.loop-f.schemes.items c.loop-f.f-index counted c.args.funs.now own f is c.as_slice.result.now c.loop-f.invariant.schemes (search rules) (search rules)
+    (fun_spent parts sound c.args.arrays c.args.steps.now c.loop-f.steps c.judge.new.steps c.loop-f.judged.schemes.items c.loop-f.f-index counted c.args.funs.now own f is c.as_slice.result.now c.loop-f.invariant.schemes (search rules) (search rules)
     (c.loop-f.invariant.most parts sound own counted))

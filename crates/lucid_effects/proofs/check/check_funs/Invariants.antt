@@ -10,7 +10,7 @@ use Rattle.lucid_effects.proofs.check.check_funs.Given as goal
 
 abbrev pub invariant-loop-f : goal.invariant-loop-f
 invariant-loop-f g l = record {
-  schemes : l.schemes.items ≡ schemes_of (take l.f-index l.funs);
-  first : IsFirst l.arrays (fun_bodies [] (take l.f-index l.funs)) l.first;
+  schemes : l.judged.schemes.items ≡ schemes_of (take l.f-index l.funs);
+  first : IsFirst l.arrays (fun_bodies [] (take l.f-index l.funs)) l.judged.first;
   most : (parts : CoreParts) → IsSound parts → parts.funs ≡ l.funs → length parts.arrays ≡ l.arrays → l.steps ≤ l.fn.steps + fun_nodes (take l.f-index l.funs) * steps_a_node l.arrays;
 }

@@ -14,14 +14,14 @@ use Rattle.lucid_effects.proofs.check.check_handlers.Goals as goal
 pub loop-h-preserved : goal.loop-h-preserved
 loop-h-preserved g c =
     let h = c.h-item.result in
-    let fs = c.args.judged.schemes.items in
+    let fs = c.args.judged.now.schemes.items in
     let is : slice_get c.args.handlers.now c.loop-h.h-index ≡ Some h = slice_get-get_or c.args.handlers.now c.loop-h.h-index h (search rules) ∙ ap (λ x. Some x) (sym c.h-item.is) in
-    let pushed : c.push.new.self.items ≡ c.loop-h.schemes.items ++ c.in_ok-found.found ∷ [] = search rules in
-    let front : c.front-before.result.now ≡ take (length fs) c.loop-h.schemes.items = search rules in
+    let pushed : c.push.new.self.items ≡ c.loop-h.judged.schemes.items ++ c.in_ok-found.found ∷ [] = search rules in
+    let front : c.front-before.result.now ≡ take (length fs) c.loop-h.judged.schemes.items = search rules in
     let front_is : c.front-before.result.now ≡ fs = front ∙ ap (λ xs. take (length fs) xs) c.loop-h.invariant.schemes ∙ take-append_seam fs (handler_schemes fs (take c.loop-h.h-index c.args.handlers.now)) in
-    let judges = judges_same c.args.arrays c.front-before.result.now c.front-before.result.now h.decl h.body c.as_slice.result.now c.loop-h.first c.judge.new.first refl (search rules) c.in_ok-found.ensures.first in
-    let both = handler_turn c.args.arrays c.loop-h.h-index c.loop-h.schemes.items c.push.new.self.items c.in_ok-found.found c.loop-h.first c.judge.new.first pushed
-    fs c.front-before.result.now c.args.handlers.now h is front_is (search rules) judges c.args.judged.first c.loop-h.invariant.schemes c.loop-h.invariant.first in
+    let judges = judges_same c.args.arrays c.front-before.result.now c.front-before.result.now h.decl h.body c.as_slice.result.now c.loop-h.judged.first c.judge.new.first refl (search rules) c.in_ok-found.ensures.first in
+    let both = handler_turn c.args.arrays c.loop-h.h-index c.loop-h.judged.schemes.items c.push.new.self.items c.in_ok-found.found c.loop-h.judged.first c.judge.new.first pushed
+    fs c.front-before.result.now c.args.handlers.now h is front_is (search rules) judges c.args.judged.now.first c.loop-h.invariant.schemes c.loop-h.invariant.first in
     record {
       schemes = both.0;
       first = both.1;
@@ -34,14 +34,14 @@ pub returns-clause-first : goal.returns-clause-first
 returns-clause-first g c = λ funs is bs h.
     let end : c.loop-h.h-index ≡ length c.args.handlers.now = search rules in
     let all = ap (λ k. take k c.args.handlers.now) end ∙ take-length c.args.handlers.now in
-    subst (λ (hs : List HandlerDef). IsFirst c.args.arrays (bs ++ handler_bodies funs hs) c.loop-h.first) all (c.loop-h.invariant.first funs is bs h)
+    subst (λ (hs : List HandlerDef). IsFirst c.args.arrays (bs ++ handler_bodies funs hs) c.loop-h.judged.first) all (c.loop-h.invariant.first funs is bs h)
 
 pub returns-in_err-found-clause-most : goal.returns-in_err-found-clause-most
 returns-in_err-found-clause-most g c = λ parts sound known own counted.
     let h = c.h-item.result in
-    let fs = c.args.judged.schemes.items in
+    let fs = c.args.judged.now.schemes.items in
     let is : slice_get c.args.handlers.now c.loop-h.h-index ≡ Some h = slice_get-get_or c.args.handlers.now c.loop-h.h-index h (search rules) ∙ ap (λ x. Some x) (sym c.h-item.is) in
-    let front : c.front-before.result.now ≡ take (length fs) c.loop-h.schemes.items = search rules in
+    let front : c.front-before.result.now ≡ take (length fs) c.loop-h.judged.schemes.items = search rules in
     let front_is : c.front-before.result.now ≡ fs = front ∙ ap (λ xs. take (length fs) xs) c.loop-h.invariant.schemes ∙ take-append_seam fs (handler_schemes fs (take c.loop-h.h-index c.args.handlers.now)) in
     handlers_spent (steps_a_node c.args.arrays) c.args.steps.now c.judge.new.steps (c.loop-h.h-index + 1) c.args.handlers.now
     (handler_spent parts sound c.args.arrays c.args.steps.now c.loop-h.steps c.judge.new.steps c.front-before.result.now c.loop-h.h-index counted c.args.handlers.now own h is c.as_slice.result.now (front_is ∙ known) (search rules) (search rules)
@@ -50,9 +50,9 @@ returns-in_err-found-clause-most g c = λ parts sound known own counted.
 pub returns-in_err-push-clause-most : goal.returns-in_err-push-clause-most
 returns-in_err-push-clause-most g c = λ parts sound known own counted.
     let h = c.h-item.result in
-    let fs = c.args.judged.schemes.items in
+    let fs = c.args.judged.now.schemes.items in
     let is : slice_get c.args.handlers.now c.loop-h.h-index ≡ Some h = slice_get-get_or c.args.handlers.now c.loop-h.h-index h (search rules) ∙ ap (λ x. Some x) (sym c.h-item.is) in
-    let front : c.front-before.result.now ≡ take (length fs) c.loop-h.schemes.items = search rules in
+    let front : c.front-before.result.now ≡ take (length fs) c.loop-h.judged.schemes.items = search rules in
     let front_is : c.front-before.result.now ≡ fs = front ∙ ap (λ xs. take (length fs) xs) c.loop-h.invariant.schemes ∙ take-append_seam fs (handler_schemes fs (take c.loop-h.h-index c.args.handlers.now)) in
     handlers_spent (steps_a_node c.args.arrays) c.args.steps.now c.judge.new.steps (c.loop-h.h-index + 1) c.args.handlers.now
     (handler_spent parts sound c.args.arrays c.args.steps.now c.loop-h.steps c.judge.new.steps c.front-before.result.now c.loop-h.h-index counted c.args.handlers.now own h is c.as_slice.result.now (front_is ∙ known) (search rules) (search rules)

@@ -11,7 +11,7 @@ use Rattle.lucid_effects.proofs.check.check_handlers.Given as goal
 
 abbrev pub invariant-loop-h : goal.invariant-loop-h
 invariant-loop-h g l = record {
-  schemes : l.schemes.items ≡ l.initial.schemes.items ++ handler_schemes l.initial.schemes.items (take l.h-index l.handlers);
-  first : (funs : List FunDef) → l.initial.schemes.items ≡ schemes_of funs → (bs : List Body) → IsFirst l.arrays bs l.initial.first → IsFirst l.arrays (bs ++ handler_bodies funs (take l.h-index l.handlers)) l.first;
-  most : (parts : CoreParts) → IsSound parts → l.initial.schemes.items ≡ schemes_of parts.funs → parts.handlers ≡ l.handlers → length parts.arrays ≡ l.arrays → l.steps ≤ l.fn.steps + handler_nodes (take l.h-index l.handlers) * steps_a_node l.arrays;
+  schemes : l.judged.schemes.items ≡ l.fn.judged.schemes.items ++ handler_schemes l.fn.judged.schemes.items (take l.h-index l.handlers);
+  first : (funs : List FunDef) → l.fn.judged.schemes.items ≡ schemes_of funs → (bs : List Body) → IsFirst l.arrays bs l.fn.judged.first → IsFirst l.arrays (bs ++ handler_bodies funs (take l.h-index l.handlers)) l.judged.first;
+  most : (parts : CoreParts) → IsSound parts → l.fn.judged.schemes.items ≡ schemes_of parts.funs → parts.handlers ≡ l.handlers → length parts.arrays ≡ l.arrays → l.steps ≤ l.fn.steps + handler_nodes (take l.h-index l.handlers) * steps_a_node l.arrays;
 }

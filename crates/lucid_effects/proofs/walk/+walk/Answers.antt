@@ -1,104 +1,67 @@
 -- A walk goes on along the parts of a form, and takes no more steps than the whole if memory stops it.
-use Rattle.std.proofs.Common.{List, arith, rules, refl, sym, ◌≡◌, ◌∙◌, ◌+◌, ◌≤◌, [], ◌∷◌, ◌++◌, ap, map}
+use Rattle.std.proofs.Common.{List, true, false, Option, arith, rules, refl, sym, subst, ◌≡◌, ◌∙◌, ◌+◌, ◌≤◌, [], ◌∷◌, ◌++◌, ap, map}
 use denote.Param.Weighed.{most}
 use Rattle.std.proofs.lemmas.Result.{IfOk-from_err}
 use Rattle.lucid_core.specs.declared.body.Expr.{Expr}
 use Rattle.lucid_core.specs.declared.body.Expr.TheViews.{size-Stmt}
 use Rattle.lucid_core.specs.declared.body.Stmt.{Stmt}
 use Rattle.lucid_core.specs.declared.body.Stmt.TheVariants as s
-use Rattle.lucid_core.specs.declared.body.Touch.{out-Touch}
-use Rattle.lucid_effects_spec.specs.Evaluation.{sequence}
-use Rattle.lucid_effects.specs.Walk.{back_from, behind, first}
-use Rattle.lucid_effects.specs.Goes.{walked}
 use Rattle.lucid_constraints.specs.Same.{same_atom, join_all}
-use Rattle.lucid_effects_spec.specs.Schemes.{Walked, goes_through, body_found, expr_found, finds, given_found, passes, stmt_found}
+use Rattle.lucid_effects_spec.specs.Evaluation.{sequence}
+use Rattle.lucid_effects.specs.Walk.{asked_found, back_from, behind, closed, first}
+use Rattle.lucid_effects.specs.Goes.{walked}
+use Rattle.lucid_effects_spec.specs.Schemes.{Walked, body_found, either, expr_found, finds, given_found, stmt_found}
 use Rattle.lucid_effects_spec.specs.Schemes.{touch_found}
-use Rattle.lucid_effects.proofs.Forms.{array_is, assign_is, bin_is, call_is, cast_is, cmp_is, drop_is, gen_is, hash_is, inlined_is}
-use Rattle.lucid_effects.proofs.Forms.{multi_is, return_is, say_is, un_is}
-use Rattle.lucid_effects.proofs.Rising.{bin_left, branch_left, call_left, cmp_left, delay_left, expr_left, get_left, given_all, given_left}
-use Rattle.lucid_effects.proofs.Rising.{given_next, index_left, inlined_left, last_left, multi_left, next_item, no_item, sent_left}
-use Rattle.lucid_effects.proofs.Rising.{set_left, stmt_left, target_left, touch_is}
-use Rattle.lucid_effects.proofs.WalkLemmas.{closed, ends_there, first_left, front_left, goes_on, if_joins, parts_are_less, stepped_by}
-use Rattle.lucid_effects.proofs.WalkLemmas.{stops, tested_left}
+use Rattle.lucid_effects.proofs.Rising.{expr_left, get_left, given_all, given_left, given_next, next_item, no_item, stmt_left}
+use Rattle.lucid_effects.proofs.WalkLemmas.{array_goes, assign_goes, behind_goes, bin_goes, both_stop, call_goes, call_stops, closes, either_joins}
+use Rattle.lucid_effects.proofs.WalkLemmas.{either_left, ends_there, first_back, first_left, front_left, gen_goes, gen_stops}
+use Rattle.lucid_effects.proofs.WalkLemmas.{goes_on, hash_goes, if_goes, inlined_goes, inlined_stops, multi_goes, multi_stops, no_deeper}
+use Rattle.lucid_effects.proofs.WalkLemmas.{parts_are_less, return_goes, say_goes, stepped_by, stops, tested_left, touch_goes, touch_stops, two_stop, un_goes}
 use Rattle.lucid_effects.proofs.walk.+walk.Goals as goal
-
-pub expr-returns-in-Un : goal.expr-returns-in-Un
-expr-returns-in-Un g t c =
-    rw (c.in-Un.is, un_is) (rw (c.get.ensures, c.tick.ensures) at c.expr.ensures)
-
-pub expr-returns-in_err-expr-in-Bin : goal.expr-returns-in_err-expr-in-Bin
-expr-returns-in_err-expr-in-Bin g t c =
-    let most = rw (c.get-in-Bin.ensures, c.tick-in-Bin.ensures) at c.in_err-expr-in-Bin.ensures in
-    let most = bin_left _ c.in-Bin.a c.in-Bin.b c.args.e.now c.args.schemes.now (walked c.args.at.now c.args.steps.now)
-    c.expr-in-Bin.new.steps c.in-Bin.is most in
-    stops c.from_residual.result (expr_found c.args.e.now c.args.schemes.now (walked c.args.at.now c.args.steps.now))
-    (walked c.expr-in-Bin.new.at c.expr-in-Bin.new.steps) c.from_residual.ensures.0 most
-
-pub expr-returns-in_ok-expr-in-Bin : goal.expr-returns-in_ok-expr-in-Bin
-expr-returns-in_ok-expr-in-Bin g t c =
-    let mid = rw (c.get-in-Bin.ensures, c.tick-in-Bin.ensures) at c.in_ok-expr-in-Bin.ensures in
-    rw (c.in-Bin.is, bin_is) (rw (c.get-in-Bin-2.ensures, mid) at c.expr-in-Bin-2.ensures)
-
-pub expr-returns-in_err-expr-in-Cmp : goal.expr-returns-in_err-expr-in-Cmp
-expr-returns-in_err-expr-in-Cmp g t c =
-    let most = rw (c.get-in-Cmp.ensures, c.tick-in-Cmp.ensures) at c.in_err-expr-in-Cmp.ensures in
-    let most = cmp_left _ c.in-Cmp.a c.in-Cmp.b c.args.e.now c.args.schemes.now (walked c.args.at.now c.args.steps.now)
-    c.expr-in-Cmp.new.steps c.in-Cmp.is most in
-    stops c.from_residual-in_err-expr-in-Cmp.result (expr_found c.args.e.now c.args.schemes.now (walked c.args.at.now c.args.steps.now))
-    (walked c.expr-in-Cmp.new.at c.expr-in-Cmp.new.steps) c.from_residual-in_err-expr-in-Cmp.ensures.0 most
-
-pub expr-returns-in_ok-expr-in-Cmp : goal.expr-returns-in_ok-expr-in-Cmp
-expr-returns-in_ok-expr-in-Cmp g t c =
-    let mid = rw (c.get-in-Cmp.ensures, c.tick-in-Cmp.ensures) at c.in_ok-expr-in-Cmp.ensures in
-    rw (c.in-Cmp.is, cmp_is) (rw (c.get-in-Cmp-2.ensures, mid) at c.expr-in-Cmp-2.ensures)
-
-pub expr-returns-in-Cast : goal.expr-returns-in-Cast
-expr-returns-in-Cast g t c =
-    rw (c.in-Cast.is, cast_is) (rw (c.get-in-Cast.ensures, c.tick-in-Cast.ensures) at c.expr-in-Cast.ensures)
 
 pub expr-returns-in-Hash : goal.expr-returns-in-Hash
 expr-returns-in-Hash g t c =
-    rw (c.in-Hash.is, hash_is) (rw (c.as_slice.ensures, c.tick-in-Hash.ensures) at c.exprs.ensures)
+    hash_goes c.exprs.result c.args.schemes.now c.args.at.now c.args.steps.now c.tick.new.self c.tick.ensures (walked c.exprs.new.at c.exprs.new.steps)
+    _ c.args.e.now c.in-Hash.operands c.as_slice.result.now c.in-Hash.is c.as_slice.ensures c.exprs.ensures
 
 pub expr-returns-in-Array : goal.expr-returns-in-Array
 expr-returns-in-Array g t c =
-    rw (c.in-Array.is, array_is) (rw (c.get-in-Array.ensures, c.tick-in-Array.ensures) at c.touch.ensures)
+    array_goes c.touch.result c.args.schemes.now c.args.at.now c.args.steps.now c.tick-in-Array.new.self c.tick-in-Array.ensures (walked c.touch.new.at c.touch.new.steps)
+    c.args.e.now c.in-Array.t c.get.result.now c.in-Array.is c.get.ensures c.touch.ensures
 
 pub expr-returns-in_err-exprs-in-Fun : goal.expr-returns-in_err-exprs-in-Fun
 expr-returns-in_err-exprs-in-Fun g t c =
-    let most = rw c.as_slice-in-Fun.ensures at c.in_err-exprs-in-Fun.ensures in
-    let most = call_left c.in-Fun.k c.in-Fun.names c.in-Fun.args c.args.e.now c.args.schemes.now (walked c.args.at.now c.args.steps.now)
-    c.exprs-in-Fun.new.steps c.in-Fun.is most in
-    stops c.from_residual-in_err-exprs-in-Fun.result (expr_found c.args.e.now c.args.schemes.now (walked c.args.at.now c.args.steps.now))
-    (walked c.exprs-in-Fun.new.at c.exprs-in-Fun.new.steps) c.from_residual-in_err-exprs-in-Fun.ensures.0 most
+    call_stops c.from_residual.result c.args.schemes.now (walked c.args.at.now c.args.steps.now) (walked c.exprs-in-Fun.new.at c.exprs-in-Fun.new.steps)
+    c.args.e.now c.in-Fun.k c.in-Fun.names c.in-Fun.args c.as_slice-in-Fun.result.now c.in-Fun.is c.as_slice-in-Fun.ensures
+    c.from_residual.ensures.0 c.in_err-exprs-in-Fun.ensures
 
 pub expr-returns-in_ok-exprs-in-Fun : goal.expr-returns-in_ok-exprs-in-Fun
 expr-returns-in_ok-exprs-in-Fun g t c =
-    let mid : (walked c.exprs-in-Fun.new.at c.exprs-in-Fun.new.steps) ≡ sequence finds (map expr_found c.in-Fun.args) c.args.schemes.now
-    (walked c.args.at.now c.args.steps.now) =
-    rw c.as_slice-in-Fun.ensures at c.in_ok-exprs-in-Fun.ensures in
-    let there = ap (λ (w : Walked). goes_through c.in-Fun.k c.in-Fun.names c.args.schemes.now w) mid in
-    let whole = ap (λ (x : Expr). expr_found x c.args.schemes.now (walked c.args.at.now c.args.steps.now)) c.in-Fun.is
-    ∙ call_is c.in-Fun.k c.in-Fun.names c.in-Fun.args c.args.schemes.now (walked c.args.at.now c.args.steps.now) in
-    goes_on c.goes_through.result
-    (goes_through c.in-Fun.k c.in-Fun.names c.args.schemes.now (walked c.exprs-in-Fun.new.at c.exprs-in-Fun.new.steps))
-    (expr_found c.args.e.now c.args.schemes.now (walked c.args.at.now c.args.steps.now))
-    (walked c.goes_through.new.at c.goes_through.new.steps) (there ∙ sym whole)
-    (rw c.as_slice-in-Fun-2.ensures at c.goes_through.ensures)
+    call_goes c.goes_through.result c.args.schemes.now (walked c.args.at.now c.args.steps.now) (walked c.goes_through.new.at c.goes_through.new.steps)
+    c.args.e.now c.in-Fun.k c.in-Fun.names c.in-Fun.args c.as_slice-in-Fun.result.now c.in-Fun.is c.as_slice-in-Fun.ensures
+    (walked c.exprs-in-Fun.new.at c.exprs-in-Fun.new.steps) c.as_slice-in-Fun-2.result.now c.as_slice-in-Fun-2.ensures c.in_ok-exprs-in-Fun.ensures c.goes_through.ensures
 
 pub expr-returns-in_err-givens-in-Inlined : goal.expr-returns-in_err-givens-in-Inlined
 expr-returns-in_err-givens-in-Inlined g t c =
-    let most = rw (c.as_slice-in-Inlined.ensures, c.tick-in-Inlined.ensures) at c.in_err-givens-in-Inlined.ensures in
-    let most = inlined_left c.in-Inlined.given c.in-Inlined.stmts c.args.e.now c.args.schemes.now (walked c.args.at.now c.args.steps.now)
-    c.givens.new.steps c.in-Inlined.is most in
-    stops c.from_residual-in_err-givens-in-Inlined.result
-    (expr_found c.args.e.now c.args.schemes.now (walked c.args.at.now c.args.steps.now)) (walked c.givens.new.at c.givens.new.steps)
-    c.from_residual-in_err-givens-in-Inlined.ensures.0 most
+    inlined_stops c.from_residual-in_err-givens-in-Inlined.result c.args.schemes.now c.args.at.now c.args.steps.now c.tick-in-Inlined.new.self c.tick-in-Inlined.ensures (walked c.givens.new.at c.givens.new.steps)
+    c.args.e.now c.in-Inlined.given c.as_slice-in-Inlined.result.now c.in-Inlined.stmts c.in-Inlined.is c.as_slice-in-Inlined.ensures
+    c.from_residual-in_err-givens-in-Inlined.ensures.0 c.in_err-givens-in-Inlined.ensures
 
 pub expr-returns-in_ok-givens-in-Inlined : goal.expr-returns-in_ok-givens-in-Inlined
 expr-returns-in_ok-givens-in-Inlined g t c =
-    let mid = rw (c.as_slice-in-Inlined.ensures, c.tick-in-Inlined.ensures) at c.in_ok-givens-in-Inlined.ensures in
-    rw (c.in-Inlined.is, inlined_is) (rw (c.as_slice-in-Inlined-2.ensures, mid) at c.body.ensures)
+    inlined_goes c.body.result c.args.schemes.now c.args.at.now c.args.steps.now c.tick-in-Inlined.new.self c.tick-in-Inlined.ensures (walked c.body.new.at c.body.new.steps)
+    c.args.e.now c.in-Inlined.given c.as_slice-in-Inlined.result.now c.in-Inlined.stmts c.as_slice-in-Inlined-2.result.now (walked c.givens.new.at c.givens.new.steps)
+    c.in-Inlined.is c.as_slice-in-Inlined.ensures c.as_slice-in-Inlined-2.ensures c.in_ok-givens-in-Inlined.ensures c.body.ensures
+
+pub two-returns-in_err-expr : goal.two-returns-in_err-expr
+two-returns-in_err-expr g t c =
+    two_stop c.from_residual.result c.args.schemes.now (walked c.args.at.now c.args.steps.now) (walked c.args.at.now c.args.steps.now) (walked c.expr.new.at c.expr.new.steps)
+    c.args.first.now c.args.last.now c.from_residual.ensures.0 c.in_err-expr.ensures
+
+pub two-returns : goal.two-returns
+two-returns g t c =
+    behind_goes c.expr-2.result c.args.schemes.now (walked c.args.at.now c.args.steps.now) (walked c.expr.new.at c.expr.new.steps) (walked c.expr-2.new.at c.expr-2.new.steps)
+    (expr_found c.args.first.now) (expr_found c.args.last.now) c.in_ok-expr.ensures c.expr-2.ensures
 
 pub exprs-loop-e-init : goal.exprs-loop-e-init
 exprs-loop-e-init g t c =
@@ -172,68 +135,53 @@ givens-returns-in_err-expr g t c =
     stops c.from_residual.result (given_found c.args.given.now c.args.schemes.now (walked c.args.at.now c.args.steps.now))
     (walked c.expr.new.at c.expr.new.steps) c.from_residual.ensures.0 most
 
+pub touch-returns-in_err-two : goal.touch-returns-in_err-two
+touch-returns-in_err-two g t c =
+    stops c.from_residual.result (touch_found c.args.t.now c.args.schemes.now (walked c.args.at.now c.args.steps.now)) (walked c.two.new.at c.two.new.steps) c.from_residual.ensures.0
+    (get_left c.args.t.now c.args.schemes.now (walked c.args.at.now c.args.steps.now) c.two.new.steps c.in_err-two.ensures)
+
 pub touch-returns-in_err-expr : goal.touch-returns-in_err-expr
 touch-returns-in_err-expr g t c =
-    let most = index_left c.args.t.now c.args.schemes.now (walked c.args.at.now c.args.steps.now) c.expr.new.steps c.in_err-expr.ensures in
-    stops c.from_residual.result (touch_found c.args.t.now c.args.schemes.now (walked c.args.at.now c.args.steps.now))
-    (walked c.expr.new.at c.expr.new.steps) c.from_residual.ensures.0 most
-
-pub touch-returns-in_err-expr-2 : goal.touch-returns-in_err-expr-2
-touch-returns-in_err-expr-2 g t c =
-    let most = get_left c.args.t.now c.args.schemes.now (walked c.args.at.now c.args.steps.now) c.expr-2.new.steps
-    (rw c.in_ok-expr.ensures at c.in_err-expr-2.ensures) in
-    stops c.from_residual-in_err-expr-2.result (touch_found c.args.t.now c.args.schemes.now (walked c.args.at.now c.args.steps.now))
-    (walked c.expr-2.new.at c.expr-2.new.steps) c.from_residual-in_err-expr-2.ensures.0 most
-
-pub touch-returns-in_err-expr-3 : goal.touch-returns-in_err-expr-3
-touch-returns-in_err-expr-3 g t c =
-    let most = set_left c.args.t.now c.args.schemes.now (walked c.args.at.now c.args.steps.now) c.expr-3.new.steps
-    (rw (c.in_ok-expr-2.ensures, c.in_ok-expr.ensures) at c.in_err-expr-3.ensures) in
-    stops c.from_residual-in_err-expr-3.result (touch_found c.args.t.now c.args.schemes.now (walked c.args.at.now c.args.steps.now))
-    (walked c.expr-3.new.at c.expr-3.new.steps) c.from_residual-in_err-expr-3.ensures.0 most
+    touch_stops c.from_residual-in_err-expr.result c.args.t.now c.args.schemes.now (walked c.args.at.now c.args.steps.now) (walked c.two.new.at c.two.new.steps) (walked c.expr.new.at c.expr.new.steps) c.in_ok-two.ensures
+    c.from_residual-in_err-expr.ensures.0 c.in_err-expr.ensures
 
 pub touch-returns : goal.touch-returns
 touch-returns g t c =
-    let set : (walked c.expr-3.new.at c.expr-3.new.steps) ≡ expr_found (out-Touch c.args.t.now).set_arg c.args.schemes.now
-    (expr_found (out-Touch c.args.t.now).get_arg c.args.schemes.now
-    (expr_found (out-Touch c.args.t.now).index c.args.schemes.now (walked c.args.at.now c.args.steps.now))) =
-    rw (c.in_ok-expr-2.ensures, c.in_ok-expr.ensures) at c.in_ok-expr-3.ensures in
-    let there = ap (λ (w : Walked). passes c.args.t.now.array c.args.schemes.now w) set in
-    goes_on c.passes.result (passes c.args.t.now.array c.args.schemes.now (walked c.expr-3.new.at c.expr-3.new.steps))
-    (touch_found c.args.t.now c.args.schemes.now (walked c.args.at.now c.args.steps.now)) (walked c.passes.new.at c.passes.new.steps)
-    (there ∙ sym (touch_is c.args.t.now c.args.schemes.now (walked c.args.at.now c.args.steps.now) 0)) c.passes.ensures
+    touch_goes c.passes.result c.args.t.now c.args.schemes.now (walked c.args.at.now c.args.steps.now) (walked c.two.new.at c.two.new.steps) (walked c.passes.new.at c.passes.new.steps) c.in_ok-two.ensures
+    (walked c.expr.new.at c.expr.new.steps) c.in_ok-expr.ensures c.passes.ensures
 
-pub body-loop-e-preserved : goal.body-loop-e-preserved
-body-loop-e-preserved g t c =
+pub along-loop-e-init : goal.along-loop-e-init
+along-loop-e-init g t c =
+    (omega arith, refl)
+
+pub along-loop-e-preserved : goal.along-loop-e-preserved
+along-loop-e-preserved g t c =
     let last = c.in-Some-If-default in
     let split : c.loop-e.left.now ≡ last.front.now ++ s.If last.e last.a last.b ∷ [] =
     last.ensures.cases.0 ∙ ap (λ (x : Stmt). last.front.now ++ x ∷ []) last.field-0-0-is in
-    let less = parts_are_less _ _ _ _ _ split in
     let rest : c.as_slice-left.result.now ≡ last.b = search rules in
-    let small : most (λ x. size-Stmt x) c.as_slice-left.result.now ≤ most (λ x. size-Stmt x) c.args.stmts.now =
-    rw rest (omega (arith, less, c.loop-e.invariant.0)) in
+    let deep = no_deeper c.loop-e.left.now last.front.now c.args.stmts.now c.as_slice-left.result.now last.e last.a last.b split rest c.loop-e.invariant.0 in
     let two : walked c.first_branch.new.at c.first_branch.new.steps ≡ back_from last.e last.a c.args.schemes.now
     (walked c.each.new.at (c.each.new.steps + 1)) = search rules in
     let ends : c.in_ok-ends.ends ≡ (first last.e last.a c.args.schemes.now (walked c.each.new.at (c.each.new.steps + 1))).ends =
     search rules in (
-      small,
+      deep.0,
       stepped_by c.loop-e.left.now last.front.now last.e last.a last.b split c.args.schemes.now (walked c.loop-e.at c.loop-e.steps)
-          c.loop-e.firsts (body_found c.args.stmts.now c.args.schemes.now (walked c.args.at.now c.args.steps.now)) c.loop-e.invariant.1
+          c.loop-e.firsts (closed c.args.firsts.now (body_found c.args.stmts.now c.args.schemes.now (walked c.args.at.now c.args.steps.now))) c.loop-e.invariant.1
           (walked c.each.new.at c.each.new.steps) (walked c.first_branch.new.at c.first_branch.new.steps) c.in_ok-ends.ends c.keep.new.firsts
           c.as_slice-left.result.now c.in_ok-each.ensures two ends c.in_ok-keep.ensures rest,
     )
 
-pub body-loop-e-smaller : goal.body-loop-e-smaller
-body-loop-e-smaller g t c =
+pub along-loop-e-smaller : goal.along-loop-e-smaller
+along-loop-e-smaller g t c =
     let last = c.in-Some-If-default in
     let split : c.loop-e.left.now ≡ last.front.now ++ s.If last.e last.a last.b ∷ [] =
     last.ensures.cases.0 ∙ ap (λ (x : Stmt). last.front.now ++ x ∷ []) last.field-0-0-is in
-    let less = parts_are_less _ _ _ _ _ split in
     let rest : c.as_slice-left.result.now ≡ last.b = search rules in
-    rw rest (omega (arith, less))
+    (no_deeper c.loop-e.left.now last.front.now c.args.stmts.now c.as_slice-left.result.now last.e last.a last.b split rest c.loop-e.invariant.0).1
 
-pub body-first_branch-requires : goal.body-first_branch-requires
-body-first_branch-requires g t c =
+pub along-first_branch-requires : goal.along-first_branch-requires
+along-first_branch-requires g t c =
     let last = c.in-Some-If-default in
     let split : c.loop-e.left.now ≡ last.front.now ++ s.If last.e last.a last.b ∷ [] =
     last.ensures.cases.0 ∙ ap (λ (x : Stmt). last.front.now ++ x ∷ []) last.field-0-0-is in
@@ -243,89 +191,125 @@ body-first_branch-requires g t c =
     ap (λ (ss : List Stmt). most (λ x. size-Stmt x) ss) yes in
     search (rules, less, slice)
 
-pub body-returns-in_err-each : goal.body-returns-in_err-each
-body-returns-in_err-each g t c =
+pub along-returns-in_err-each : goal.along-returns-in_err-each
+along-returns-in_err-each g t c =
     let last = c.in-Some-If-default in
     let split : c.loop-e.left.now ≡ last.front.now ++ s.If last.e last.a last.b ∷ [] =
     last.ensures.cases.0 ∙ ap (λ (x : Stmt). last.front.now ++ x ∷ []) last.field-0-0-is in
-    let most = front_left c.loop-e.left.now last.front.now last.e last.a last.b split c.args.schemes.now
-    (walked c.loop-e.at c.loop-e.steps) c.loop-e.firsts
-    (body_found c.args.stmts.now c.args.schemes.now (walked c.args.at.now c.args.steps.now)) c.loop-e.invariant.1 c.each.new.steps
-    c.in_err-each.ensures in
-    stops c.from_residual.result (body_found c.args.stmts.now c.args.schemes.now (walked c.args.at.now c.args.steps.now))
-    (walked c.each.new.at c.each.new.steps) c.from_residual.ensures.0 most
+    stops c.from_residual.result (closed c.args.firsts.now (body_found c.args.stmts.now c.args.schemes.now (walked c.args.at.now c.args.steps.now))) (closed c.loop-e.firsts (walked c.each.new.at c.each.new.steps)) c.from_residual.ensures.0
+    (front_left c.loop-e.left.now last.front.now last.e last.a last.b split c.args.schemes.now (walked c.loop-e.at c.loop-e.steps)
+    c.loop-e.firsts (closed c.args.firsts.now (body_found c.args.stmts.now c.args.schemes.now (walked c.args.at.now c.args.steps.now))) c.loop-e.invariant.1 c.each.new.steps c.in_err-each.ensures)
 
-pub body-returns-in_err-ends : goal.body-returns-in_err-ends
-body-returns-in_err-ends g t c =
+pub along-returns-in_err-ends : goal.along-returns-in_err-ends
+along-returns-in_err-ends g t c =
     let last = c.in-Some-If-default in
     let split : c.loop-e.left.now ≡ last.front.now ++ s.If last.e last.a last.b ∷ [] =
     last.ensures.cases.0 ∙ ap (λ (x : Stmt). last.front.now ++ x ∷ []) last.field-0-0-is in
     let low : c.first_branch.new.steps ≤ (first last.e last.a c.args.schemes.now (walked c.each.new.at (c.each.new.steps + 1))).steps =
     search rules in
-    let most = first_left c.loop-e.left.now last.front.now last.e last.a last.b split c.args.schemes.now
-    (walked c.loop-e.at c.loop-e.steps) c.loop-e.firsts
-    (body_found c.args.stmts.now c.args.schemes.now (walked c.args.at.now c.args.steps.now)) c.loop-e.invariant.1
-    (walked c.each.new.at c.each.new.steps) c.first_branch.new.steps c.in_ok-each.ensures low in
-    stops c.from_residual-in_err-ends.result (body_found c.args.stmts.now c.args.schemes.now (walked c.args.at.now c.args.steps.now))
-    (walked c.first_branch.new.at c.first_branch.new.steps) c.from_residual-in_err-ends.ensures.0 most
+    stops c.from_residual-in_err-ends.result (closed c.args.firsts.now (body_found c.args.stmts.now c.args.schemes.now (walked c.args.at.now c.args.steps.now))) (closed c.loop-e.firsts (walked c.first_branch.new.at c.first_branch.new.steps)) c.from_residual-in_err-ends.ensures.0
+    (first_left c.loop-e.left.now last.front.now last.e last.a last.b split c.args.schemes.now (walked c.loop-e.at c.loop-e.steps)
+    c.loop-e.firsts (closed c.args.firsts.now (body_found c.args.stmts.now c.args.schemes.now (walked c.args.at.now c.args.steps.now))) c.loop-e.invariant.1 (walked c.each.new.at c.each.new.steps) c.first_branch.new.steps c.in_ok-each.ensures low)
 
-pub body-returns-in_err-keep : goal.body-returns-in_err-keep
-body-returns-in_err-keep g t c =
+pub along-returns-in_err-keep : goal.along-returns-in_err-keep
+along-returns-in_err-keep g t c =
     let last = c.in-Some-If-default in
     let split : c.loop-e.left.now ≡ last.front.now ++ s.If last.e last.a last.b ∷ [] =
     last.ensures.cases.0 ∙ ap (λ (x : Stmt). last.front.now ++ x ∷ []) last.field-0-0-is in
     let two : walked c.first_branch.new.at c.first_branch.new.steps ≡ back_from last.e last.a c.args.schemes.now
     (walked c.each.new.at (c.each.new.steps + 1)) = search rules in
-    let steps = ap (λ (w : Walked). w.steps) two in
-    let low : c.first_branch.new.steps ≤ (first last.e last.a c.args.schemes.now (walked c.each.new.at (c.each.new.steps + 1))).steps =
-    omega (arith, steps) in
-    let most = first_left c.loop-e.left.now last.front.now last.e last.a last.b split c.args.schemes.now
-    (walked c.loop-e.at c.loop-e.steps) c.loop-e.firsts
-    (body_found c.args.stmts.now c.args.schemes.now (walked c.args.at.now c.args.steps.now)) c.loop-e.invariant.1
-    (walked c.each.new.at c.each.new.steps) c.first_branch.new.steps c.in_ok-each.ensures low in
-    stops c.from_residual-in_err-keep.result (body_found c.args.stmts.now c.args.schemes.now (walked c.args.at.now c.args.steps.now))
-    (walked c.first_branch.new.at c.first_branch.new.steps) c.from_residual-in_err-keep.ensures.0 most
+    stops c.from_residual-in_err-keep.result (closed c.args.firsts.now (body_found c.args.stmts.now c.args.schemes.now (walked c.args.at.now c.args.steps.now))) (closed c.keep.new.firsts (walked c.first_branch.new.at c.first_branch.new.steps)) c.from_residual-in_err-keep.ensures.0
+    (first_left c.loop-e.left.now last.front.now last.e last.a last.b split c.args.schemes.now (walked c.loop-e.at c.loop-e.steps)
+    c.loop-e.firsts (closed c.args.firsts.now (body_found c.args.stmts.now c.args.schemes.now (walked c.args.at.now c.args.steps.now))) c.loop-e.invariant.1 (walked c.each.new.at c.each.new.steps) c.first_branch.new.steps c.in_ok-each.ensures (first_back last.e last.a c.args.schemes.now (walked c.each.new.at (c.each.new.steps + 1)) (walked c.first_branch.new.at c.first_branch.new.steps) two))
 
-pub body-returns-in_err-each-2 : goal.body-returns-in_err-each-2
-body-returns-in_err-each-2 g t c =
-    let steps : (body_found c.loop-e.left.now c.args.schemes.now (walked c.loop-e.at c.loop-e.steps)).steps ≡
-    (body_found c.args.stmts.now c.args.schemes.now (walked c.args.at.now c.args.steps.now)).steps =
-    ap (λ (w : Walked). w.steps) c.loop-e.invariant.1 in
-    let most = c.in_err-each-2.ensures in
-    stops c.from_residual-in_err-each-2.result (body_found c.args.stmts.now c.args.schemes.now (walked c.args.at.now c.args.steps.now))
-    (walked c.each-2.new.at c.each-2.new.steps) c.from_residual-in_err-each-2.ensures.0 (omega (arith, steps, most))
+pub along-returns : goal.along-returns
+along-returns g t c =
+    closes c.each-2.result c.loop-e.firsts (body_found c.loop-e.left.now c.args.schemes.now (walked c.loop-e.at c.loop-e.steps)) (walked c.each-2.new.at c.each-2.new.steps) (closed c.args.firsts.now (body_found c.args.stmts.now c.args.schemes.now (walked c.args.at.now c.args.steps.now)))
+    c.loop-e.invariant.1 c.each-2.ensures
 
-pub body-returns : goal.body-returns
-body-returns g t c =
-    let last : (walked c.each-2.new.at c.each-2.new.steps) ≡ body_found c.loop-e.left.now c.args.schemes.now
-    (walked c.loop-e.at c.loop-e.steps) = c.in_ok-each-2.ensures in
-    ends_there c.stand_behind.result (behind c.loop-e.firsts c.each-2.new.at.ends) c.each-2.new.at c.stand_behind.new.at c.each-2.new.steps
-    (body_found c.args.stmts.now c.args.schemes.now (walked c.args.at.now c.args.steps.now))
-    c.stand_behind.ensures (ap (λ (w : Walked). closed c.loop-e.firsts w) last ∙ c.loop-e.invariant.1)
+pub body-returns-in-Ok : goal.body-returns-in-Ok
+body-returns-in-Ok g t c =
+    ends_there c.stand_behind.result (behind c.along.new.firsts c.along.new.at.ends) c.along.new.at c.stand_behind.new.at c.along.new.steps (body_found c.args.stmts.now c.args.schemes.now (walked c.args.at.now c.args.steps.now))
+    c.stand_behind.ensures c.in-Ok.ensures
+
+pub body-returns-in-Err : goal.body-returns-in-Err
+body-returns-in-Err g t c =
+    c.in-Err.ensures
+
+pub branches-returns-in_err-left : goal.branches-returns-in_err-left
+branches-returns-in_err-left g t c =
+    stops c.from_residual.result (either (body_found c.args.a.now) (body_found c.args.b.now) c.args.schemes.now (expr_found c.args.e.now c.args.schemes.now (walked c.args.at.now c.args.steps.now))) (walked c.first_branch.new.at c.first_branch.new.steps) c.from_residual.ensures.0
+    (either_left c.args.e.now c.args.a.now c.args.b.now c.args.schemes.now (walked c.args.at.now c.args.steps.now) c.first_branch.new.steps c.in_err-left.ensures.found)
+
+pub branches-returns-in-Ok : goal.branches-returns-in-Ok
+branches-returns-in-Ok g t c =
+    ends_there c.stand_at_both.result (join_all same_atom c.in_ok-left.left c.body.new.at.ends) c.body.new.at c.stand_at_both.new.at c.body.new.steps (either (body_found c.args.a.now) (body_found c.args.b.now) c.args.schemes.now (expr_found c.args.e.now c.args.schemes.now (walked c.args.at.now c.args.steps.now)))
+    c.stand_at_both.ensures
+    (either_joins c.args.e.now c.args.a.now c.args.b.now c.args.schemes.now (walked c.args.at.now c.args.steps.now) (walked c.first_branch.new.at c.first_branch.new.steps) (walked c.body.new.at c.body.new.steps) c.in_ok-left.left
+    c.in_ok-left.ensures.ends c.in_ok-left.ensures.found c.in-Ok.ensures)
+
+pub branches-returns-in-Err : goal.branches-returns-in-Err
+branches-returns-in-Err g t c =
+    subst (λ (w : Walked). c.body.new.steps ≤ (body_found c.args.b.now c.args.schemes.now w).steps) c.in_ok-left.ensures.found c.in-Err.ensures
+
+pub both-returns-in_err-asked : goal.both-returns-in_err-asked
+both-returns-in_err-asked g t c =
+    both_stop c.from_residual.result c.args.schemes.now (walked c.args.at.now c.args.steps.now) (walked c.args.at.now c.args.steps.now) (walked c.asked.new.at c.asked.new.steps)
+    c.args.first.now c.args.last.now c.from_residual.ensures.0 c.in_err-asked.ensures
+
+pub both-returns : goal.both-returns
+both-returns g t c =
+    behind_goes c.asked-2.result c.args.schemes.now (walked c.args.at.now c.args.steps.now) (walked c.asked.new.at c.asked.new.steps) (walked c.asked-2.new.at c.asked-2.new.steps)
+    (asked_found c.args.first.now) (asked_found c.args.last.now) c.in_ok-asked.ensures c.asked-2.ensures
 
 pub asked-returns-in-None : goal.asked-returns-in-None
 asked-returns-in-None g t c =
-    rw c.in-None.is refl
+    ap (λ (x : Option Expr). asked_found x c.args.schemes.now (walked c.args.at.now c.args.steps.now)) (sym c.in-None.is)
 
 pub asked-returns-in-Some : goal.asked-returns-in-Some
 asked-returns-in-Some g t c =
-    rw c.in-Some.is c.expr.ensures
+    let is = ap (λ (x : Option Expr). asked_found x c.args.schemes.now (walked c.args.at.now c.args.steps.now)) c.in-Some.is in
+    goes_on c.expr.result (expr_found c.in-Some.e c.args.schemes.now (walked c.args.at.now c.args.steps.now)) (asked_found c.args.e.now c.args.schemes.now (walked c.args.at.now c.args.steps.now)) (walked c.expr.new.at c.expr.new.steps) (sym is) c.expr.ensures
 
-pub stmt-returns-in-Assign : goal.stmt-returns-in-Assign
-stmt-returns-in-Assign g t c =
-    rw (c.in-Assign.is, assign_is) (rw (c.tick.ensures) at c.expr.ensures)
+pub stmt-returns-in-If : goal.stmt-returns-in-If
+stmt-returns-in-If g t c =
+    if_goes c.branches.result c.args.schemes.now c.args.at.now c.args.steps.now c.tick.new.self c.tick.ensures (walked c.branches.new.at c.branches.new.steps)
+    c.args.s.now c.in-If.e c.in-If.a c.in-If.b c.as_slice.result.now c.as_slice-in-If.result.now c.in-If.is c.as_slice.ensures c.as_slice-in-If.ensures c.branches.ensures
 
-pub stmt-returns-in-Drop : goal.stmt-returns-in-Drop
-stmt-returns-in-Drop g t c =
-    rw (c.in-Drop.is, drop_is) (rw (c.tick.ensures) at c.expr-in-Drop.ensures)
+pub stmt-returns-in_err-exprs-in-Gen : goal.stmt-returns-in_err-exprs-in-Gen
+stmt-returns-in_err-exprs-in-Gen g t c =
+    gen_stops c.from_residual.result c.args.schemes.now c.args.at.now c.args.steps.now c.tick.new.self c.tick.ensures (walked c.exprs.new.at c.exprs.new.steps)
+    c.in-Gen.args c.as_slice-in-Gen.result.now c.as_slice-in-Gen.ensures _ c.args.s.now c.in-Gen.delay c.in-Gen.to c.in-Gen.delay_first c.in-Gen.is c.from_residual.ensures.0 c.in_err-exprs-in-Gen.ensures
+
+pub stmt-returns-then-delay_first : goal.stmt-returns-then-delay_first
+stmt-returns-then-delay_first g t c =
+    gen_goes c.both.result c.args.schemes.now c.args.at.now c.args.steps.now c.tick.new.self c.tick.ensures (walked c.both.new.at c.both.new.steps)
+    c.in-Gen.args c.as_slice-in-Gen.result.now c.as_slice-in-Gen.ensures c.in-Gen.event c.args.s.now c.in-Gen.delay c.in-Gen.to c.in-Gen.delay_first true (walked c.exprs.new.at c.exprs.new.steps) c.in-Gen.is c.if-delay_first.true c.in_ok-exprs-in-Gen.ensures c.both.ensures
+
+pub stmt-returns-else-delay_first : goal.stmt-returns-else-delay_first
+stmt-returns-else-delay_first g t c =
+    gen_goes c.both-else-delay_first.result c.args.schemes.now c.args.at.now c.args.steps.now c.tick.new.self c.tick.ensures (walked c.both-else-delay_first.new.at c.both-else-delay_first.new.steps)
+    c.in-Gen.args c.as_slice-in-Gen.result.now c.as_slice-in-Gen.ensures c.in-Gen.event c.args.s.now c.in-Gen.delay c.in-Gen.to c.in-Gen.delay_first false (walked c.exprs.new.at c.exprs.new.steps) c.in-Gen.is c.if-delay_first.false c.in_ok-exprs-in-Gen.ensures c.both-else-delay_first.ensures
+
+pub stmt-returns-in_err-exprs-in-Multi : goal.stmt-returns-in_err-exprs-in-Multi
+stmt-returns-in_err-exprs-in-Multi g t c =
+    multi_stops c.from_residual-in_err-exprs-in-Multi.result c.args.schemes.now c.args.at.now c.args.steps.now c.tick.new.self c.tick.ensures (walked c.exprs-in-Multi.new.at c.exprs-in-Multi.new.steps)
+    c.in-Multi.args c.as_slice-in-Multi.result.now c.as_slice-in-Multi.ensures _ c.args.s.now c.in-Multi.delay _ c.in-Multi.is c.from_residual-in_err-exprs-in-Multi.ensures.0 c.in_err-exprs-in-Multi.ensures
+
+pub stmt-returns-in_ok-exprs-in-Multi : goal.stmt-returns-in_ok-exprs-in-Multi
+stmt-returns-in_ok-exprs-in-Multi g t c =
+    multi_goes c.asked.result c.args.schemes.now c.args.at.now c.args.steps.now c.tick.new.self c.tick.ensures (walked c.asked.new.at c.asked.new.steps)
+    c.in-Multi.args c.as_slice-in-Multi.result.now c.as_slice-in-Multi.ensures _ c.args.s.now c.in-Multi.delay _ (walked c.exprs-in-Multi.new.at c.exprs-in-Multi.new.steps) c.in-Multi.is c.in_ok-exprs-in-Multi.ensures c.asked.ensures
 
 pub stmt-returns-in-Say : goal.stmt-returns-in-Say
 stmt-returns-in-Say g t c =
-    rw (c.in-Say.is, say_is) (rw (c.as_slice-in-Say.ensures, c.tick.ensures) at c.exprs-in-Say.ensures)
+    say_goes c.exprs-in-Say.result c.args.schemes.now c.args.at.now c.args.steps.now c.tick.new.self c.tick.ensures (walked c.exprs-in-Say.new.at c.exprs-in-Say.new.steps)
+    _ c.args.s.now c.in-Say.args c.as_slice-in-Say.result.now c.in-Say.is c.as_slice-in-Say.ensures c.exprs-in-Say.ensures
 
 pub stmt-returns-in-Return : goal.stmt-returns-in-Return
 stmt-returns-in-Return g t c =
-    rw (c.in-Return.is, return_is) (rw (c.tick.ensures) at c.asked-in-Return.ensures)
+    return_goes c.asked-in-Return.result c.args.schemes.now c.args.at.now c.args.steps.now c.tick.new.self c.tick.ensures (walked c.asked-in-Return.new.at c.asked-in-Return.new.steps)
+    c.args.s.now c.in-Return.e c.in-Return.is c.asked-in-Return.ensures
 
 pub first_branch-returns-in_err-expr-clause-found : goal.first_branch-returns-in_err-expr-clause-found
 first_branch-returns-in_err-expr-clause-found g t c =
@@ -354,93 +338,21 @@ pub first_branch-returns-in_err-began-clause-ends : goal.first_branch-returns-in
 first_branch-returns-in_err-began-clause-ends g t c =
     IfOk-from_err c.from_residual-in_err-began.result _ c.from_residual-in_err-began.ensures.0
 
-pub first_branch-returns-in_err-body-clause-found : goal.first_branch-returns-in_err-body-clause-found
-first_branch-returns-in_err-body-clause-found g t c =
-    let most = rw c.in_ok-expr.ensures at c.in_err-body.ensures in
-    stops c.from_residual-in_err-body.result
-    (back_from c.args.e.now c.args.a.now c.args.schemes.now (walked c.args.at.now c.args.steps.now))
-    (walked c.body.new.at c.body.new.steps) c.from_residual-in_err-body.ensures.0 most
+pub first_branch-returns-in-Err-clause-found : goal.first_branch-returns-in-Err-clause-found
+first_branch-returns-in-Err-clause-found g t c =
+    subst (λ (w : Walked). c.body.new.steps ≤ (body_found c.args.a.now c.args.schemes.now w).steps) c.in_ok-expr.ensures c.in-Err.ensures
 
-pub first_branch-returns-in_err-body-clause-ends : goal.first_branch-returns-in_err-body-clause-ends
-first_branch-returns-in_err-body-clause-ends g t c =
-    IfOk-from_err c.from_residual-in_err-body.result _ c.from_residual-in_err-body.ensures.0
+pub expr-returns-in-Un : goal.expr-returns-in-Un
+expr-returns-in-Un g t c =
+    un_goes c.expr.result c.args.schemes.now c.args.at.now c.args.steps.now c.tick-in-Un.new.self c.tick-in-Un.ensures (walked c.expr.new.at c.expr.new.steps)
+    c.args.e.now c.in-Un.a c.get-in-Un.result.now c.in-Un.is c.get-in-Un.ensures c.expr.ensures
 
-pub stmt-returns-in_err-left-in-If : goal.stmt-returns-in_err-left-in-If
-stmt-returns-in_err-left-in-If g t c =
-    let most = rw (c.as_slice.ensures, c.tick.ensures) at c.in_err-left-in-If.ensures.found in
-    let most = branch_left c.in-If.e c.in-If.a c.in-If.b c.args.s.now c.args.schemes.now (walked c.args.at.now c.args.steps.now)
-    c.first_branch.new.steps c.in-If.is most in
-    stops c.from_residual.result (stmt_found c.args.s.now c.args.schemes.now (walked c.args.at.now c.args.steps.now))
-    (walked c.first_branch.new.at c.first_branch.new.steps) c.from_residual.ensures.0 most
+pub expr-returns-in-Bin : goal.expr-returns-in-Bin
+expr-returns-in-Bin g t c =
+    bin_goes c.two.result c.args.schemes.now c.args.at.now c.args.steps.now c.tick-in-Bin.new.self c.tick-in-Bin.ensures (walked c.two.new.at c.two.new.steps)
+    c.args.e.now c.in-Bin.a c.in-Bin.b c.get-in-Bin.result.now c.get-in-Bin-2.result.now c.in-Bin.is c.get-in-Bin.ensures c.get-in-Bin-2.ensures c.two.ensures
 
-pub stmt-returns-in_err-body-in-If : goal.stmt-returns-in_err-body-in-If
-stmt-returns-in_err-body-in-If g t c =
-    let mid = rw (c.as_slice.ensures, c.tick.ensures) at c.in_ok-left-in-If.ensures.found in
-    let low = rw (c.as_slice-in-If.ensures, mid) at c.in_err-body-in-If.ensures in
-    let most = last_left c.in-If.e c.in-If.a c.in-If.b c.args.s.now c.args.schemes.now (walked c.args.at.now c.args.steps.now)
-    c.body.new.steps c.in-If.is low in
-    stops c.from_residual-in_err-body-in-If.result (stmt_found c.args.s.now c.args.schemes.now (walked c.args.at.now c.args.steps.now))
-    (walked c.body.new.at c.body.new.steps) c.from_residual-in_err-body-in-If.ensures.0 most
-
-pub stmt-returns-in_ok-body-in-If : goal.stmt-returns-in_ok-body-in-If
-stmt-returns-in_ok-body-in-If g t c =
-    let mid = rw (c.as_slice.ensures, c.tick.ensures) at c.in_ok-left-in-If.ensures.found in
-    let left = rw (c.as_slice.ensures, c.tick.ensures) at c.in_ok-left-in-If.ensures.ends in
-    let last = rw c.as_slice-in-If.ensures at c.in_ok-body-in-If.ensures in
-    ends_there c.stand_at_both.result (join_all same_atom c.in_ok-left-in-If.left c.body.new.at.ends) c.body.new.at c.stand_at_both.new.at
-    c.body.new.steps (stmt_found c.args.s.now c.args.schemes.now (walked c.args.at.now c.args.steps.now))
-    c.stand_at_both.ensures
-    (if_joins c.in-If.e c.in-If.a c.in-If.b c.args.s.now c.args.schemes.now (walked c.args.at.now c.args.steps.now)
-    (walked c.first_branch.new.at c.first_branch.new.steps) (walked c.body.new.at c.body.new.steps) c.in_ok-left-in-If.left c.in-If.is
-    left mid last)
-
-pub stmt-returns-in_err-exprs-in-Gen : goal.stmt-returns-in_err-exprs-in-Gen
-stmt-returns-in_err-exprs-in-Gen g t c =
-    let most = rw (c.as_slice-in-Gen.ensures, c.tick.ensures) at c.in_err-exprs-in-Gen.ensures in
-    let most = sent_left _ c.in-Gen.args c.in-Gen.delay c.in-Gen.to c.args.s.now c.args.schemes.now (walked c.args.at.now c.args.steps.now)
-    c.exprs.new.steps c.in-Gen.delay_first c.in-Gen.is most in
-    stops c.from_residual-in_err-exprs-in-Gen.result (stmt_found c.args.s.now c.args.schemes.now (walked c.args.at.now c.args.steps.now))
-    (walked c.exprs.new.at c.exprs.new.steps) c.from_residual-in_err-exprs-in-Gen.ensures.0 most
-
-pub stmt-returns-in_err-asked-in-Gen : goal.stmt-returns-in_err-asked-in-Gen
-stmt-returns-in_err-asked-in-Gen g t c =
-    let sent = rw (c.as_slice-in-Gen.ensures, c.tick.ensures) at c.in_ok-exprs-in-Gen.ensures in
-    let is = rw c.if-delay_first.true at c.in-Gen.is in
-    let low = rw sent at c.in_err-asked-in-Gen.ensures in
-    let most = delay_left _ c.in-Gen.args c.in-Gen.delay c.in-Gen.to c.args.s.now c.args.schemes.now
-    (walked c.args.at.now c.args.steps.now) c.asked.new.steps is low in
-    stops c.from_residual-in_err-asked-in-Gen.result (stmt_found c.args.s.now c.args.schemes.now (walked c.args.at.now c.args.steps.now))
-    (walked c.asked.new.at c.asked.new.steps) c.from_residual-in_err-asked-in-Gen.ensures.0 most
-
-pub stmt-returns-in_ok-asked-in-Gen : goal.stmt-returns-in_ok-asked-in-Gen
-stmt-returns-in_ok-asked-in-Gen g t c =
-    let sent = rw (c.as_slice-in-Gen.ensures, c.tick.ensures) at c.in_ok-exprs-in-Gen.ensures in
-    rw (c.in-Gen.is, c.if-delay_first.true, gen_is) (rw (c.in_ok-asked-in-Gen.ensures, sent) at c.asked-then-delay_first.ensures)
-
-pub stmt-returns-in_err-asked-in-Gen-2 : goal.stmt-returns-in_err-asked-in-Gen-2
-stmt-returns-in_err-asked-in-Gen-2 g t c =
-    let sent = rw (c.as_slice-in-Gen.ensures, c.tick.ensures) at c.in_ok-exprs-in-Gen.ensures in
-    let is = rw c.if-delay_first.false at c.in-Gen.is in
-    let low = rw sent at c.in_err-asked-in-Gen-2.ensures in
-    let most = target_left _ c.in-Gen.args c.in-Gen.delay c.in-Gen.to c.args.s.now c.args.schemes.now
-    (walked c.args.at.now c.args.steps.now) c.asked-else-delay_first.new.steps is low in
-    stops c.from_residual-in_err-asked-in-Gen-2.result (stmt_found c.args.s.now c.args.schemes.now (walked c.args.at.now c.args.steps.now))
-    (walked c.asked-else-delay_first.new.at c.asked-else-delay_first.new.steps) c.from_residual-in_err-asked-in-Gen-2.ensures.0 most
-
-pub stmt-returns-in_ok-asked-in-Gen-2 : goal.stmt-returns-in_ok-asked-in-Gen-2
-stmt-returns-in_ok-asked-in-Gen-2 g t c =
-    let sent = rw (c.as_slice-in-Gen.ensures, c.tick.ensures) at c.in_ok-exprs-in-Gen.ensures in
-    rw (c.in-Gen.is, c.if-delay_first.false, gen_is) (rw (c.in_ok-asked-in-Gen-2.ensures, sent) at c.asked-else-delay_first-2.ensures)
-
-pub stmt-returns-in_err-exprs-in-Multi : goal.stmt-returns-in_err-exprs-in-Multi
-stmt-returns-in_err-exprs-in-Multi g t c =
-    let most = rw (c.as_slice-in-Multi.ensures, c.tick.ensures) at c.in_err-exprs-in-Multi.ensures in
-    let most = multi_left _ c.in-Multi.args c.in-Multi.delay _ c.args.s.now c.args.schemes.now (walked c.args.at.now c.args.steps.now)
-    c.exprs-in-Multi.new.steps c.in-Multi.is most in
-    stops c.from_residual-in_err-exprs-in-Multi.result (stmt_found c.args.s.now c.args.schemes.now (walked c.args.at.now c.args.steps.now))
-    (walked c.exprs-in-Multi.new.at c.exprs-in-Multi.new.steps) c.from_residual-in_err-exprs-in-Multi.ensures.0 most
-
-pub stmt-returns-in_ok-exprs-in-Multi : goal.stmt-returns-in_ok-exprs-in-Multi
-stmt-returns-in_ok-exprs-in-Multi g t c =
-    let sent = rw (c.as_slice-in-Multi.ensures, c.tick.ensures) at c.in_ok-exprs-in-Multi.ensures in
-    rw (c.in-Multi.is, multi_is) (rw sent at c.asked-in-Multi.ensures)
+pub stmt-returns-in-Assign : goal.stmt-returns-in-Assign
+stmt-returns-in-Assign g t c =
+    assign_goes c.expr.result c.args.schemes.now c.args.at.now c.args.steps.now c.tick.new.self c.tick.ensures (walked c.expr.new.at c.expr.new.steps)
+    c.args.s.now c.in-Assign.e c.in-Assign.is c.expr.ensures

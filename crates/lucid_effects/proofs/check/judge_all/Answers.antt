@@ -1,26 +1,27 @@
 use Rattle.std.proofs.Common.{rules, ◌≡◌, ◌++◌, ℕ, [], List, length, subst}
-use Rattle.std.proofs.lemmas.Result.{IfOk-weaker}
+use Rattle.std.proofs.lemmas.Result.{on_ok_weaker}
 use Rattle.lucid_core.specs.declared.defs.HandlerDef.{HandlerDef}
 use Rattle.lucid_effects_spec.specs.Order.{bodies, fun_bodies, handler_bodies}
 use Rattle.lucid_effects.specs.First.{IsFirst}
 use Rattle.lucid_effects_spec.specs.Schemes.{schemes_of}
 use Rattle.lucid_effects.proofs.Spent.{of_all, of_funs}
-use Rattle.lucid_effects.proofs.check.check_all.Goals as goal
+use Rattle.lucid_effects.proofs.check.judge_all.Goals as goal
 
 pub returns-clause-first : goal.returns-clause-first
 returns-clause-first g c =
     let core = c.args.core.now in
     let arrays : c.array_count-arrays.result ≡ length core.arrays = search rules in
-    let known : c.in_ok-funs.funs.schemes.items ≡ schemes_of core.funs = search rules in
-    let funs : IsFirst c.array_count-arrays.result (fun_bodies [] core.funs) c.in_ok-funs.funs.first = search rules in
+    let known : c.check_funs.new.judged.schemes.items ≡ schemes_of core.funs = search rules in
+    let funs : IsFirst c.array_count-arrays.result (fun_bodies [] core.funs) c.check_funs.new.judged.first = search rules in
     let handlers : c.handlers.result.now ≡ core.handlers = search rules in
-    IfOk-weaker c.check_handlers.result _ (λ j. IsFirst (length core.arrays) (bodies core) j.first)
-    (λ j h. subst (λ (n : ℕ). IsFirst n (bodies core) j.first) arrays
-    (subst (λ (hs : List HandlerDef). IsFirst c.array_count-arrays.result (fun_bodies [] core.funs ++ handler_bodies core.funs hs) j.first) handlers (h core.funs known (fun_bodies [] core.funs) funs)))
+    let next = c.check_handlers.new.judged.first in
+    on_ok_weaker c.check_handlers.result
+    (λ h. subst (λ (n : ℕ). IsFirst n (bodies core) next) arrays
+    (subst (λ (hs : List HandlerDef). IsFirst c.array_count-arrays.result (fun_bodies [] core.funs ++ handler_bodies core.funs hs) next) handlers (h core.funs known (fun_bodies [] core.funs) funs)))
     c.check_handlers.ensures.first
 
-pub returns-in_err-funs-clause-most : goal.returns-in_err-funs-clause-most
-returns-in_err-funs-clause-most g c =
+pub returns-in_err-check_funs-clause-most : goal.returns-in_err-check_funs-clause-most
+returns-in_err-check_funs-clause-most g c =
     let core = c.args.core.now in
     let arrays : length core.arrays ≡ c.array_count-arrays.result = search rules in
     let own : core.funs ≡ c.funs.result.now = search rules in
@@ -32,6 +33,6 @@ returns-clause-most g c =
     let arrays : length core.arrays ≡ c.array_count-arrays.result = search rules in
     let own : core.funs ≡ c.funs.result.now = search rules in
     let handlers : core.handlers ≡ c.handlers.result.now = search rules in
-    let known : c.in_ok-funs.funs.schemes.items ≡ schemes_of core.funs = search rules in
+    let known : c.check_funs.new.judged.schemes.items ≡ schemes_of core.funs = search rules in
     let second = c.check_handlers.ensures.most core c.funs.ensures.valid.sound known handlers arrays in
     of_all core c.args.steps.now c.check_funs.new.steps c.funs.result.now own c.array_count-arrays.result arrays (c.check_funs.ensures.most core c.funs.ensures.valid.sound own arrays) c.check_handlers.new.steps c.handlers.result.now handlers second
