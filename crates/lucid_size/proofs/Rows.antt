@@ -39,16 +39,14 @@ instances_begin text m body (n ∷ ns) d out out' some wrote =
     ∙ ap (λ l. out ++ l) (sym (instances_bytes text m body n ns))
 
 -- one more is written
-pub others_turn : (text : List ℕ) (m : ℕ) (body : List Step) (ns : List ℕ) (at d : ℕ) (out fed more : List ℕ) → at < length ns →
-    fed ≡ out ++ codes "\n" →
-    more ≡ fed ++ (codes "fun " ++ joined (pieces_of text m (get_or ns at d) body) []) →
+pub others_turn : (text : List ℕ) (m : ℕ) (body : List Step) (ns : List ℕ) (at d : ℕ) (out more : List ℕ) → at < length ns →
+    more ≡ out ++ (codes "\nfun " ++ joined (pieces_of text m (get_or ns at d) body) []) →
     more ++ others text m body (drop (at + 1) ns) ≡ out ++ others text m body (drop at ns)
-others_turn text m body ns at d out fed more within feeds wrote =
-    let written = codes "fun " ++ joined (pieces_of text m (get_or ns at d) body) [] in
+others_turn text m body ns at d out more within wrote =
+    let written = codes "\nfun " ++ joined (pieces_of text m (get_or ns at d) body) [] in
     let rest = others text m body (drop (at + 1) ns) in
-    ap (λ l. l ++ rest) (wrote ∙ ap (λ l. l ++ written) feeds)
-    ∙ append_assoc (out ++ codes "\n") written rest
-    ∙ append_assoc out (codes "\n") (written ++ rest)
+    ap (λ l. l ++ rest) wrote
+    ∙ append_assoc out written rest
     ∙ ap (λ l. out ++ others text m body l) (sym (drop_more ns at d within))
 
 -- without instances a line feed is written

@@ -1,15 +1,17 @@
 -- One token on, where templates are looked for.
 use Rattle.std.proofs.Common.{◌≡◌, ℕ, zero, suc, ◌+◌, ◌-◌, ◌<◌, ◌≤◌, Bool, true, List, [], ◌∷◌, ◌++◌, length, drop, get_or}
-use Rattle.std.proofs.Common.{Option, Some, None, Ok, Err, refl, sym, ◌∙◌, ap, arith, length-drop, append_assoc, if◌then◌else◌}
+use Rattle.std.proofs.Common.{Option, Some, None, Ok, Err, refl, sym, ◌∙◌, ap, subst, arith, length-drop, append_assoc, if◌then◌else◌}
 use Rattle.std.specs.Prelude.{slice_range}
 use Rattle.std.proofs.lemmas.List.{drop-drop, drop_more, take_rest}
 use Rattle.lucid_lex.specs.declared.token.Token.{Token}
+use Rattle.lucid_size.specs.declared.error.SizeError.{SizeError}
+use Rattle.lucid_size.specs.declared.error.SizeError.TheVariants as errors
 use Rattle.lucid_size.specs.declared.template.Template.{Template}
 use Rattle.lucid_size.proofs.Placed.{rest_of}
 use Rattle.lucid_size.specs.Kinds.{open_after}
 use Rattle.lucid_size.specs.Templates.{Cut, and_then, begins_template, behind, end_from, more_of, name_from, template_at}
 use Rattle.lucid_size.specs.Templates.{template_by, templates_from}
-use Rattle.lucid_size.specs.Cutting.{before_those}
+use Rattle.lucid_size.specs.Cutting.{Fails, Tells, before_those}
 
 short : (i : ℕ) (ts : List Token) → length ts ≤ 1 → name_from i ts ≡ None
 short i [] few = refl
@@ -81,3 +83,31 @@ taken ts at opened more opened' more' found found' x none_open none_more begins 
     ∙ taken_in ts (drop at ts) at found x refl one made
     ∙ ap (λ n. before_those found (templates_from at n 0 (drop at ts))) (sym none_open)
     ∙ ap (λ n. before_those found (templates_from at opened n (drop at ts))) (sym none_more)
+
+-- ---- a template that is not whole
+
+broken_in : (us : List Token) (at n : ℕ) (found : List Template) → begins_template us ≡ true → template_at at us ≡ None → n ≡ at + 1 →
+    before_those found (templates_from at 0 0 us) ≡ Err n
+broken_in [] at n found begins none is = absurd (cc)
+broken_in (t ∷ us) at n found begins none is =
+    ap (λ z. before_those found
+    (if z then and_then at (template_at at (t ∷ us)) (templates_from (at + 1) 0 (more_of at (template_at at (t ∷ us))) us)
+    else templates_from (at + 1) (open_after 0 t.kind) 0 us)) begins
+    ∙ ap (λ o. before_those found (and_then at o (templates_from (at + 1) 0 (more_of at o) us))) none
+    ∙ ap (λ k. Err k) (sym is)
+
+fails_in : (us : List Token) (at : ℕ) (found : List Template) (e : SizeError) → begins_template us ≡ true → Fails (template_at at us) at e →
+    Tells (before_those found (templates_from at 0 0 us)) e
+fails_in us at found (errors.Broken n) begins h = broken_in us at n found begins h.0 h.1
+fails_in us at found (errors.Twice name) begins h = h
+fails_in us at found errors.TooBig begins h = h
+fails_in us at found errors.Memory begins h = tt
+
+pub fails : (ts : List Token) (at opened more : ℕ) (found : List Template) (e : SizeError) → opened ≡ 0 → more ≡ 0 →
+    true ≡ begins_template (slice_range ts at (length ts)) → Fails (template_at at (drop at ts)) at e →
+    Tells (before_those found (templates_from at opened more (drop at ts))) e
+fails ts at opened more found e none_open none_more begins h =
+    let one : begins_template (drop at ts) ≡ true = ap begins_template (sym (take_rest ts at)) ∙ sym begins in
+    let here = fails_in (drop at ts) at found e one h in
+    subst (λ n. Tells (before_those found (templates_from at opened n (drop at ts))) e) (sym none_more)
+    (subst (λ n. Tells (before_those found (templates_from at n 0 (drop at ts))) e) (sym none_open) here)

@@ -1,10 +1,10 @@
 -- The whole expansion is read as the definition says.
-use Rattle.std.proofs.Common.{◌≡◌, ℕ, zero, suc, ◌+◌, ◌-◌, ◌<◌, ◌≤◌, ◌^◌, List, [], ◌∷◌, ◌++◌, length, take, drop, Some, None, refl, sym, ◌∙◌, ap, subst, arith, append_assoc}
+use Rattle.std.proofs.Common.{◌≡◌, ℕ, zero, suc, ◌+◌, ◌-◌, ◌<◌, ◌≤◌, ◌^◌, List, [], ◌∷◌, ◌++◌, length, get_or, take, drop, Some, None, refl, sym, ◌∙◌, ap, subst, arith, append_assoc}
 use Rattle.std.specs.Prelude.{slice_range, slice_get, codes, map}
 use Rattle.std.specs.List.{flat_map}
 use Rattle.std.proofs.lemmas.Grind.{flat_map-append}
 use Rattle.std.proofs.lemmas.List.{take_rest}
-use Rattle.std.proofs.lemmas.Option.{slice_get_past, slice_get_within}
+use Rattle.std.proofs.lemmas.Option.{slice_get-get_or, slice_get_past, slice_get_within}
 use Rattle.lucid_lex.specs.declared.token.Kind.TheVariants as kinds
 use Rattle.lucid_lex.specs.declared.token.Token.{Token}
 use Rattle.lucid_lex.specs.declared.word.Word.TheVariants as words
@@ -37,6 +37,12 @@ end_at-next at (suc i) (t ∷ ts) within = end_at-next t.span.end i ts (omega ar
 pub end_before-is : (i : ℕ) (ts : List Token) → i ≤ length ts → end_at 0 i ts ≡ end_before i ts
 end_before-is zero ts within = refl
 end_before-is (suc i) ts within = end_at-next 0 i ts (omega arith)
+
+pub end_behind : (ts : List Token) (i : ℕ) (d : Token) → 0 < i → i ≤ length ts → (get_or ts (i - 1) d).span.end ≡ end_before i ts
+end_behind ts zero d some within = absurd (omega arith)
+end_behind ts (suc i) d some within =
+    let e : suc i - 1 ≡ i = omega arith in
+    ap (λ k. (get_or ts k d).span.end) e ∙ sym (ap end_of (slice_get-get_or ts i d (omega arith)))
 
 led_take : (text : List ℕ) (at : ℕ) (ts : List Token) (k : ℕ) → AllLed text at ts → k ≤ length ts → LedTo text at (take k ts) (end_at at k ts)
 led_take text at ts zero led within = refl

@@ -118,28 +118,27 @@ pub(crate) fn write_instances(
     ensures { OnOk result (out.new.items ≡ out.old.items ++ joined (instances text.now underscores body.now widths.now) []) }
 {
     if widths.len() == 0 {
-        out.push(b'\n')?;
-        return Ok(());
+        return put(out, b"\n");
     }
-    write_instance(out, text, underscores, body, widths[0])?;
+    write_instance(out, text, underscores, body, b"fun ", widths[0])?;
     for at in 1..widths.len() {
-        out.push(b'\n')?;
-        write_instance(out, text, underscores, body, widths[at])?;
+        write_instance(out, text, underscores, body, b"\nfun ", widths[at])?;
     }
     Ok(())
 }
 
-/// `fun`, a blank and the body.
+/// Writes the body in the instance of a width, behind these bytes.
 fn write_instance(
     out: &mut Vec<u8>,
     text: &[u8],
     underscores: usize,
     body: &[Step],
+    begin: &[u8],
     width: u64,
 ) -> Result<(), Memory>
     requires { All (InText text.now) body.now }
-    ensures { OnOk result (out.new.items ≡ out.old.items ++ (codes "fun " ++ joined (pieces_of text.now underscores width body.now) [])) }
+    ensures { OnOk result (out.new.items ≡ out.old.items ++ (begin.now ++ joined (pieces_of text.now underscores width body.now) [])) }
 {
-    put(out, b"fun ")?;
+    put(out, begin)?;
     write_steps(out, text, underscores, width, body)
 }
