@@ -15,5 +15,6 @@ mod Passes
 mod Places
 pub mod Settles
 pub mod Sizes
+mod StageLemmas
 mod Together
 mod Zeros

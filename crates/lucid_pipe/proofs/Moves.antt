@@ -100,6 +100,10 @@ module _ (placed : PlacedParts) (cells later : List (List ℕ)) (blocks : List B
 
 -- ---- an event that enters
 
+pub block_first : (n : ℕ) (here : Slot) (slots : List Slot) → 0 < length slots → here ≡ slice_index_or slots 0 here → AllByRecursion (λ (s : Slot). s.block < n) slots → here.block < n
+block_first n here [] some e there = absurd (omega (arith, some))
+block_first n here (s ∷ slots) some e there = subst (λ (t : Slot). t.block < n) (sym e) there.0
+
 module _ (placed : PlacedParts) (cells : List (List ℕ)) (blocks : List Block) (slots : List Slot) (b : ℕ) (here : Slot) (y : Block) where
   -- the first slot is free, and its block is now y
   pub record Enters (p : Packet) : Type 0 where

@@ -39,6 +39,10 @@ pub many_blocks : (n : ℕ) (registers : List ℕ) (heads : List Head) → lengt
 many_blocks n registers [] = refl
 many_blocks n registers (h ∷ heads) = ap suc (many_blocks n (drop n registers) heads)
 
+-- A block has a head.
+pub head_there : (n : ℕ) (registers : List ℕ) (heads : List Head) (blocks : List Block) (b : ℕ) → blocks_of n registers heads ≡ blocks → b < length blocks → b < length heads
+head_there n registers heads blocks b view there = omega (arith, there, ap (λ (bs : List Block). length bs) view, many_blocks n registers heads)
+
 -- The registers of a block are there.
 pub part_there : (n : ℕ) (registers : List ℕ) (heads : List Head) (b : ℕ) → length registers ≡ length heads * n → b < length heads → b * n + n ≤ length registers
 part_there n registers [] b long l = absurd (omega (arith, l))
@@ -132,6 +136,16 @@ module _ (code : CodeParts) where
   each_has n registers [] b l long are = absurd (omega (arith, l))
   each_has n registers (h ∷ heads) b l long are = sym (length-take-le n registers (omega (arith, long, suc-mul (length heads) n))) ∙ are.0
 
+-- The part of the registers that a block of packets of the code has.
+pub part_carried : (placed : PlacedParts) (n : ℕ) (registers : List ℕ) (heads : List Head) (blocks : List Block) (b first : ℕ) (them : List ℕ) → blocks_of n registers heads ≡ blocks →
+    length registers ≡ length heads * n → AllByRecursion (IsBlock placed.code) blocks → b < length blocks → first + n ≤ length registers → them ≡ registers →
+    length (take (first + n - first) (drop first them)) ≡ length (registers_of placed.code)
+part_carried placed n registers heads blocks b first them view long are there ends is =
+    let whole : first + n - first ≡ n = omega arith in
+    let same : length them ≡ length registers = ap (λ (xs : List ℕ). length xs) is in
+    length-take-le (first + n - first) (drop first them) (omega (arith, ends, same, length-drop first them)) ∙ whole
+    ∙ each_has placed.code n registers heads b (head_there n registers heads blocks b view there) long (subst (AllByRecursion (IsBlock placed.code)) (sym view) are)
+
 -- The registers as the code writes a part of them.
 abbrev pub written : ℕ → ℕ → List ℕ → List ℕ → List ℕ
 written n first part them = take first them ++ (part ++ drop (first + n - first) (drop first them))
@@ -146,6 +160,22 @@ written_is n registers b part first them at is =
     ∙ ap (λ ys. take from registers ++ (part ++ ys)) (drop_on n from registers)
     ∙ sym (append_assoc (take from registers) part (drop (from + n) registers))
 
+-- A part of the registers is as long as a block's.
+part_own : (n : ℕ) (registers : List ℕ) (heads : List Head) (b first : ℕ) (them part : List ℕ) → first ≡ b * n → them ≡ registers → length registers ≡ length heads * n → b < length heads →
+    length part ≡ length (take (first + n - first) (drop first them)) → length part ≡ n
+part_own n registers heads b first them part at is long below own =
+    let whole : first + n - first ≡ n = omega arith in
+    let ends = part_there n registers heads b long below in
+    let same : length them ≡ length registers = ap (λ (xs : List ℕ). length xs) is in
+    own ∙ length-take-le (first + n - first) (drop first them) (omega (arith, ends, length-drop first them, same, at)) ∙ whole
+
+-- As many registers as before are written.
+pub written_long : (n : ℕ) (registers : List ℕ) (heads : List Head) (b first : ℕ) (them part : List ℕ) → first ≡ b * n → them ≡ registers → length registers ≡ length heads * n → b < length heads →
+    length part ≡ length (take (first + n - first) (drop first them)) → length (written n first part them) ≡ length registers
+written_long n registers heads b first them part at is long below own =
+    ap (λ (rs : List ℕ). length rs) (written_is n registers b part first them at is)
+    ∙ part_length n (b * n) part registers (part_own n registers heads b first them part at is long below own) (part_there n registers heads b long below)
+
 module _ (placed : PlacedParts) (n : ℕ) (registers : List ℕ) (heads : List Head) (before later : List Block) (b : ℕ) (h : Head) (part : List ℕ) (first : ℕ) (them : List ℕ) where
   -- a head and its part of the registers are written
   pub record Writes : Type 0 where
@@ -159,21 +189,16 @@ module _ (placed : PlacedParts) (n : ℕ) (registers : List ℕ) (heads : List H
     pub gives : length (written n first part them) ≡ length them → later ≡ blocks_of n (written n first part them) (slice_set heads b h)
 
   below : Writes → b < length heads
-  below w = omega (arith, w.there, ap (λ (bs : List Block). length bs) w.view, many_blocks n registers heads)
+  below w = head_there n registers heads before b w.view w.there
 
   own_is : Writes → length part ≡ n
-  own_is w =
-      let whole : first + n - first ≡ n = omega arith in
-      let ends = part_there n registers heads b w.long (below w) in
-      let same : length them ≡ length registers = ap (λ (xs : List ℕ). length xs) w.is in
-      w.own ∙ length-take-le (first + n - first) (drop first them) (omega (arith, ends, length-drop first them, same, w.at)) ∙ whole
+  own_is w = part_own n registers heads b first them part w.at w.is w.long (below w) w.own
 
   later_is : Writes → later ≡ slice_set before b (block_with h part)
   later_is w =
       let same = written_is n registers b part first them w.at w.is in
       let whole : length (written n first part them) ≡ length them
-      = ap (λ (rs : List ℕ). length rs) same ∙ part_length n (b * n) part registers (own_is w) (part_there n registers heads b w.long (below w))
-      ∙ sym (ap (λ (rs : List ℕ). length rs) w.is) in
+      = written_long n registers heads b first them part w.at w.is w.long (below w) w.own ∙ sym (ap (λ (rs : List ℕ). length rs) w.is) in
       w.gives whole ∙ ap (λ rs. blocks_of n rs (slice_set heads b h)) same ∙ block_set n registers heads b h part (own_is w) w.long (below w)
       ∙ ap (λ (bs : List Block). slice_set bs b (block_with h part)) w.view
 
@@ -213,6 +238,6 @@ pub head_told : (n : ℕ) (registers : List ℕ) (heads : List Head) (blocks : L
     b < length blocks → h ≡ slice_index_or heads b h → outs ≡ sent_by h.sent →
     option_map passed_of (slice_get blocks b) ≡ Some (record { event = h.event; now = h.tick; me = h.me; outs = outs })
 head_told n registers heads blocks b h outs view there found sent =
-    let below : b < length heads = omega (arith, there, ap (λ (bs : List Block). length bs) view, many_blocks n registers heads) in
+    let below = head_there n registers heads blocks b view there in
     ap (λ (bs : List Block). option_map passed_of (slice_get bs b)) (sym view) ∙ ap (option_map passed_of) (block_is n registers heads b h below found)
     ∙ ap (λ (os : List Out). Some (record { event = h.event; now = h.tick; me = h.me; outs = os })) (sym sent)

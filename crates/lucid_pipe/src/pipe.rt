@@ -51,10 +51,10 @@ impl<'a> Pipe<'a> {
     pub fn new(alloc: Global, placed: &'a Placed) -> Result<Pipe<'a>, Memory>
         ensures { IfOk result (λ pipe. pipe ≡ empty_pipe placed.now) }
     {
-        let cells = Cells::zeros(alloc, placed.code().arrays())?;
         let count = placed.stages().len();
-        let blocks = Blocks::new(alloc, placed, count)?;
         let slots = free_slots(alloc, count)?;
+        let cells = Cells::zeros(alloc, placed.code().arrays())?;
+        let blocks = Blocks::new(alloc, placed, count)?;
         Ok(Pipe {
             placed,
             cells,
@@ -66,7 +66,6 @@ impl<'a> Pipe<'a> {
     /// Makes a packet of an event, in slot 0, before stage 0, at the tick `now` and the switch `me`. The event has at most as many
     /// arguments as the code has fields for them, and each fits its field. Returns Busy exactly if slot 0 is taken. Then the pipe is
     /// unchanged, and the event is returned. It takes no memory.
-    #[tactic(auto, using(crate::proofs::Moves::pipe_long))]
     pub fn enter(&mut self, event: Event, now: u64, me: u32) -> Result<(), Busy>
         requires { IsInput self.old.placed.code me event }
         ensures busy { IsErr result ↔ IsSome (packet_at self.old 0) }
@@ -97,7 +96,6 @@ impl<'a> Pipe<'a> {
     /// taken. After both the pipe is unchanged. Allocates nothing and copies no field. It is inlined, since its result is large and a
     /// caller that matches it in place then pays for no copy.
     #[inline(always)]
-    #[tactic(auto, using(crate::proofs::Moves::pipe_long))]
     pub fn go(&mut self, k: usize) -> Result<Option<Passed>, Stuck>
         ensures empty { (result ≡ Err stuck.Empty) ↔ (packet_at self.old k ≡ None) }
         ensures ahead { (result ≡ Err stuck.Ahead) ↔ (IsSome (packet_at self.old k) × IsSome (packet_at self.old (k + 1))) }
@@ -123,7 +121,6 @@ impl<'a> Pipe<'a> {
 
     /// Like `go`, but writes a leaving packet to the caller's variable, which becomes None if nothing leaves. So a caller that passes it on
     /// by reference moves it once. After an error the variable is unchanged.
-    #[tactic(auto, using(crate::proofs::Moves::pipe_long))]
     pub fn go_into(&mut self, k: usize, out: &mut Option<Passed>) -> Result<(), Stuck>
         ensures empty { (result ≡ Err stuck.Empty) ↔ (packet_at self.old k ≡ None) }
         ensures ahead { (result ≡ Err stuck.Ahead) ↔ (IsSome (packet_at self.old k) × IsSome (packet_at self.old (k + 1))) }
@@ -154,7 +151,6 @@ impl<'a> Pipe<'a> {
     }
 
     /// Like `go` for a slot that isn't the last, so nothing leaves. A caller that moves many packets then needs no space for one that left.
-    #[tactic(auto, using(crate::proofs::Moves::pipe_long))]
     pub fn go_within(&mut self, k: usize) -> Result<(), Stuck>
         requires { k + 1 < length self.old.slots }
         ensures empty { (result ≡ Err stuck.Empty) ↔ (packet_at self.old k ≡ None) }
@@ -220,11 +216,18 @@ impl<'a> Pipe<'a> {
     pub(crate) fn sight(&self, alloc: Global, switch: u32) -> Result<Sight, Memory>
         ensures { IfOk result (λ sight. sight ≡ sight_of switch self.now) }
     {
-        Ok(Sight {
-            switch,
-            places: places(alloc, self.slots.as_slice())?,
-            cells: self.cells.rows(alloc)?,
-        })
+        let cells = self.cells.rows(alloc)?;
+        match places(alloc, self.slots.as_slice()) {
+            Ok(places) => Ok(Sight {
+                switch,
+                places,
+                cells,
+            }),
+            Err(memory) => {
+                drop(cells);
+                Err(memory)
+            }
+        }
     }
 
     /// The places of the packets, the oldest first, fall strictly and are those of the taken slots. There are as many arrays as are
@@ -241,7 +244,6 @@ impl<'a> Pipe<'a> {
 
     /// Laws of each pipe, for a caller that has a pipe and not its placed code: the laws of its moves; that its stages are placed, keep
     /// to their arrays and have the effect of the code; and the relation of its cells to the stages. It does nothing.
-    #[tactic(auto, using(crate::proofs::Moves::pipe_long))]
     pub fn keeps_laws(&self)
         ensures keep { MovesKeep self.now.placed }
         ensures rows { MovesAsRows self.now.placed }

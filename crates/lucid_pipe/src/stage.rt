@@ -118,7 +118,6 @@ fn run_ops(placed: &Placed, ops: &[u32], registers: &mut [u64], cells: &mut Cell
 }
 
 /// The operation of this number.
-#[tactic(auto, using(crate::proofs::Carried::can_act_at, crate::proofs::Carried::runs_at, crate::proofs::Carried::runs_past, crate::proofs::Carried::width_each))]
 fn run_op(placed: &Placed, number: u32, registers: &mut [u64], cells: &mut Cells, sent: &mut Sent)
     requires long { length registers.old ≡ length (registers_of placed.now.code) }
     ensures machine { on_registers registers.new cells.new sent.new
