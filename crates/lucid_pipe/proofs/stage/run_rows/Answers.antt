@@ -1,10 +1,11 @@
 use Rattle.std.proofs.Common.{◌≡◌, ◌∙◌, [], ap, sym}
 use Rattle.std.specs.List.{fold}
+use Rattle.std.proofs.lemmas.List.{at_drop_all}
 use Rattle.lucid_code.specs.Guards.{all_hold}
 use Rattle.lucid_tables.specs.Rows.{acts}
 use Rattle.lucid_pipe.specs.Blocks.{on_registers}
 use Rattle.lucid_pipe.specs.InPlace.{run_number}
-use Rattle.lucid_pipe.proofs.StageLemmas.{acts_here, acts_next, acts_end}
+use Rattle.lucid_pipe.proofs.StageLemmas.{acts_here, acts_next}
 use Rattle.lucid_pipe.proofs.stage.run_rows.Goals as goal
 
 pub returns-then-all_hold-clause-machine : goal.returns-then-all_hold-clause-machine
@@ -26,6 +27,6 @@ pub returns-clause-machine : goal.returns-clause-machine
 returns-clause-machine c =
     let same = c.loop-row.invariant in
     let m = on_registers c.loop-row.registers c.loop-row.cells c.loop-row.sent in
-    let none : acts c.loop-row.registers c.args.rows.now ≡ [] = sym same.3 ∙ acts_end c.loop-row.registers c.args.rows.now c.loop-row.row-index c.loop-row-test.false in
+    let none : acts c.loop-row.registers c.args.rows.now ≡ [] = sym same.3 ∙ at_drop_all (acts c.loop-row.registers) c.args.rows.now c.loop-row.row-index c.loop-row-test.false in
     let done = sym (ap (fold (run_number c.args.placed.now.code) m) none) in
     rw (← same.0, ← same.1, ← same.2) done
