@@ -1,11 +1,9 @@
 // The windows in which a link is down.
-ghost use Rattle.std.specs.Prelude.{◌≡◌, ◌<◌, ◌≤◌, [], length, IfOk, IfSome};
-ghost use Rattle.std.specs.List.{All};
+ghost use Rattle.std.specs.Prelude.{◌≡◌, []};
 ghost use Rattle.serde_json.specs.View.{items_view, view};
 ghost use Rattle.lucid_conf.specs.declared.key.Key.TheVariants as key;
 ghost use Rattle.lucid_conf.specs.Answers.{Gives};
-ghost use Rattle.lucid_conf.specs.Items.{most_windows, window as window_read};
-ghost use Rattle.lucid_conf.specs.Kept.{IsWindow};
+ghost use Rattle.lucid_conf.specs.Items.{window as window_read};
 ghost use Rattle.lucid_conf.specs.Reading.{each};
 ghost use Rattle.lucid_conf.specs.Tables.{down_read};
 
@@ -20,26 +18,26 @@ use std::alloc::Global;
 const MOST_WINDOWS: usize = 1_024;
 
 fn window(links: &[Link], before: &[Down], item: &Value) -> Option<Down>
-    ensures value { result ≡ window_read links.now before.now (view item.now) }
-    ensures is { IfSome result (IsWindow links.now) }
-    ensures few { IfSome result (λ _. length before.now < most_windows) }
+    ensures { result ≡ window_read links.now before.now (view item.now) }
 {
-    let a = number_at(item, 0)?;
-    let b = number_at(item, 1)?;
-    let from = number_at(item, 2)?;
-    let until = number_at(item, 3)?;
-    if at(item, 4).is_some() || !are_linked(links, a, b) {
-        return None;
+    match (
+        number_at(item, 0),
+        number_at(item, 1),
+        number_at(item, 2),
+        number_at(item, 3),
+        at(item, 4),
+    ) {
+        (Some(a), Some(b), Some(from), Some(until), None)
+            if are_linked(links, a, b) && from < until && before.len() < MOST_WINDOWS => {
+            Some(Down {
+                a: a as u32,
+                b: b as u32,
+                from,
+                until,
+            })
+        }
+        _ => None,
     }
-    if from >= until || before.len() >= MOST_WINDOWS {
-        return None;
-    }
-    Some(Down {
-        a: a as u32,
-        b: b as u32,
-        from,
-        until,
-    })
 }
 
 /// The windows that the file has; in version 1 the key must be absent.
@@ -49,9 +47,7 @@ pub(crate) fn down(
     version: u64,
     links: &[Link],
 ) -> Result<Items<Down>, ConfError>
-    ensures value { Gives result (down_read version links.now (view value.now)) }
-    ensures each { IfOk result (All (IsWindow links.now)) }
-    ensures few { IfOk result (λ windows. length windows ≤ most_windows) }
+    ensures { Gives result (down_read version links.now (view value.now)) }
 {
     if version != 2 && get(value, Key::Down.name()).is_some() {
         return bad(Key::Down);
@@ -60,9 +56,7 @@ pub(crate) fn down(
 }
 
 fn each_window(alloc: Global, links: &[Link], values: &[Value]) -> Result<Items<Down>, ConfError>
-    ensures value { Gives result (each key.Down (window_read links.now) [] (items_view values.now)) }
-    ensures each { IfOk result (All (IsWindow links.now)) }
-    ensures few { IfOk result (λ windows. length windows ≤ most_windows) }
+    ensures { Gives result (each key.Down (window_read links.now) [] (items_view values.now)) }
 {
     let mut down = Items::new(alloc);
     for value in values {

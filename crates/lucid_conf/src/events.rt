@@ -1,13 +1,11 @@
 // The events of a scenario.
-ghost use Rattle.std.specs.Prelude.{◌≡◌, [], IfOk, IfSome};
-ghost use Rattle.std.specs.List.{All};
+ghost use Rattle.std.specs.Prelude.{◌≡◌, []};
 ghost use Rattle.serde_json.specs.Find.{get as get_of};
 ghost use Rattle.serde_json.specs.View.{view, items_view, members_view};
 ghost use Rattle.lucid_conf.specs.declared.key.Key.TheVariants as key;
 ghost use Rattle.lucid_conf.specs.Answers.{Gives};
 ghost use Rattle.lucid_conf.specs.Items.{is_event_key as is_key, are_event_keys as are_keys, event as event_read};
 ghost use Rattle.lucid_conf.specs.Keys.{name_of};
-ghost use Rattle.lucid_conf.specs.Kept.{IsFileEvent};
 ghost use Rattle.lucid_conf.specs.Named.{NumbersLast, event_names};
 ghost use Rattle.lucid_conf.specs.Reading.{each, list};
 
@@ -23,7 +21,7 @@ use std::alloc::Global;
 fn is_event_key(key: &str) -> bool
     ensures { result ≡ is_key key.now }
 {
-    key == "at" || key == "switch" || key == "name" || key == "args"
+    matches!(key, "at" | "switch" | "name" | "args")
 }
 
 fn are_event_keys(members: &Map<String, Value>) -> bool
@@ -39,28 +37,32 @@ fn are_event_keys(members: &Map<String, Value>) -> bool
 
 fn event(core: &Core, names: &Names, switches: u32, item: &Value) -> Option<FileEvent>
     requires { NumbersLast names.now (event_names core.now.events) }
-    ensures value { result ≡ event_read core.now switches [] (view item.now) }
-    ensures is { IfSome result (IsFileEvent core.now switches) }
+    ensures { result ≡ event_read core.now switches [] (view item.now) }
 {
     if !are_event_keys(members_in(item)?) {
         return None;
     }
-    let at = number_of(item, "at")?;
-    let switch = number_of(item, "switch")?;
-    if switch >= switches as u64 {
-        return None;
+    match (
+        number_of(item, "at"),
+        number_of(item, "switch"),
+        text_of(item, "name"),
+        get(item, "args"),
+    ) {
+        (Some(at), Some(switch), Some(name), Some(args)) if switch < switches as u64 => {
+            let id = number_named(names, name)?;
+            let args = args_of(args)?;
+            let event = Event { id, args };
+            if !core.fits(&event) {
+                return None;
+            }
+            Some(FileEvent {
+                at,
+                switch: switch as u32,
+                event,
+            })
+        }
+        _ => None,
     }
-    let id = number_named(names, text_of(item, "name")?)?;
-    let args = args_of(get(item, "args")?)?;
-    let event = Event { id, args };
-    if !core.fits(&event) {
-        return None;
-    }
-    Some(FileEvent {
-        at,
-        switch: switch as u32,
-        event,
-    })
 }
 
 /// The events that the file has, which are moved out of its value. The steps stay.
@@ -71,7 +73,6 @@ pub(crate) fn events(
     switches: u32,
 ) -> Result<Items<FileEvent>, ConfError>
     ensures value { Gives result (list (view value.old) key.Events (event_read core.now switches)) }
-    ensures each { IfOk result (All (IsFileEvent core.now switches)) }
     ensures steps { get_of (name_of key.Steps) (view value.new) ≡ get_of (name_of key.Steps) (view value.old) }
 {
     let values = take_items(alloc, value, Key::Events)?;
@@ -88,12 +89,13 @@ fn each_event(
     values: Vec<Value>,
 ) -> Result<Items<FileEvent>, ConfError>
     requires { NumbersLast names.now (event_names core.now.events) }
-    ensures value { Gives result (each key.Events (event_read core.now switches) [] (items_view values.items)) }
-    ensures each { IfOk result (All (IsFileEvent core.now switches)) }
+    ensures { Gives result (each key.Events (event_read core.now switches) [] (items_view values.items)) }
 {
     let mut events = Items::new(alloc);
     for value in values {
-        match event(core, names, switches, &value) {
+        let read = event(core, names, switches, &value);
+        drop(value);
+        match read {
             None => return bad_at(Key::Events, events.len()),
             Some(event) => events.push(event)?,
         }

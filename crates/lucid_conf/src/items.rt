@@ -14,28 +14,40 @@ const MOST_ARGS: usize = 8;
 pub(crate) fn number_at(value: &Value, place: usize) -> Option<u64>
     ensures { result ≡ number_at_place place (view value.now) }
 {
-    number_in(at(value, place)?)
+    match at(value, place) {
+        None => None,
+        Some(found) => number_in(found),
+    }
 }
 
 /// The number under a key of an object.
 pub(crate) fn number_of(value: &Value, key: &str) -> Option<u64>
     ensures { result ≡ number_under key.now (view value.now) }
 {
-    number_in(get(value, key)?)
+    match get(value, key) {
+        None => None,
+        Some(found) => number_in(found),
+    }
 }
 
 /// The text at a place of a list.
 pub(crate) fn text_at(value: &Value, place: usize) -> Option<&str>
     ensures { option_map (λ s. s.now) result ≡ text_at_place place (view value.now) }
 {
-    text_in(at(value, place)?)
+    match at(value, place) {
+        None => None,
+        Some(found) => text_in(found),
+    }
 }
 
 /// The text under a key of an object.
 pub(crate) fn text_of<'v>(value: &'v Value, key: &str) -> Option<&'v str>
     ensures { option_map (λ s. s.now) result ≡ text_under key.now (view value.now) }
 {
-    text_in(get(value, key)?)
+    match get(value, key) {
+        None => None,
+        Some(found) => text_in(found),
+    }
 }
 
 /// The numbers of a list of at most 8 numbers.
@@ -44,11 +56,10 @@ pub(crate) fn args_of(value: &Value) -> Option<Args>
 {
     let mut args = Args::new();
     for item in items_in(value)? {
-        let n = number_in(item)?;
-        if args.as_slice().len() == MOST_ARGS {
-            return None;
+        match number_in(item) {
+            Some(n) if args.as_slice().len() < MOST_ARGS => args.push(n),
+            _ => return None,
         }
-        args.push(n);
     }
     Some(args)
 }

@@ -46,12 +46,13 @@ pub fn limits_of(alloc: Global, bytes: &[u8]) -> Result<Limits, ConfError>
     ensures ranges { IfOk result AreLimits }
 {
     let value = value_of(alloc, bytes)?;
-    read_limits(&value)
+    let read = read_limits(&value);
+    drop(value);
+    read
 }
 
 fn read_limits(value: &Value) -> Result<Limits, ConfError>
-    ensures value { Gives result (limits_read (view value.now)) }
-    ensures ranges { IfOk result AreLimits }
+    ensures { Gives result (limits_read (view value.now)) }
 {
     file(value, &KEYS)?;
     let stages = number(value, Key::Stages, 1, 32, 12)? as u32;

@@ -1,11 +1,9 @@
 // The links of a scenario.
-ghost use Rattle.std.specs.Prelude.{◌≡◌, ◌<◌, ◌^◌, IsTrue, [], false, IfOk, IfSome};
-ghost use Rattle.std.specs.List.{All, AllPairs};
+ghost use Rattle.std.specs.Prelude.{◌≡◌, ◌<◌, ◌^◌, IsTrue, []};
 ghost use Rattle.serde_json.specs.View.{view, items_view};
 ghost use Rattle.lucid_conf.specs.declared.key.Key.TheVariants as key;
 ghost use Rattle.lucid_conf.specs.Answers.{Gives};
 ghost use Rattle.lucid_conf.specs.Items.{are_linked as are_joined, link as link_read};
-ghost use Rattle.lucid_conf.specs.Kept.{IsLink, AreApart};
 ghost use Rattle.lucid_conf.specs.Reading.{each, list};
 
 use crate::items::number_at;
@@ -32,45 +30,37 @@ pub(crate) fn are_linked(links: &[Link], a: u64, b: u64) -> bool
 }
 
 fn link(switches: u32, before: &[Link], item: &Value) -> Option<Link>
-    ensures value { result ≡ link_read switches before.now (view item.now) }
-    ensures is { IfSome result (IsLink switches) }
-    ensures apart { IfSome result (λ l. are_joined before.now l.a l.b ≡ false) }
+    ensures { result ≡ link_read switches before.now (view item.now) }
 {
-    let a = number_at(item, 0)?;
-    let b = number_at(item, 1)?;
-    let latency = number_at(item, 2)?;
-    if at(item, 3).is_some() {
-        return None;
+    match (
+        number_at(item, 0),
+        number_at(item, 1),
+        number_at(item, 2),
+        at(item, 3),
+    ) {
+        (Some(a), Some(b), Some(latency), None)
+            if (a < switches as u64 && b < switches as u64 && a != b)
+                && (1 <= latency && latency <= MOST_LATENCY)
+                && !are_linked(before, a, b) => {
+            Some(Link {
+                a: a as u32,
+                b: b as u32,
+                latency,
+            })
+        }
+        _ => None,
     }
-    if !(a < switches as u64 && b < switches as u64 && a != b) {
-        return None;
-    }
-    if !(1 <= latency && latency <= MOST_LATENCY) {
-        return None;
-    }
-    if are_linked(before, a, b) {
-        return None;
-    }
-    Some(Link {
-        a: a as u32,
-        b: b as u32,
-        latency,
-    })
 }
 
 /// The links that the file has.
 pub(crate) fn links(alloc: Global, value: &Value, switches: u32) -> Result<Items<Link>, ConfError>
-    ensures value { Gives result (list (view value.now) key.Links (link_read switches)) }
-    ensures each { IfOk result (All (IsLink switches)) }
-    ensures apart { IfOk result (AllPairs AreApart) }
+    ensures { Gives result (list (view value.now) key.Links (link_read switches)) }
 {
     each_link(alloc, switches, items(value, Key::Links)?)
 }
 
 fn each_link(alloc: Global, switches: u32, values: &[Value]) -> Result<Items<Link>, ConfError>
-    ensures value { Gives result (each key.Links (link_read switches) [] (items_view values.now)) }
-    ensures each { IfOk result (All (IsLink switches)) }
-    ensures apart { IfOk result (AllPairs AreApart) }
+    ensures { Gives result (each key.Links (link_read switches) [] (items_view values.now)) }
 {
     let mut links = Items::new(alloc);
     for value in values {

@@ -39,9 +39,9 @@ fn seeded_by_arrays(arrays: &[ArrayDef]) -> Seeded
 fn put(alloc: Global, names: &mut Names, id: &Id, number: usize) -> Result<(), Memory>
     ensures { OnOk result ((n : List ℕ) → get_by_text names.new n ≡ (if bytes_eq n id.now then Some number else get_by_text names.old n)) }
 {
-    let name = String::from_str(alloc, id.as_str())?;
     match u32::try_from(number) {
         Ok(number) => {
+            let name = String::from_str(alloc, id.as_str())?;
             names.insert(name, number)?;
             Ok(())
         }

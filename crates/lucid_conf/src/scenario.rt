@@ -1,10 +1,9 @@
 // The scenario file. Each line of `read_scene` is a line of the table.
-ghost use Rattle.std.specs.Prelude.{◌≡◌, ◌≤◌, ◌*◌, ◌^◌, IfOk};
+ghost use Rattle.std.specs.Prelude.{◌≡◌, ◌≤◌, ◌*◌, IfOk};
 ghost use Rattle.serde_json.specs.View.{view};
 ghost use Rattle.lucid_conf.specs.Answers.{Answers, Gives};
 ghost use Rattle.lucid_conf.specs.Kept.{IsScene};
-ghost use Rattle.lucid_conf.specs.Reading.{IsBetween};
-ghost use Rattle.lucid_conf.specs.Tables.{scene_read, switches_read, stop_read, cells as cells_in, most_cells, most_ticks};
+ghost use Rattle.lucid_conf.specs.Tables.{scene_read, switches_read, stop_read, cells as cells_in};
 
 use crate::down::down;
 use crate::events::events;
@@ -38,7 +37,9 @@ pub fn scene_of(alloc: Global, bytes: &[u8], core: &Core) -> Result<Scene, ConfE
     ensures keeps { IfOk result (IsScene core.now) }
 {
     let mut value = value_of(alloc, bytes)?;
-    read_scene(alloc, &mut value, core)
+    let read = read_scene(alloc, &mut value, core);
+    drop(value);
+    read
 }
 
 /// The cells of all arrays. A core has at most 64 arrays, of sizes below 2^32.
@@ -54,9 +55,7 @@ fn cells(core: &Core) -> u64
 }
 
 fn switches(value: &Value, core: &Core) -> Result<u32, ConfError>
-    ensures value { Gives result (switches_read core.now (view value.now)) }
-    ensures within { IfOk result (IsBetween 1 64) }
-    ensures few { IfOk result (λ switches. cells_in core.now.arrays * switches ≤ most_cells) }
+    ensures { Gives result (switches_read core.now (view value.now)) }
 {
     let switches = number(value, Key::Switches, 1, 64, 1)?;
     if cells(core) * switches > MOST_CELLS {
@@ -66,9 +65,7 @@ fn switches(value: &Value, core: &Core) -> Result<u32, ConfError>
 }
 
 fn stop(value: &Value, switches: u32) -> Result<u64, ConfError>
-    requires { 1 ≤ switches }
-    ensures value { Gives result (stop_read switches (view value.now)) }
-    ensures few { IfOk result (λ stop. stop * switches ≤ most_ticks) }
+    ensures { Gives result (stop_read switches (view value.now)) }
 {
     let stop = required(value, Key::Stop)?;
     match stop.checked_mul(switches as u64) {
@@ -79,8 +76,7 @@ fn stop(value: &Value, switches: u32) -> Result<u64, ConfError>
 
 // Moves the events and the steps out of the value.
 fn read_scene(alloc: Global, value: &mut Value, core: &Core) -> Result<Scene, ConfError>
-    ensures value { Gives result (scene_read core.now (view value.old)) }
-    ensures keeps { IfOk result (IsScene core.now) }
+    ensures { Gives result (scene_read core.now (view value.old)) }
 {
     file(value, &KEYS)?;
     let version = number(value, Key::Version, 1, 2, 1)?;

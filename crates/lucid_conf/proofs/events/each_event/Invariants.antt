@@ -1,16 +1,13 @@
 use Rattle.std.proofs.Common.{◌≡◌, [], length}
-use Rattle.std.specs.List.{All}
 use Rattle.std.specs.Vec.Iter.{into_iter_items, into_iter_len}
 use Rattle.serde_json.specs.View.{items_view}
 use Rattle.lucid_conf.specs.declared.key.Key.TheVariants.{Events}
 use Rattle.lucid_conf.specs.Items.{event}
 use Rattle.lucid_conf.specs.Reading.{each}
-use Rattle.lucid_conf.specs.Kept.{IsFileEvent}
 use Rattle.lucid_conf.proofs.events.each_event.Given as goal
 
 abbrev pub invariant-loop-value : goal.invariant-loop-value
 invariant-loop-value l =
     let read = each Events (event l.core l.switches) in
     (read l.events (items_view (into_iter_items l.value-iterator)) ≡ read [] (items_view (into_iter_items l.initial.value-iterator)))
-    × All (IsFileEvent l.core l.switches) l.events
     × (into_iter_len l.value-iterator ≡ length (into_iter_items l.value-iterator))
