@@ -170,7 +170,13 @@ fn write_between(
 {
     tokens_stand(text, tokens);
     let mut steps = Items::new(alloc);
-    add_steps(alloc, &mut steps, names, None, text, tokens, first, end)?;
+    match add_steps(alloc, &mut steps, names, None, text, tokens, first, end) {
+        Ok(()) => {}
+        Err(error) => {
+            drop(steps);
+            return Err(error);
+        }
+    }
     steps_stand(text, tokens, names, first, end, steps.as_slice());
     let written = write_steps(out, text, underscores, 0, steps.as_slice());
     drop(steps);

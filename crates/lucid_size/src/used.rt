@@ -39,12 +39,14 @@ impl Used {
         ensures added { OnOk result (self.new.found.items ≡ with_one self.old.found.items instance) }
     {
         match self.seen.insert(instance) {
-            Err(_) => Err(Memory),
-            Ok(new) => {
-                if new {
-                    self.found.push(instance)?;
-                }
+            Ok(true) => {
+                self.found.push(instance)?;
                 Ok(())
+            }
+            Ok(false) => Ok(()),
+            Err(failed) => {
+                drop(failed);
+                Err(Memory)
             }
         }
     }
