@@ -17,11 +17,7 @@ pub fn constant(alloc: Global, known: &mut Known, t: Ty, n: &Id, value: u64) -> 
     ensures { Declares result known.new (constant t n.now value (made_of known.old)) }
 {
     match int_of(t) {
-        None => Err(Fault::NoRule),
-        Some(width) => {
-            if !width.fits(value) {
-                return Err(Fault::NoRule);
-            }
+        Some(width) if width.fits(value) => {
             enter(
                 alloc,
                 &mut known.scope,
@@ -30,6 +26,7 @@ pub fn constant(alloc: Global, known: &mut Known, t: Ty, n: &Id, value: u64) -> 
             )?;
             Ok(())
         }
+        _ => Err(Fault::NoRule),
     }
 }
 

@@ -26,8 +26,8 @@ use std::mem;
 pub fn event(alloc: Global, known: &mut Known, n: &Id, ps: &[P]) -> Result<(), Fault>
     ensures { Declares result known.new (event n.now ps.now (made_of known.old)) }
 {
-    let params = event_params(alloc, &mut known.scope, ps)?;
     let event = number(known.events.len())?;
+    let params = event_params(alloc, &mut known.scope, ps)?;
     let widths = Items::from_slice(alloc, params.as_slice())?;
     enter(alloc, &mut known.scope, n, Entry::Event(event, widths))?;
     known.events.push(EventDef {
@@ -46,8 +46,9 @@ fn event_params(alloc: Global, scope: &mut Scope, ps: &[P]) -> Result<Items<Widt
     let mark = scope.len();
     let params = parameters(alloc, scope, ps)?;
     scope.leave(mark);
-    let widths = int_params(alloc, params.as_slice())?;
-    Ok(widths)
+    let widths = int_params(alloc, params.as_slice());
+    drop(params);
+    widths
 }
 
 /// NoRule if no event of the name is seen, it has a handler, or the parameters have other widths than its own.
@@ -63,8 +64,10 @@ pub fn handle(
 ) -> Result<(), Fault>
     ensures { Declares result known.new (handle number line n.now ps.now body.now (made_of known.old)) }
 {
-    let (event, widths) = event_of(alloc, &known.scope, n)?;
-    handle_event(alloc, known, number, line, event, widths, ps, body)
+    match event_of(alloc, &known.scope, n) {
+        Ok((event, widths)) => { handle_event(alloc, known, number, line, event, widths, ps, body) }
+        Err(fault) => Err(fault),
+    }
 }
 
 /// The number of the event of the name, and its widths.
@@ -99,9 +102,13 @@ fn handle_event(
             if def.handler.is_some() {
                 return Err(Fault::NoRule);
             }
-            let Body { steps, ending: _ } = handler_body(alloc, known, widths, ps, body)?;
-            add_handler(alloc, known, event, decl, line, steps)?;
-            Ok(())
+            match handler_body(alloc, known, widths, ps, body) {
+                Ok(body) => match add_handler(alloc, known, event, decl, line, body.steps) {
+                    Ok(()) => Ok(()),
+                    Err(_) => Err(Fault::Memory),
+                },
+                Err(fault) => Err(fault),
+            }
         }
     }
 }
@@ -118,15 +125,20 @@ fn handler_body(
 {
     let mark = known.scope.len();
     let params = parameters(alloc, &mut known.scope, ps)?;
-    let own = int_params(alloc, params.as_slice())?;
-    if !same(own.as_slice(), widths.as_slice()) {
+    let own = int_params(alloc, params.as_slice());
+    drop(params);
+    if !same(own?.as_slice(), widths.as_slice()) {
         return Err(Fault::NoRule);
     }
     known.numbering.locals = widths;
     let answer = None;
-    let body = block(alloc, &answer, &mut known.scope, &mut known.numbering, body)?;
-    known.scope.leave(mark);
-    Ok(body)
+    match block(alloc, &answer, &mut known.scope, &mut known.numbering, body) {
+        Ok(body) => {
+            known.scope.leave(mark);
+            Ok(body)
+        }
+        Err(fault) => Err(fault),
+    }
 }
 
 fn same(own: &[Width], widths: &[Width]) -> bool

@@ -1,6 +1,7 @@
 // Functions.
 ghost use Rattle.std.specs.Prelude.{◌≡◌, OnOk};
-ghost use Rattle.lucid_types_spec.specs.Types.{answer_width};
+ghost use Rattle.lucid_core.specs.declared.defs.FunDef.{FunDef as Def};
+ghost use Rattle.lucid_types_spec.specs.Types.{answer_width, cell_widths};
 ghost use Rattle.lucid_types_laws.specs.Declaration.{answer_of, ends_well, fun};
 ghost use Rattle.lucid_types_expressions.specs.Gives.{Gives};
 ghost use Rattle.lucid_types_declarations.specs.Functions.{with_fun};
@@ -10,11 +11,11 @@ use crate::Known;
 use crate::known::enter;
 use crate::parameters::{cell_widths, parameters, value_widths};
 use lucid_base::{Id, Items, Memory, Width};
-use lucid_core::{Ending, FunDef};
+use lucid_core::{Ending, FunDef, Stmt};
 use lucid_parse_tree::{P, S, Ty};
 use lucid_types_expressions::Fault;
 use lucid_types_scope::number;
-use lucid_types_spec::{Body, Entry, Param, ValueType};
+use lucid_types_spec::{Entry, Param, ValueType};
 use lucid_types_statements::{block, type_of, width_of};
 use std::alloc::Global;
 use std::mem;
@@ -38,29 +39,24 @@ pub fn fun(
     let locals = value_widths(alloc, params.as_slice())?;
     let values = number(locals.len())?;
     known.numbering.locals = locals;
-    let Body { steps, ending } = block(
-        alloc,
-        &answer,
-        &mut known.scope,
-        &mut known.numbering,
-        body,
-    )?;
-    known.scope.leave(mark);
-    if !ends_well(&answer, ending) {
-        return Err(Fault::NoRule);
+    match block(alloc, &answer, &mut known.scope, &mut known.numbering, body) {
+        Ok(body) => {
+            known.scope.leave(mark);
+            if !ends_well(&answer, body.ending) {
+                drop(body);
+                drop(params);
+                return Err(Fault::NoRule);
+            }
+            add_fun(
+                alloc, known, n, params, values, answer, body.steps, decl, line,
+            )?;
+            Ok(())
+        }
+        Err(fault) => {
+            drop(params);
+            Err(fault)
+        }
     }
-    let def = FunDef {
-        name: n.copy(alloc)?,
-        arrays: cell_widths(alloc, params.as_slice())?,
-        params: values,
-        locals: mem::replace(&mut known.numbering.locals, Items::new(alloc)),
-        answer: answer_width(&answer),
-        body: steps,
-        decl,
-        line,
-    };
-    add_fun(alloc, known, n, def, params, answer)?;
-    Ok(())
 }
 
 /// The type of a written answer; None is void.
@@ -98,18 +94,41 @@ fn answer_width(answer: &Option<ValueType>) -> Option<Width>
     }
 }
 
-/// Adds the function and its name.
+/// Adds the function, with the numbered locals, and its name.
 fn add_fun(
     alloc: Global,
     known: &mut Known,
     n: &Id,
-    def: FunDef,
     params: Items<Param>,
+    values: u32,
     answer: Option<ValueType>,
+    body: Items<Stmt>,
+    decl: u32,
+    line: u32,
 ) -> Result<(), Memory>
-    ensures { OnOk result (made_of known.new ≡ with_fun n.now def params answer (made_of known.old)) }
+    ensures { (f : Def) → f ≡ record {
+      name = n.now;
+      arrays = cell_widths params;
+      params = values;
+      locals = known.old.numbering.locals;
+      answer = answer_width answer;
+      body = body;
+      decl = decl;
+      line = line;
+    } → OnOk result (made_of known.new ≡ with_fun n.now f params answer (made_of known.old)) }
 {
     let fun = number(known.funs.len())?;
-    known.funs.push(def)?;
+    let name = n.copy(alloc)?;
+    let arrays = cell_widths(alloc, params.as_slice())?;
+    known.funs.push(FunDef {
+        name,
+        arrays,
+        params: values,
+        locals: mem::replace(&mut known.numbering.locals, Items::new(alloc)),
+        answer: answer_width(&answer),
+        body,
+        decl,
+        line,
+    })?;
     enter(alloc, &mut known.scope, n, Entry::Fun(fun, params, answer))
 }

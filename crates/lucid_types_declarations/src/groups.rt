@@ -20,10 +20,10 @@ pub fn group(alloc: Global, known: &mut Known, n: &Id, members: &[u64]) -> Resul
     if members.is_empty() || members.len() > 8 {
         return Err(Fault::NoRule);
     }
-    let small = small_ones(alloc, members)?;
     if !are_distinct(alloc, members)? {
         return Err(Fault::NoRule);
     }
+    let small = small_ones(alloc, members)?;
     enter(alloc, &mut known.scope, n, Entry::Group(small))?;
     Ok(())
 }

@@ -47,6 +47,11 @@ impl Known {
 pub fn enter(alloc: Global, scope: &mut Scope, n: &Id, entry: Entry) -> Result<(), Memory>
     ensures { OnOk result (scope.new ≡ called n.now entry ∷ scope.old) }
 {
-    let name = n.copy(alloc)?;
-    scope.enter(Named { name, entry })
+    match n.copy(alloc) {
+        Ok(name) => scope.enter(Named { name, entry }),
+        Err(memory) => {
+            drop(entry);
+            Err(memory)
+        }
+    }
 }

@@ -1,9 +1,11 @@
 // Memops.
-ghost use Rattle.std.specs.Prelude.{◌≡◌, OnOk};
+ghost use Rattle.std.specs.Prelude.{◌≡◌, ◌∷◌, [], Some, OnOk};
+ghost use Rattle.lucid_core.specs.declared.body.Expr.TheVariants as core;
+ghost use Rattle.lucid_types_spec.specs.declared.scope.ValueType.TheVariants.{Int};
 ghost use Rattle.lucid_types_spec.specs.Memop.{memop_names};
 ghost use Rattle.lucid_types_laws.specs.Declaration.{memop};
 ghost use Rattle.lucid_types_laws.specs.Memop.{memop_body, one_return};
-ghost use Rattle.lucid_types_laws.specs.Reading.{reading};
+ghost use Rattle.lucid_types_laws.specs.Reading.{compared, core_of, reading};
 ghost use Rattle.lucid_types_expressions.specs.Gives.{Gives};
 ghost use Rattle.lucid_types_declarations.specs.Known.{Declares, made_of};
 ghost use Rattle.lucid_types_declarations.specs.Memops.{chosen, second};
@@ -11,7 +13,7 @@ ghost use Rattle.lucid_types_declarations.specs.Memops.{chosen, second};
 use crate::Known;
 use crate::constants::int_of;
 use crate::known::enter;
-use lucid_base::{Boxed, Id, Items, Width};
+use lucid_base::{Boxed, CmpOp, Id, Items, Width};
 use lucid_core::{Expr, MemopDef, Stmt};
 use lucid_memop::shape;
 use lucid_parse_tree::{C, E, No, S, Ty};
@@ -40,7 +42,9 @@ pub fn memop(
                     return Err(Fault::NoRule);
                 }
                 let steps = steps_of(alloc, &mut known.scope, width, &first.1, &second.1, body)?;
-                match shape(width, steps.as_slice()) {
+                let found = shape(width, steps.as_slice());
+                drop(steps);
+                match found {
                     None => Err(Fault::NoRule),
                     Some(alu) => {
                         enter(alloc, &mut known.scope, n, Entry::Memop(alu))?;
@@ -72,9 +76,9 @@ fn steps_of(
     let mark = scope.len();
     enter(alloc, scope, first, Entry::Local(0, ValueType::Int(width)))?;
     enter(alloc, scope, second, Entry::Local(1, ValueType::Int(width)))?;
-    let steps = memop_body(alloc, scope, width, body)?;
+    let steps = memop_body(alloc, scope, width, body);
     scope.leave(mark);
-    Ok(steps)
+    steps
 }
 
 /// One return, or one if with one return in each branch.
@@ -98,12 +102,23 @@ fn chosen(
 ) -> Result<Items<Stmt>, Fault>
     ensures { Gives result (chosen width scope.now c.now rest.now) }
 {
-    let test = condition(alloc, scope, width, &c.test)?;
-    let yes = one_return(alloc, scope, width, c.yes.as_slice())?;
-    let no = second(alloc, scope, width, &c.no, rest)?;
-    let mut steps = Items::new(alloc);
-    steps.push(Stmt::If(test, yes, no))?;
-    Ok(steps)
+    match condition(alloc, scope, width, &c.test) {
+        Ok(test) => match one_return(alloc, scope, width, c.yes.as_slice()) {
+            Ok(yes) => match second(alloc, scope, width, &c.no, rest) {
+                Ok(no) => one(alloc, Stmt::If(test, yes, no)),
+                Err(fault) => {
+                    drop(test);
+                    drop(yes);
+                    Err(fault)
+                }
+            },
+            Err(fault) => {
+                drop(test);
+                Err(fault)
+            }
+        },
+        Err(fault) => Err(fault),
+    }
 }
 
 fn second(
@@ -130,13 +145,25 @@ fn one_return(alloc: Global, scope: &Scope, width: Width, body: &[S]) -> Result<
     ensures { Gives result (one_return width scope.now body.now) }
 {
     match body {
-        [S::Return(Some(x))] => {
-            let c = expression(alloc, scope, ValueType::Int(width), x)?;
-            let mut steps = Items::new(alloc);
-            steps.push(Stmt::Return(Some(c)))?;
-            Ok(steps)
-        }
+        [S::Return(Some(x))] => match expression(alloc, scope, ValueType::Int(width), x) {
+            Ok(c) => one(alloc, Stmt::Return(Some(c))),
+            Err(fault) => Err(fault),
+        },
         _ => Err(Fault::NoRule),
+    }
+}
+
+/// A body of one statement.
+fn one(alloc: Global, step: Stmt) -> Result<Items<Stmt>, Fault>
+    ensures { Gives result (Some (step ∷ [])) }
+{
+    let mut steps = Items::new(alloc);
+    match steps.push(step) {
+        Ok(()) => Ok(steps),
+        Err(_) => {
+            drop(steps);
+            Err(Fault::Memory)
+        }
     }
 }
 
@@ -148,12 +175,50 @@ fn condition(alloc: Global, scope: &Scope, width: Width, x: &E) -> Result<Expr, 
         E::Paren(x) => condition(alloc, scope, width, x.get()),
         E::Infix(sign, x, y) => match comparison(*sign) {
             None => Err(Fault::NoRule),
-            Some(op) => {
-                let c = expression(alloc, scope, ValueType::Int(width), x.get())?;
-                let d = expression(alloc, scope, ValueType::Int(width), y.get())?;
-                Ok(Expr::Cmp(op, Boxed::new(alloc, c)?, Boxed::new(alloc, d)?))
-            }
+            Some(op) => compared(alloc, scope, width, op, x.get(), y.get()),
         },
         _ => Err(Fault::NoRule),
+    }
+}
+
+/// A comparison of two operands of this width.
+fn compared(
+    alloc: Global,
+    scope: &Scope,
+    width: Width,
+    op: CmpOp,
+    x: &E,
+    y: &E,
+) -> Result<Expr, Fault>
+    ensures { Gives result (compared op (core_of x.now scope.now (Int width)) (core_of y.now scope.now (Int width))) }
+{
+    match expression(alloc, scope, ValueType::Int(width), x) {
+        Ok(c) => match expression(alloc, scope, ValueType::Int(width), y) {
+            Ok(d) => both(alloc, op, c, d),
+            Err(fault) => {
+                drop(c);
+                Err(fault)
+            }
+        },
+        Err(fault) => Err(fault),
+    }
+}
+
+/// The comparison of these.
+fn both(alloc: Global, op: CmpOp, c: Expr, d: Expr) -> Result<Expr, Fault>
+    ensures { Gives result (Some (core.Cmp op c d)) }
+{
+    match Boxed::new(alloc, c) {
+        Ok(c) => match Boxed::new(alloc, d) {
+            Ok(d) => Ok(Expr::Cmp(op, c, d)),
+            Err(_) => {
+                drop(c);
+                Err(Fault::Memory)
+            }
+        },
+        Err(_) => {
+            drop(d);
+            Err(Fault::Memory)
+        }
     }
 }

@@ -100,11 +100,8 @@ pub fn int_params(alloc: Global, params: &[Param]) -> Result<Items<Width>, Fault
     let mut widths = Items::new(alloc);
     for param in params {
         match param {
-            Param::Value(t) => match t {
-                ValueType::Int(w) => widths.push(*w)?,
-                ValueType::Bool => return Err(Fault::NoRule),
-            },
-            Param::Array(_) => return Err(Fault::NoRule),
+            Param::Value(ValueType::Int(w)) => widths.push(*w)?,
+            _ => return Err(Fault::NoRule),
         }
     }
     Ok(widths)
