@@ -1,10 +1,11 @@
 -- Where two patterns include that of a row, their bits have all of the row's signature.
-use Rattle.std.proofs.Common.{◌≡◌, ℕ, List, [], ◌∷◌, ◌++◌, Bool, true, false, not, ◌||◌, Result, Ok, Err, is_ok, if◌then◌else◌, max, nat_eq, slice_index_or, ◌<◌, length, zero, suc, refl, sym, ap, ap₂, subst, ◌∙◌, ⊎_elim, arith, bit_or}
+use Rattle.std.proofs.Common.{◌≡◌, ℕ, List, [], ◌∷◌, ◌++◌, Bool, true, false, not, ◌||◌, Result, Ok, Err, is_ok, if◌then◌else◌, max, nat_eq, slice_index_or, ◌+◌, ◌<◌, drop, length, zero, suc, refl, sym, ap, ap₂, subst, ◌∙◌, ⊎_elim, arith, bit_or}
 use Rattle.std.specs.List.{list_all, list_any}
 use Rattle.std.specs.Int.{bit_at}
 use Rattle.std.specs.Int.Bits.{or_self}
 use Rattle.std.proofs.lemmas.Nat.{or_comm}
 use Rattle.std.proofs.lemmas.Nat.Bits.{bit_at_or, same_from_bits}
+use Rattle.std.proofs.lemmas.List.{at_drop_more}
 use Rattle.std.proofs.lemmas.Bool.{and_parts, and_from, or_cases, or_left, or_right, eqb-true, eq-eqb, true≢false}
 use Rattle.lucid_code.specs.declared.op.Literal.{Literal}
 use Rattle.lucid_tables.specs.declared.table.Row.{Row}
@@ -100,6 +101,16 @@ heard_parts p q sign (x ∷ xs) ys h =
     let parts = and_parts (is_heard p q sign x) (list_all (is_heard p q sign) (xs ++ ys)) h in
     let rest = heard_parts p q sign xs ys parts.1 in
     (and_from (is_heard p q sign x) (list_all (is_heard p q sign) xs) parts.0 rest.0, rest.1)
+
+-- the row of a turn
+pub row_heard : (f : Signed → Bool) (rows : List Signed) (i : ℕ) (s : Signed) → list_all f rows ≡ true → i < length rows → s ≡ slice_index_or rows i s → f s ≡ true
+row_heard f [] i s h l e = absurd (omega (arith, l))
+row_heard f (r ∷ rows) zero s h l e = ap f e ∙ (and_parts (f r) (list_all f rows) h).0
+row_heard f (r ∷ rows) (suc i) s h l e = row_heard f rows i s (and_parts (f r) (list_all f rows) h).1 (omega (arith, l)) e
+
+-- a turn decides, or else the rest does
+pub turn : (f : Signed → Bool) (rows : List Signed) (i : ℕ) (s : Signed) → i < length rows → s ≡ slice_index_or rows i s → list_any f (drop i rows) ≡ (f s || list_any f (drop (i + 1) rows))
+turn f rows i s l e = at_drop_more (list_any f) rows i s l ∙ ap (λ r. f r || list_any f (drop (i + 1) rows)) (sym e)
 
 pub covers_rows : (p q : List Literal) (rows : List Signed) → list_any (covers p q) rows ≡ list_any (λ (k : Row). includes (union p q) k.pattern) (rows_of rows)
 covers_rows p q [] = refl

@@ -1,8 +1,8 @@
 // Two rows as one: the union of their patterns, and the operations of both. Marks of the literals so far tell which of the others are new.
-ghost use Rattle.std.specs.Prelude.{◌≡◌, ◌<◌, ℕ, true, slice_index_or, IfOk, OnOk};
+ghost use Rattle.std.specs.Prelude.{◌≡◌, ◌<◌, ◌++◌, ℕ, true, slice_index_or, IfOk, OnOk};
 ghost use Rattle.std.specs.List.{fold};
 ghost use Rattle.lucid_merge.specs.Marks.{AreSeen, is_marked};
-ghost use Rattle.lucid_merge.specs.Product.{has, with_literal, pair};
+ghost use Rattle.lucid_merge.specs.Product.{has, with_literal, union, pair};
 
 use crate::patterns::has_near;
 use crate::signs::slot;
@@ -15,15 +15,29 @@ use std::alloc::Global;
 pub(crate) fn pair(alloc: Global, a: &Row, b: &Row) -> Result<Row, Memory>
     ensures { IfOk result (λ row. row ≡ pair a.now b.now) }
 {
-    let p = a.pattern.as_slice();
-    let q = b.pattern.as_slice();
+    let ops = both_ops(alloc, a.ops.as_slice(), b.ops.as_slice())?;
+    let pattern = union(alloc, a.pattern.as_slice(), b.pattern.as_slice())?;
+    Ok(Row { pattern, ops })
+}
+
+/// Returns the operations of two rows, in order.
+fn both_ops(alloc: Global, a: &[u32], b: &[u32]) -> Result<Items<u32>, Memory>
+    ensures { IfOk result (λ ops. ops ≡ a.now ++ b.now) }
+{
+    let mut ops = Items::from_slice(alloc, a)?;
+    ops.append(Items::from_slice(alloc, b)?)?;
+    Ok(ops)
+}
+
+/// Returns the literals of two patterns, none twice.
+fn union(alloc: Global, p: &[Literal], q: &[Literal]) -> Result<Items<Literal>, Memory>
+    ensures { IfOk result (λ pattern. pattern ≡ union p.now q.now) }
+{
     let mut seen = marks_for(alloc, p, q)?;
     let mut pattern = Items::new(alloc);
     put_literals(p, &mut seen, &mut pattern)?;
     put_literals(q, &mut seen, &mut pattern)?;
-    let mut ops = Items::from_slice(alloc, a.ops.as_slice())?;
-    ops.append(Items::from_slice(alloc, b.ops.as_slice())?)?;
-    Ok(Row { pattern, ops })
+    Ok(pattern)
 }
 
 /// Places for the marks of the literals of two patterns; none where there are so few literals that all are marked.
