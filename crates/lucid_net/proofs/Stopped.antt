@@ -6,7 +6,7 @@ use Rattle.lucid_io.specs.Puts.{Leaves}
 use Rattle.lucid_net_laws.proofs.Texts.{late_ticks}
 use Rattle.lucid_net_laws.specs.Runs.{late_text}
 use Rattle.lucid_net_spec.proofs.Telling.{pieces-next}
-use Rattle.lucid_net_spec.specs.Log.{log, ticks}
+use Rattle.lucid_net_spec.specs.Log.{ticks}
 use Rattle.lucid_net_spec.specs.Pieces.{pieces}
 use Rattle.lucid_net_spec.specs.Ways.{Network}
 use Rattle.lucid_conf.specs.declared.limits.Limits.{Limits}

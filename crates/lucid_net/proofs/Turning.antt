@@ -1,19 +1,20 @@
 -- The turns of a tick, one after another.
 use Rattle.std.proofs.Common.{◌≡◌, ℕ, ◌+◌, ◌-◌, ◌*◌, ◌<◌, ◌≤◌, List, [], ◌++◌, Option, None, Some, true, length, length-set, set, sym, ◌∙◌, ap, subst, add-one, arith}
 use Rattle.std.specs.List.{find, list_all}
+use Rattle.lucid_base.specs.declared.event.Event.{Event}
 use Rattle.lucid_core.specs.Fits.{event_fits}
 use Rattle.lucid_core.specs.Parts.{CoreParts}
 use Rattle.lucid_io.proofs.Leaves.{Leaves-whole, Leaves-after, Leaves-nothing}
 use Rattle.lucid_io.specs.Puts.{Leaves, PutsAll}
 use Rattle.lucid_net_spec.proofs.Passing.{first_of, without_passes}
 use Rattle.lucid_net_spec.proofs.Telling.{pieces-all, pieces-next, pieces-none, turn_untold, turns_pieces}
-use Rattle.lucid_net_spec.specs.Log.{State, enters, turn, turns}
+use Rattle.lucid_net_spec.specs.Log.{State, done_at, enters, losses, made, put_all, run_at, turn, turns}
 use Rattle.lucid_net_spec.specs.Older.{is_older}
 use Rattle.lucid_net_spec.specs.Pieces.{pieces, turn_text, untold}
-use Rattle.lucid_net_spec.specs.Ways.{Network}
+use Rattle.lucid_net_spec.specs.Ways.{Network, Run}
 use Rattle.lucid_queue.specs.Waiting.{is_ready, without_first}
 use Rattle.lucid_queue.specs.declared.pending.Pending.{Pending}
-use Rattle.lucid_net.specs.Entering.{entered_text, with_entered}
+use Rattle.lucid_net.specs.Entering.{entered_text, with_cells, with_entered}
 use Rattle.lucid_net.specs.Kept.{IsKept, is_kept}
 use Rattle.lucid_net.proofs.Keeping.{found_passes, kept_switch, kept_tick, unfound}
 
@@ -68,6 +69,18 @@ entered_kept parts switches tick switch now new cells n kept same all counted lo
   entered = omega (arith, kept.entered, counted);
   lost = omega (arith, kept.lost, lost, few);
 }
+
+-- The state after an event ran whole and its outs are queued or lost.
+pub entered_after : (net : Network) (tick switch : ℕ) (now ran : State) (event : Event) (run : Run) (pending : List Pending) (n : ℕ) →
+    ran ≡ with_cells switch now (done_at net tick switch now event).cells → run ≡ run_at net tick switch now event → pending ≡ put_all (made net run) ran.pending → n ≡ losses net run →
+    record { cells = ran.cells; pending = pending; text = []; entered = ran.entered + 1; lost = ran.lost + n } ≡ with_entered net tick switch now event
+entered_after net tick switch now ran event run pending n after is put counted =
+    let whole : Run = run_at net tick switch now event in
+    let cells : List (List (List ℕ)) = (with_cells switch now (done_at net tick switch now event).cells).cells in
+    let queue : pending ≡ put_all (made net whole) now.pending = put ∙ ap (λ (r : Run). put_all (made net r) ran.pending) is ∙ ap (λ (s : State). put_all (made net whole) s.pending) after in
+    ap (λ (s : State). record { cells = s.cells; pending = pending; text = []; entered = s.entered + 1; lost = s.lost + n }) after
+    ∙ ap (λ (q : List Pending). record { cells = cells; pending = q; text = []; entered = now.entered + 1; lost = now.lost + n }) queue
+    ∙ ap (λ (k : ℕ). record { cells = cells; pending = put_all (made net whole) now.pending; text = []; entered = now.entered + 1; lost = now.lost + k }) (counted ∙ ap (losses net) is)
 
 -- the turns before this switch are done
 pub record Turning {T : Type 0} (written : T → Option (List ℕ)) (faults : T → ℕ) (old sink : T) (net : Network) (tick : ℕ) (begun now : State) (switch : ℕ) : Type 0 where

@@ -1,14 +1,14 @@
 -- Windows in the order of their beginnings, each with the greatest end up to it: the last that began tells whether a tick is in any.
-use Rattle.std.proofs.Common.{◌≡◌, ℕ, zero, suc, ◌+◌, ◌-◌, ◌<◌, ◌≤◌, List, [], ◌∷◌, ◌++◌, Bool, true, false, ◌&&◌, ◌||◌, if◌then◌else◌, All, length, max, nat_le, nat_lt, slice_index_or, refl, sym, ◌∙◌, ap, subst, ⊎_elim, arith}
+use Rattle.std.proofs.Common.{◌≡◌, ℕ, zero, suc, ◌+◌, ◌-◌, ◌<◌, ◌≤◌, List, [], ◌∷◌, ◌++◌, Bool, true, false, ◌&&◌, ◌||◌, if◌then◌else◌, get_or, length, take, max, nat_le, nat_lt, slice_index_or, refl, sym, ◌∙◌, ap, subst, ⊎_elim, arith}
 use Rattle.std.specs.List.{AllWithin, list_any}
 use Rattle.std.specs.List.Sorted.{IsNonDecreasingBy, IsPartitionPoint}
 use Rattle.std.proofs.lemmas.Bool.Decides.{nat_tests}
 use Rattle.std.proofs.lemmas.Bool.{cases_eq}
 use Rattle.std.proofs.lemmas.List.{get_or_append_left, get_or_push, length_push}
-use Rattle.std.proofs.lemmas.List.Folds.{list_any_none}
+use Rattle.std.proofs.lemmas.List.Folds.{list_any-append, list_any_more, list_any_none}
 use Rattle.lucid_conf.specs.declared.scene.Down.{Down}
 use Rattle.lucid_net_spec.specs.Ways.{is_open}
-use Rattle.lucid_net.specs.Windows.{Tells, holds, reaching, told}
+use Rattle.lucid_net.specs.Windows.{Tells, holds, is_between, reaching, told}
 use Rattle.lucid_net.specs.declared.windows.Span.{Span}
 
 abbrev Rise : List Span → Type 0
@@ -118,3 +118,28 @@ one_more P xs x before last k none lt = ⊎_elim
     (λ e. subst (P k) (sym (get_or_push xs x none k (sym e))) (subst (λ n. P n x) (sym e) last))
     (λ other. let low : k < length xs = omega (arith, lt, other, length_push xs x) in subst (P k) (sym (get_or_append_left xs (x ∷ []) none k low)) (before k none low))
     (cases_eq k (length xs))
+
+-- ---- the windows of two switches, one after another
+
+-- A window of the two is added.
+pub found_more : (down : List Down) (a b i : ℕ) (spans new : List Span) (none : Down) → i < length down → is_between a b (get_or down i none) ≡ true →
+    ((tick : ℕ) → list_any (holds tick) spans ≡ list_any (is_open a b tick) (take i down)) → new ≡ spans ++ record { from = (get_or down i none).from; until = (get_or down i none).until } ∷ [] →
+    (tick : ℕ) → list_any (holds tick) new ≡ list_any (is_open a b tick) (take (i + 1) down)
+found_more down a b i spans new none lt is so put tick =
+    let s : Span = record { from = (get_or down i none).from; until = (get_or down i none).until } in
+    let before : Bool = list_any (is_open a b tick) (take i down) in
+    ap (list_any (holds tick)) put
+    ∙ list_any-append (holds tick) spans (s ∷ [])
+    ∙ ap (λ (t : Bool). t || (holds tick s || false)) (so tick)
+    ∙ ap (λ (t : Bool). before || t) (or_none (holds tick s) ∙ sym (ap (λ (t : Bool). t && holds tick s) is))
+    ∙ sym (list_any_more (is_open a b tick) down i none lt)
+
+-- Another window changes nothing.
+pub found_same : (down : List Down) (a b i : ℕ) (spans : List Span) (none : Down) → i < length down → is_between a b (get_or down i none) ≡ false →
+    ((tick : ℕ) → list_any (holds tick) spans ≡ list_any (is_open a b tick) (take i down)) →
+    (tick : ℕ) → list_any (holds tick) spans ≡ list_any (is_open a b tick) (take (i + 1) down)
+found_same down a b i spans none lt is so tick =
+    let w : Down = get_or down i none in
+    let before : Bool = list_any (is_open a b tick) (take i down) in
+    so tick
+    ∙ sym (list_any_more (is_open a b tick) down i none lt ∙ ap (λ (t : Bool). before || (t && (nat_le w.from tick && nat_lt tick w.until))) is ∙ or_none before)

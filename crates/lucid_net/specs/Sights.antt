@@ -1,5 +1,5 @@
 -- The sights of a network, by the network whose handlers run whole.
-use Rattle.std.specs.Prelude.{◌≡◌, ℕ, zero, suc, ◌+◌, ◌-◌, ◌≤◌, List, [], ◌∷◌, ◌++◌, Option, None, Some, Result, Ok, Err, Bool, ◌&&◌, if◌then◌else◌, is_some, nat_lt, replicate, slice_index_or}
+use Rattle.std.specs.Prelude.{ℕ, zero, suc, ◌+◌, ◌-◌, ◌≤◌, List, [], ◌∷◌, ◌++◌, Option, None, Some, Result, Ok, Err, Bool, ◌&&◌, if◌then◌else◌, is_some, nat_lt, replicate, slice_index_or}
 use Rattle.std.specs.Option.{option_map_or}
 use Rattle.lucid_base.specs.Cells.{row_of}
 use Rattle.lucid_base.specs.declared.array.ArrayDef.{ArrayDef}

@@ -51,12 +51,7 @@ fn leave<S: Sink>(
     ensures writes { Writes S.written S.faults sink.old sink.new (block (net_of world.now) (run_of_passed passed.entry.now)) result }
     ensures memory { result ≡ Err Memory → made (net_of world.now) (run_of_passed passed.entry.now) ≢ [] }
 {
-    let ran = Ran {
-        tick: passed.now,
-        switch: passed.me,
-        event: &passed.event,
-        outs: passed.outs.as_slice(),
-    };
+    let ran = Ran::of(passed);
     let lost = match send(world, queue, &ran) {
         Ok(lost) => lost,
         Err(_) => return Err(NetError::Memory),

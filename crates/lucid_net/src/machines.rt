@@ -1,6 +1,7 @@
 // The switches of a network, in either mode.
-ghost use Rattle.std.specs.Prelude.{◌≡◌, ◌≢◌, ◌+◌, ◌<◌, ◌≤◌, None, Err, OnOk, length};
+ghost use Rattle.std.specs.Prelude.{◌≡◌, ◌≢◌, ◌+◌, ◌<◌, ◌≤◌, None, Err, OnErr, OnOk, length};
 ghost use Rattle.lucid_conf.specs.Kept.{IsScene};
+ghost use Rattle.lucid_io.specs.Puts.{PutsAll, PutsPart};
 ghost use Rattle.lucid_net_laws.specs.Runs.{late_text};
 ghost use Rattle.lucid_net.specs.Numbered.{FewPipes, Packets, WithinPipes};
 ghost use Rattle.lucid_net.specs.Seen.{lag_by, last_text};
@@ -18,7 +19,7 @@ use crate::pipes::{Pipes, all_turns as all_pipe_turns};
 use crate::switches::Switches;
 use crate::turns::all_turns;
 use crate::world::World;
-use lucid_io::Sink;
+use lucid_io::{Sink, WriteFault};
 use lucid_pipe::{Pipe, Watch};
 
 /// Switches that run handlers whole, or that have pipes.
@@ -54,21 +55,15 @@ pub(crate) fn put_last<S: Sink>(
     world: &World,
     now: &mut Machines<'_>,
     sink: &mut S,
-) -> Result<(), NetError>
+) -> Result<(), WriteFault>
     requires scene { IsScene world.now.core.now world.now.scene.now }
     requires is { IsAt (net_of world.now) world.now.scene.now.stop now.old }
-    ensures writes { Writes S.written S.faults sink.old sink.new (last_text (net_of world.now) (lag_by world.now.limits.now (placed_of now.old))) result }
-    ensures memory { result ≢ Err Memory }
+    ensures all { OnOk result (PutsAll S.written S.faults sink.old sink.new (last_text (net_of world.now) (lag_by world.now.limits.now (placed_of now.old)))) }
+    ensures part { OnErr result (PutsPart S.written S.faults sink.old sink.new (last_text (net_of world.now) (lag_by world.now.limits.now (placed_of now.old)))) }
 {
     match now {
-        Machines::Whole(switches) => {
-            put_end(world, switches, sink)?;
-            Ok(())
-        }
-        Machines::Piped(pipes) => {
-            put_pipes_end(world, pipes, sink)?;
-            Ok(())
-        }
+        Machines::Whole(switches) => put_end(world, switches, sink),
+        Machines::Piped(pipes) => put_pipes_end(world, pipes, sink),
     }
 }
 

@@ -255,7 +255,10 @@ impl<'a> Net<'a> {
         ensures memory { result ≢ Err memory_error }
     {
         self.failed = true;
-        put_last(&self.world, &mut self.machines, sink)
+        match put_last(&self.world, &mut self.machines, sink) {
+            Ok(()) => Ok(()),
+            Err(_) => Err(NetError::WriteFault),
+        }
     }
 
     /// Does all ticks and the end. Writes the whole log (`log`), which is the same in both modes, or a part of it, a proper one if a write

@@ -103,12 +103,7 @@ fn tell_block<S: Sink>(
     ensures all { OnOk result (PutsAll S.written S.faults sink.old sink.new (block (net_of world.now) (run_of_passed passed.entry.now))) }
     ensures part { OnErr result (PutsPart S.written S.faults sink.old sink.new (block (net_of world.now) (run_of_passed passed.entry.now))) }
 {
-    let ran = Ran {
-        tick: passed.now,
-        switch: passed.me,
-        event: &passed.event,
-        outs: passed.outs.as_slice(),
-    };
+    let ran = Ran::of(passed);
     let told = tell(world, &ran);
     counts.lost += told.lost.count;
     put_block(

@@ -73,8 +73,10 @@ fn enter<S: Sink>(
     let lost = send(world, &mut now.queue, &ran)?;
     now.entered += 1;
     now.lost += lost.count;
-    put_block(sink, world.core, tick, switch, event, &outs, lost.marks)?;
-    Ok(())
+    match put_block(sink, world.core, tick, switch, event, &outs, lost.marks) {
+        Ok(()) => Ok(()),
+        Err(_) => Err(NetError::WriteFault),
+    }
 }
 
 /// Does the turn of a switch at a tick.

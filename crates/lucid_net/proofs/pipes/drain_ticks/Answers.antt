@@ -1,7 +1,7 @@
-use Rattle.std.proofs.Common.{◌+◌, ◌-◌, ◌≤◌, ℕ, refl, sym, ◌∙◌, subst, arith}
-use Rattle.lucid_io.proofs.Leaves.{Leaves-after, PutsPart-at, on_err}
+use Rattle.std.proofs.Common.{◌≡◌, ◌+◌, ◌-◌, ◌≤◌, ℕ, refl, sym, ◌∙◌, subst, arith}
+use Rattle.lucid_io.proofs.Leaves.{Leaves-after, Leaves-nothing, PutsPart-at, on_err}
 use Rattle.lucid_net_laws.specs.Runs.{late_text}
-use Rattle.lucid_net_spec.proofs.Telling.{pieces-next}
+use Rattle.lucid_net_spec.proofs.Telling.{pieces-next, pieces-none}
 use Rattle.lucid_net_spec.specs.Pieces.{pieces}
 use Rattle.lucid_tables.specs.Placed.{PlacedParts}
 use Rattle.lucid_net.specs.Pipes.{IsDrained, piped_of}
@@ -39,3 +39,20 @@ loop-tick-preserved g c =
       drained = subst (λ (x : PlacedParts). IsDrained net x (c.loop-tick.tick + 1) 0 (piped_of c.drain_tick.new.now) c.in_ok-waiting.waiting) c.loop-tick.invariant.same c.in_ok-waiting.ensures.drained;
       text = Leaves-after c.loop-tick.invariant.text c.in_ok-waiting.ensures.all (pieces-next (late_text net net.limits.stages) c.loop-tick.tick (net.scene.stop + net.limits.stages) c.loop-tick-test.true);
     }
+
+pub returns-clause-same : goal.returns-clause-same
+returns-clause-same g c = c.loop-tick.invariant.same
+
+pub returns-clause-drained : goal.returns-clause-drained
+returns-clause-drained g c =
+    let net = net_of c.args.world.now in
+    let done : c.loop-tick.tick ≡ net.scene.stop + net.limits.stages = omega (arith, c.loop-tick-test.false, c.loop-tick.auto.tick-end) in
+    subst (λ (n : ℕ). IsDrained net c.args.now.now.placed.now n 0 (piped_of c.loop-tick.now) c.loop-tick.waiting) done c.loop-tick.invariant.drained
+
+pub returns-clause-all : goal.returns-clause-all
+returns-clause-all g c =
+    let net = net_of c.args.world.now in
+    Leaves-nothing c.loop-tick.invariant.text (pieces-none (late_text net net.limits.stages) c.loop-tick.tick (net.scene.stop + net.limits.stages) c.loop-tick-test.false)
+
+pub returns-in_err-waiting-clause-same : goal.returns-in_err-waiting-clause-same
+returns-in_err-waiting-clause-same g c = c.drain_tick.ensures.same ∙ c.loop-tick.invariant.same

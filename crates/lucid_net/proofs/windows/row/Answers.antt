@@ -1,4 +1,4 @@
-use Rattle.std.proofs.Common.{◌≡◌, ◌+◌, ◌∷◌, [], ◌++◌, List, length, ap, sym, ◌∙◌, subst, arith, rules}
+use Rattle.std.proofs.Common.{◌≡◌, ◌+◌, ◌∷◌, [], ◌++◌, length, ap, sym, ◌∙◌, subst, rules}
 use Rattle.std.proofs.lemmas.List.{length_push}
 use Rattle.lucid_net.specs.Windows.{AreOf, Tells}
 use Rattle.lucid_net.proofs.WindowsLemmas.{one_more}

@@ -1,4 +1,4 @@
-use Rattle.std.proofs.Common.{IfOk, ◌≡◌, ◌∙◌, List, sym, subst, ap, rules}
+use Rattle.std.proofs.Common.{◌≡◌, ◌∙◌, List, sym, subst, ap}
 use Rattle.std.proofs.lemmas.Result.{IfOk-weaker}
 use Rattle.lucid_net.specs.Windows.{Tells, reaching}
 use Rattle.lucid_net.specs.declared.windows.Span.{Span}

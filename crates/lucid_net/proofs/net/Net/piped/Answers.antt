@@ -1,4 +1,4 @@
-use Rattle.std.proofs.Common.{◌≡◌, ◌≤◌, ◌^◌, length, List, [], rules, ap, ◌∙◌, arith}
+use Rattle.std.proofs.Common.{◌≡◌, ◌≤◌, ◌^◌, length, List, [], rules, refl, ap, ◌∙◌, arith}
 use Rattle.lucid_conf.specs.declared.scene.FileEvent.{FileEvent}
 use Rattle.lucid_core.specs.declared.defs.EventDef.{EventDef}
 use Rattle.lucid_net_spec.specs.Log.{file_events, put_all, whole}
@@ -21,3 +21,6 @@ invariant_of-result-2 c =
         piped = piped_start (whole c.args.core.now c.args.scene.now c.args.limits.now) c.args.placed.now c.in_ok-pipes.pipes.items c.in_ok-queue.queue c.in_ok-pipes.ensures (c.in_ok-queue.ensures.waits ∙ ap (λ (l : List FileEvent). put_all (file_events 0 l) []) same) c.in_ok-queue.ensures.kept;
       };
     }
+
+pub returns : goal.returns
+returns c = record { parts = refl; scene = refl; limits = refl; placed = refl; at = refl; failed = refl }

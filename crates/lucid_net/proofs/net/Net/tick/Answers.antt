@@ -1,4 +1,5 @@
-use Rattle.std.proofs.Common.{◌≡◌, ◌≢◌, Result, Err, None, subst}
+use Rattle.std.proofs.Common.{◌≡◌, ◌≢◌, ◌<◌, Result, Err, None, ap, sym, ◌∙◌, subst}
+use Rattle.lucid_io.specs.Puts.{PutsAll}
 use Rattle.lucid_net_laws.specs.Runs.{late_text}
 use Rattle.lucid_net.specs.Seen.{Seen, lag, network}
 use Rattle.lucid_net.specs.Wanting.{SomeMade}
@@ -21,3 +22,16 @@ returns-in-Err-clause-writes g c =
 pub returns-in-Err-clause-memory : goal.returns-in-Err-clause-memory
 returns-in-Err-clause-memory g c =
     subst (λ (s : Seen). s.placed ≢ None → ◌≡◌ {A = Result (Unit {0}) NetError} (Err c.in-Err.error) (Err Memory) → SomeMade (network s) s.at) c.self.view_is c.in-Err.ensures.memory
+
+pub tick_all-requires-clause-scene : goal.tick_all-requires-clause-scene
+tick_all-requires-clause-scene g c = c.self.invariant.scene
+
+pub tick_all-requires-clause-is : goal.tick_all-requires-clause-is
+tick_all-requires-clause-is g c = c.self.invariant.is (ap (λ (s : Seen). s.failed) c.self.view_is ∙ c.requires.sound)
+
+pub tick_all-requires-clause-before : goal.tick_all-requires-clause-before
+tick_all-requires-clause-before g c = subst (λ (s : Seen). s.at < s.scene.stop) (sym c.self.view_is) c.requires.before
+
+pub returns-in-Ok-clause-writes : goal.returns-in-Ok-clause-writes
+returns-in-Ok-clause-writes g c =
+    subst (λ (s : Seen). PutsAll g.S.Sink.written g.S.Sink.faults c.args.sink.now c.tick_all.new.sink (late_text (network s) (lag s) s.at)) c.self.view_is c.in-Ok.ensures.writes
