@@ -26,70 +26,66 @@ pub(crate) fn act(
     ensures machine { on_registers registers.new cells.new sent.new ≡ run_act widths.now act.now (on_registers registers.old cells.old sent.old) }
     ensures long { length registers.new ≡ length registers.old }
 {
-    match *act {
+    match act {
         Act::Un(op, width, a, k) => {
-            let v = unary(registers, op, width, a);
-            put(widths, registers, k, v);
+            let v = unary(registers, *op, *width, *a);
+            put(widths, registers, *k, v);
         }
         Act::Bin(op, width, a, b, k) => {
-            let v = binary(registers, op, width, a, b);
-            put(widths, registers, k, v);
+            let v = binary(registers, *op, *width, *a, *b);
+            put(widths, registers, *k, v);
         }
         Act::Cmp(op, width, a, b, k) => {
-            let v = comparison(registers, op, width, a, b);
-            put(widths, registers, k, v);
+            let v = comparison(registers, *op, *width, *a, *b);
+            put(widths, registers, *k, v);
         }
         Act::Cast(a, k) => {
-            let v = value(registers, a);
-            put(widths, registers, k, v);
+            let v = value(registers, *a);
+            put(widths, registers, *k, v);
         }
-        Act::Hash(ref xs, k) => {
+        Act::Hash(xs, k) => {
             let v = hash(registers, xs.as_slice());
-            put(widths, registers, k, v);
+            put(widths, registers, *k, v);
         }
         Act::Move(a, k) => {
-            let v = value(registers, a);
-            put(widths, registers, k, v);
+            let v = value(registers, *a);
+            put(widths, registers, *k, v);
         }
         Act::Touch {
             array,
             index,
-            ref get,
+            get,
             get_arg,
-            ref set,
+            set,
             set_arg,
             to,
         } => {
-            let cell = value(registers, index);
-            let get_arg = value(registers, get_arg);
-            let set_arg = value(registers, set_arg);
+            let cell = value(registers, *index);
+            let get_arg = value(registers, *get_arg);
+            let set_arg = value(registers, *set_arg);
             match to {
                 None => {
-                    cells.set_by(array, cell, set, set_arg);
+                    cells.set_by(*array, cell, set, set_arg);
                 }
                 Some(k) => {
-                    let touched = cells.touch(array, cell, get, get_arg, set, set_arg);
-                    put(widths, registers, k, touched.answer.value);
+                    let touched = cells.touch(*array, cell, get, get_arg, set, set_arg);
+                    put(widths, registers, *k, touched.answer.value);
                 }
             }
         }
         Act::Gen {
             slot,
             event,
-            ref args,
+            args,
             delay,
             to,
         } => {
-            let out = generated(registers, event, args.as_slice(), delay, to);
-            sent.put(slot, out);
+            let out = generated(registers, *event, args.as_slice(), *delay, *to);
+            sent.put(*slot, out);
         }
-        Act::Say {
-            slot,
-            form,
-            ref args,
-        } => {
+        Act::Say { slot, form, args } => {
             let args = arguments(registers, args.as_slice());
-            sent.put(slot, Out::Say { form, args });
+            sent.put(*slot, Out::Say { form: *form, args });
         }
     }
 }
