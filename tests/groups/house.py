@@ -125,13 +125,13 @@ def heads(group: Group) -> None:
 
 
 def laws(group: Group) -> None:
-    """A statement that only calls a law is written `law::NAME(..)`, but in lucid_core and where laws stand."""
+    """A statement that only calls a law is written `law::NAME(..)`, but where laws stand."""
     texts = {path.relative_to(TOP): path.read_text() for path in TOP.glob("crates/*/src/**/*.rt")}
     names = {name for path, text in texts.items() if path.stem == "laws" for name in re.findall(r"^pub(?:\(crate\))? fn (\w+)", text, re.M)}
     call_of = re.compile(rf"^ +({'|'.join(sorted(names))})\(.*\);$", re.M)
     bare: List[str] = []
     for path, text in texts.items():
-        if path.stem != "laws" and path.parts[1] != "lucid_core" and not path.parts[1].endswith(("_spec", "_laws")):
+        if path.stem != "laws" and not path.parts[1].endswith(("_spec", "_laws")):
             bare += [f"{path}: {name}" for name in call_of.findall(text)]
     group.check("calls of laws are written law::NAME", bool(names) and not bare, bare)
 

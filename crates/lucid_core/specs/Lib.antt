@@ -1,5 +1,4 @@
 pub mod Assigned
-pub mod Body
 pub mod Children
 pub mod Computations
 pub mod Endings

@@ -1,7 +1,4 @@
 // Bodies: the statements and expressions of handlers and functions. Every width is written and every name is a number.
-ghost use Rattle.std.specs.Prelude.{IfSome};
-ghost use Rattle.lucid_core.specs.Body.{HasBranches};
-
 use lucid_base::{ArrayName, BinOp, Bits, Boxed, CmpOp, Items, MemAlu, UnOp, Width};
 
 /// A statement. Events, texts and locals go by their numbers.
@@ -36,47 +33,6 @@ pub enum Stmt {
     /// Ends the body with a value, or with none. It does not jump: in a valid program it is last in its block, and so is an `If` that
     /// returns on some path, so nothing of the body remains to run after it.
     Return(Option<Expr>),
-}
-
-/// Drops a block on a small stack, in a loop if it is deep. Statements after a return and after a case of a `match` form the second branch
-/// of an `If` that ends the block. So a block nests as deeply as it has returns and cases; all else nests no deeper than the text.
-#[cycle(give_back)]
-pub(crate) fn give_back(stmts: Items<Stmt>) {
-    let mut left = stmts;
-    for _ in 0..left.len() {
-        if let Some(stmt) = left.pop() {
-            give_stmt_back(stmt);
-        }
-    }
-}
-
-#[cycle(give_back)]
-fn give_stmt_back(stmt: Stmt) {
-    let mut left = stmt;
-    while let Some((yes, mut no)) = branches(left) {
-        give_back(yes);
-        let Some(last) = no.pop() else {
-            return;
-        };
-        give_back(no);
-        left = last;
-    }
-}
-
-/// The branches of an `If`. Drops the rest of the statement.
-fn branches(stmt: Stmt) -> Option<(Items<Stmt>, Items<Stmt>)>
-    ensures { IfSome result (λ both. HasBranches stmt both.0 both.1) }
-{
-    match stmt {
-        Stmt::If(test, yes, no) => {
-            drop(test);
-            Some((yes, no))
-        }
-        other => {
-            drop(other);
-            None
-        }
-    }
 }
 
 /// An expression. Locals and functions go by their numbers.

@@ -4,8 +4,7 @@ ghost use Rattle.lucid_base.specs.Cells.{zero_cells};
 ghost use Rattle.lucid_core.specs.Fits.{cells_fit};
 ghost use Rattle.lucid_core.specs.Parts.{CoreParts};
 
-use crate::laws::cells_stay_fit;
-use crate::{Cells, Core};
+use crate::{Cells, Core, laws as law};
 use lucid_base::Memory;
 use std::alloc::Global;
 
@@ -15,7 +14,7 @@ impl Core {
         ensures zero { IfOk result (λ cells. cells ≡ zero_cells self.now.arrays) }
         ensures fit { IfOk result (λ cells. IsTrue (cells_fit self.now cells)) }
     {
-        cells_stay_fit(self);
+        law::cells_stay_fit(self);
         Cells::zeros(alloc, self.arrays())
     }
 }

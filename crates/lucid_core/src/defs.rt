@@ -2,7 +2,7 @@
 ghost use Rattle.std.specs.Prelude.{◌≡◌, IfOk};
 
 use crate::Stmt;
-use crate::body::give_back;
+use crate::dismantle::dismantle;
 use lucid_base::{Id, Items, MemAlu, Memory, Width};
 use std::alloc::Global;
 
@@ -74,7 +74,7 @@ impl Drop for FunDef {
             decl: _,
             line: _,
         } = self;
-        give_back(body);
+        dismantle(body);
     }
 }
 
@@ -97,6 +97,6 @@ impl Drop for HandlerDef {
             decl: _,
             line: _,
         } = self;
-        give_back(body);
+        dismantle(body);
     }
 }

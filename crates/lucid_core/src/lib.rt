@@ -10,7 +10,7 @@
 mod body;
 mod cells;
 mod defs;
-mod depth;
+mod dismantle;
 mod ending;
 mod fits;
 mod laws;
@@ -20,7 +20,6 @@ mod widths;
 pub use body::{Expr, Stmt, Touch};
 pub use cells::NewCells;
 pub use defs::{EventDef, FunDef, HandlerDef, MemopDef};
-pub use depth::below;
 pub use ending::Ending;
 pub use laws::{
     cells_stay_fit, flat_cells_stay_fit, flat_one_handler, flat_outs_fit, flat_widths_are_static,

@@ -5,11 +5,12 @@ ghost use Rattle.lucid_inline_spec.specs.Flat.{puts_of};
 ghost use Rattle.lucid_inline.specs.Numbers.{FewBoth, FewExpr, FewExprs, FewOptional, FewStmts, FewTouch};
 ghost use Rattle.lucid_inline.specs.Sites.{called, flattened, place};
 
+use crate::depth::below;
 use crate::group::{group, numbered};
 use crate::single::{assigning, branching, dropping, returning, saying, sending};
 use crate::site::{Site, array_at, arrays_at, earlier, number};
 use lucid_base::{ArrayName, Boxed, Items, Memory, Width};
-use lucid_core::{Expr, Stmt, Touch, below};
+use lucid_core::{Expr, Stmt, Touch};
 
 /// An expression of the body, behind these locals of the handler.
 #[cycle(flatten)]
