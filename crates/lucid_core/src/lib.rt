@@ -15,7 +15,6 @@ mod ending;
 mod fits;
 mod laws;
 mod program;
-mod widths;
 
 pub use body::{Expr, Stmt, Touch};
 pub use cells::NewCells;
@@ -27,4 +26,3 @@ pub use laws::{
 };
 pub use lucid_base::{ArrayDef, ArrayName, Cells};
 pub use program::{Core, Flat};
-pub use widths::width_of;

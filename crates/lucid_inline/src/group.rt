@@ -7,8 +7,9 @@ ghost use Rattle.lucid_inline.specs.Numbers.{most};
 ghost use Rattle.lucid_inline.specs.Sites.{assigned, flattened, sent, sent_to_all};
 
 use crate::site::number;
+use crate::widths::width_of;
 use lucid_base::{Bits, Items, Memory, Width};
-use lucid_core::{Expr, Stmt, width_of};
+use lucid_core::{Expr, Stmt};
 use std::alloc::Global;
 
 /// Arguments with the locals that hold them, from `first` on.

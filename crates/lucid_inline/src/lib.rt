@@ -15,6 +15,7 @@ mod limits;
 mod program;
 mod single;
 mod site;
+mod widths;
 
 pub use error::InlineError;
 pub use limits::inline;

@@ -1,6 +1,6 @@
 use Rattle.std.proofs.Common.{◌≡◌, drop, map}
 use Rattle.lucid_core.specs.Width.{first_of, first_return}
-use Rattle.lucid_core.proofs.widths.+widths.Given as goal
+use Rattle.lucid_inline.proofs.widths.+widths.Given as goal
 
 -- the rest of the block decides
 abbrev pub invariant-first-loop-stmt : goal.invariant-first-loop-stmt

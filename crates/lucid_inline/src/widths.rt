@@ -1,24 +1,14 @@
 // The width of an expression's value, in code.
-ghost use Rattle.std.specs.Prelude.{◌≡◌, Some, map, slice_get};
+ghost use Rattle.std.specs.Prelude.{◌≡◌, map, slice_get};
 ghost use Rattle.std.specs.Option.{option_and_then};
-ghost use Rattle.lucid_core.specs.Scope.{Scope};
-ghost use Rattle.lucid_core.specs.Typing.{Answer, answer_of};
 ghost use Rattle.lucid_core.specs.Width.{expr_width, first_of, first_return};
 
-use crate::{Expr, FunDef, Stmt};
 use lucid_base::Width;
+use lucid_core::{Expr, FunDef, Stmt};
 
-/// Returns the width of an expression's value, given the widths of the locals and the earlier functions, or None if it has no value. If
-/// the widths in it agree, this is the answer of the typing rules; otherwise it is the width at its head. Allocates nothing.
-pub fn width_of(locals: &[Width], funs: &[FunDef], e: &Expr) -> Option<Width>
-    ensures value { result ≡ expr_width e.now locals.now funs.now }
-    ensures typed { (scope : Scope) (answer : Answer) → scope.locals ≡ locals.now → scope.funs ≡ funs.now → answer_of e.now scope ≡ Some answer → result ≡ answer }
-{
-    read(locals, funs, e)
-}
-
+/// Returns the width of an expression's value, given the widths of the locals and the earlier functions, or None if it has no value.
 #[cycle(widths)]
-fn read(locals: &[Width], funs: &[FunDef], e: &Expr) -> Option<Width>
+pub fn width_of(locals: &[Width], funs: &[FunDef], e: &Expr) -> Option<Width>
     ensures { result ≡ expr_width e.now locals.now funs.now }
 {
     match e {
@@ -26,8 +16,8 @@ fn read(locals: &[Width], funs: &[FunDef], e: &Expr) -> Option<Width>
         Expr::Local(i) => width_at(locals, *i),
         Expr::Now => Some(Width::int()),
         Expr::Me => Some(Width::int()),
-        Expr::Un(_, x) => read(locals, funs, x.get()),
-        Expr::Bin(_, x, _) => read(locals, funs, x.get()),
+        Expr::Un(_, x) => width_of(locals, funs, x.get()),
+        Expr::Bin(_, x, _) => width_of(locals, funs, x.get()),
         Expr::Cmp(_, _, _) => Some(Width::bool()),
         Expr::Cast(width, _) => Some(*width),
         Expr::Hash(width, _) => Some(*width),
@@ -66,7 +56,7 @@ fn returned(locals: &[Width], funs: &[FunDef], stmt: &Stmt) -> Option<Option<Wid
 {
     match stmt {
         Stmt::Return(None) => Some(None),
-        Stmt::Return(Some(e)) => Some(read(locals, funs, e)),
+        Stmt::Return(Some(e)) => Some(width_of(locals, funs, e)),
         Stmt::If(_, yes, no) => match first(locals, funs, yes.as_slice()) {
             None => first(locals, funs, no.as_slice()),
             Some(answer) => Some(answer),
