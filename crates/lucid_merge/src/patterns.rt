@@ -68,12 +68,13 @@ fn has_either(p: &[Literal], q: &[Literal], at: usize, literal: Literal) -> bool
     has_near(p, at, literal) || has_near(q, at, literal)
 }
 
-/// Returns whether all literals of the third pattern are in the first two together. Most are at the same position in one of these.
+/// Returns whether all literals of the third pattern are in the first two together. Most are at the same position in one of these. The last
+/// is looked for first, since rows have the guard of all in front and differ behind it.
 pub(crate) fn include_together(p: &[Literal], q: &[Literal], r: &[Literal]) -> bool
     ensures { result ≡ includes (union p.now q.now) r.now }
 {
-    for (at, literal) in r.iter().enumerate() {
-        if !has_either(p, q, at, *literal) {
+    for at in (0..r.len()).rev() {
+        if !has_either(p, q, at, r[at]) {
             return false;
         }
     }
