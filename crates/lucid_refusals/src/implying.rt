@@ -13,19 +13,23 @@ use lucid_code::Literal;
 use lucid_merge::has_near;
 use std::alloc::Global;
 
-fn is_one(literals: &[Literal], more: &[Literal], literal: Literal) -> bool
+/// Whether a literal is one of these or of those. It is looked for at a likely position first.
+fn is_one(literals: &[Literal], more: &[Literal], at: usize, literal: Literal) -> bool
     ensures { result ≡ is_one literals.now more.now literal }
 {
-    has_near(literals, 0, literal) || has_near(more, 0, literal)
+    has_near(literals, at, literal) || has_near(more, at, literal)
 }
 
-/// Whether all literals of a pattern are among these or those.
+/// Whether all literals of a pattern are among these or those. A guard that the rows have in common is mostly at the front of all three.
 fn is_among(literals: &[Literal], more: &[Literal], pattern: &[Literal]) -> bool
     ensures { result ≡ list_all (is_one literals.now more.now) pattern.now }
 {
-    pattern
-        .iter()
-        .all(|literal| is_one(literals, more, *literal))
+    for (at, literal) in pattern.iter().enumerate() {
+        if !is_one(literals, more, at, *literal) {
+            return false;
+        }
+    }
+    true
 }
 
 /// The patterns of a shape whose literals all are among these or those.
@@ -120,7 +124,7 @@ fn common(
         return Ok(None);
     }
     let size = size_of(shape);
-    if size.saturating_mul(literals.len().saturating_add(size)) > 262_144 {
+    if size.saturating_mul(literals.len().saturating_add(size)) > 1_048_576 {
         return Ok(None);
     }
     Ok(Some(literals_with(alloc, first, last.as_slice())?))
