@@ -1,5 +1,5 @@
 -- Rows that ask a field for another value than a row does are passed over: the pairs stay the same.
-use Rattle.std.proofs.Common.{◌≡◌, ◌≢◌, ℕ, ◌+◌, ◌%◌, ◌<◌, List, [], ◌∷◌, ◌++◌, Bool, true, false, not, ◌&&◌, ◌||◌, cond, if◌then◌else◌, length, nat_eq, drop, slice_get, slice_index, slice_index_or, refl, sym, ap, subst, ◌∙◌, ⊎_elim, arith, append_assoc, add-one, drop-cons}
+use Rattle.std.proofs.Common.{◌≡◌, ◌≢◌, ℕ, ◌+◌, ◌%◌, ◌<◌, List, [], ◌∷◌, ◌++◌, Bool, true, false, not, ◌&&◌, ◌||◌, cond, if◌then◌else◌, length, nat_eq, drop, slice_get, slice_index_or, refl, sym, ap, subst, ◌∙◌, ⊎_elim, append_assoc}
 use Rattle.std.specs.List.{All, list_any, filter, cons_option}
 use Rattle.std.proofs.lemmas.Bool.{and_parts, and_from, or_cases, or_left, or_right, eqb-true, eq-eqb, ne_eqb, true≢false, not_from_false}
 use Rattle.std.proofs.lemmas.List.Elements.{filter_map-append}
@@ -8,10 +8,9 @@ use Rattle.lucid_code.specs.declared.op.Literal.{Literal}
 use Rattle.lucid_code.specs.Guards.{opposed, contradict}
 use Rattle.lucid_tables.specs.declared.table.Row.{Row}
 use Rattle.lucid_merge.specs.declared.near.Near.{Near}
-use Rattle.lucid_merge.specs.Offers.{Offered}
-use Rattle.lucid_merge.specs.Product.{clash, pair, pairs_with, kept_of}
+use Rattle.lucid_merge.specs.Product.{clash, pair, pairs_with}
 use Rattle.lucid_merge.specs.Standing.{asks, asks_other, may_stand, rows_at, IsNear}
-use Rattle.lucid_merge.proofs.Keeping.{both_kept, kept_longer, head_of}
+use Rattle.lucid_merge.proofs.Keeping.{head_of}
 
 pub clash_turned : (p q : List Literal) → clash p q ≡ (contradict p q || contradict p p || contradict q q)
 clash_turned p q = turned (contradict p p) (contradict p q) (contradict q q)
@@ -67,7 +66,7 @@ module _ (field rest : ℕ) where
       ∙ ap (λ t. t || contradict a.pattern a.pattern || contradict b.pattern b.pattern) (contradicts a.pattern b.pattern h g)
 
   -- the rows that are compatible with a row give all its pairs
-  near_pairs : (a : Row) (rows : List Row) → list_any (asks field rest) a.pattern ≡ true → pairs_with a (filter (may_stand field rest) rows) ≡ pairs_with a rows
+  pub near_pairs : (a : Row) (rows : List Row) → list_any (asks field rest) a.pattern ≡ true → pairs_with a (filter (may_stand field rest) rows) ≡ pairs_with a rows
   near_pairs a [] h = refl
   near_pairs a (b ∷ rows) h = by (list_any (asks_other field rest) b.pattern) refl (near_pairs a rows h)
     where
@@ -78,10 +77,6 @@ module _ (field rest : ℕ) where
 
 pub item_near : (rows : List Row) (near : List Near) (i : ℕ) (n : Near) → All (IsNear rows) near → i < length near → n ≡ slice_index_or near i n → IsNear rows n
 item_near rows near i n all there is = subst (IsNear rows) (sym is) (all i n there)
-
-pub beside : (kept : List Row) (a : Row) (rows : List Row) (n : Near) (suits : Bool) → IsNear rows n → suits ≡ list_any (asks n.field n.rest) a.pattern → suits ≡ true →
-    kept_of kept (pairs_with a (rows_at rows n.places)) ≡ kept_of kept (pairs_with a rows)
-beside kept a rows n suits near e h = ap (λ l. kept_of kept (pairs_with a l)) near.0 ∙ ap (kept_of kept) (near_pairs n.field n.rest a rows (sym e ∙ h))
 
 -- ---- the places of rows that pass a test
 
@@ -99,25 +94,3 @@ module _ (t : Row → Bool) (rows : List Row) (places : List ℕ) (i : ℕ) (row
 
   pub passed : t row ≡ false → rows_at rows places ++ filter t (drop (i + 1) rows) ≡ filter t rows
   passed e = ap (λ l. rows_at rows places ++ l) (sym (cut ∙ ap (λ b. cond b (row ∷ filter t (drop (i + 1) rows)) (filter t (drop (i + 1) rows))) e)) ∙ left
-
--- ---- a row with those at some places
-
-module _ (most i : ℕ) (kept now whole : List Row) (a : Row) (rows : List Row) (places : List ℕ) (there : i < length places) (left : kept_of kept (pairs_with a (rows_at rows (drop i places))) ≡ whole) where
-  abbrev this : List Row
-  this = rows_at rows (slice_index places i ∷ [])
-
-  abbrev others : List Row
-  others = rows_at rows (drop (i + 1) places)
-
-  behind : whole ≡ kept_of (kept_of kept (pairs_with a this)) (pairs_with a others)
-  behind =
-      sym left
-      ∙ ap (λ d. kept_of kept (pairs_with a (rows_at rows d))) (drop-cons places i 0 there ∙ ap (λ n. slice_index places i ∷ drop n places) (sym (add-one i)))
-      ∙ ap (λ l. kept_of kept (pairs_with a l)) (filter_map-append (slice_get rows) (slice_index places i ∷ []) (drop (i + 1) places))
-      ∙ both_kept kept a this others
-
-  pub place_passes : Offered most now (kept_of kept (pairs_with a this)) false → Offered most now whole false
-  place_passes o = subst (λ w. most < length w) (sym behind) (omega (arith, o, kept_longer (pairs_with a others) (kept_of kept (pairs_with a this))))
-
-  pub place_goes : Offered most now (kept_of kept (pairs_with a this)) true → kept_of now (pairs_with a others) ≡ whole
-  place_goes o = ap (λ k. kept_of k (pairs_with a others)) o.0 ∙ sym behind

@@ -1,12 +1,14 @@
--- Of two literals that are opposed one is contested.
-use Rattle.std.proofs.Common.{◌≡◌, ◌%◌, List, [], ◌∷◌, Option, Some, None, Bool, true, false, not, ◌&&◌, ◌||◌, if◌then◌else◌, nat_eq, slice_get, refl, sym, ap, ◌∙◌, ⊎_elim}
-use Rattle.std.specs.List.{list_any}
+-- Of two literals that are opposed one is contested, and the other is too or is the one at its field's place.
+use Rattle.std.proofs.Common.{◌≡◌, ◌%◌, List, [], ◌∷◌, Option, Some, None, Bool, true, false, not, ◌&&◌, ◌||◌, if◌then◌else◌, cond, nat_eq, slice_get, refl, sym, ap, ap₂, ◌∙◌, ⊎_elim}
+use Rattle.std.specs.List.{list_any, filter}
+use Rattle.std.proofs.lemmas.Option.{same_Some}
 use Rattle.std.proofs.lemmas.Bool.{and_parts, and_from, or_cases, or_left, or_right, eqb-true, eq-eqb, true≢false}
 use Rattle.lucid_base.proofs.NumbersLemmas.{nat_eq_swap}
 use Rattle.lucid_code.specs.declared.op.Literal.{Literal}
 use Rattle.lucid_code.specs.Guards.{opposed, contradict}
-use Rattle.lucid_merge.specs.Contested.{field_slot, is_found, is_contested, opposes}
-use Rattle.lucid_merge.proofs.Literals.{literal_is}
+use Rattle.lucid_merge.specs.Product.{is_same, has}
+use Rattle.lucid_merge.specs.Contested.{field_slot, is_found, is_contested, contested, opposes_found, opposes_lone}
+use Rattle.lucid_merge.proofs.Literals.{literal_is, same_refl}
 
 signs_turned : (t u e : Bool) → (if t then (if u then not e else e) else u && e) ≡ (if u then (if t then not e else e) else t && e)
 signs_turned true true e = refl
@@ -38,100 +40,133 @@ found_is : (l : Literal) (o : Option Literal) → is_found l o ≡ true → o �
 found_is l None h = absurd (true≢false (sym h))
 found_is l (Some m) h = ap Some (sym (literal_is l m h))
 
+-- ---- literals of patterns
+
+-- a literal of the pattern that passes a test
+any_has : (t : Literal → Bool) (p : List Literal) → list_any t p ≡ true → (l : Literal) × (has p l ≡ true) × (t l ≡ true)
+any_has t [] h = absurd (true≢false (sym h))
+any_has t (m ∷ p) h = ⊎_elim
+    (λ e. (m, or_left (is_same m m) (has p m) (same_refl m), e))
+    (λ e. let found = any_has t p e in (found.0, or_right (is_same found.0 m) (has p found.0) found.1, found.2))
+    (or_cases (t m) (list_any t p) h)
+
+has_any : (t : Literal → Bool) (p : List Literal) (l : Literal) → has p l ≡ true → t l ≡ true → list_any t p ≡ true
+has_any t [] l n h = absurd (true≢false (sym n))
+has_any t (m ∷ p) l n h = ⊎_elim
+    (λ e. or_left (t m) (list_any t p) (ap t (sym (literal_is l m e)) ∙ h))
+    (λ e. or_right (t m) (list_any t p) (has_any t p l e h))
+    (or_cases (is_same l m) (has p l) n)
+
+filter_has : (t : Literal → Bool) (p : List Literal) (l : Literal) → has (filter t p) l ≡ true → has p l ≡ true
+filter_has t [] l h = h
+filter_has t (m ∷ p) l h = by (t m) (λ e. filter_has t p l e) h
+  where
+    by : (b : Bool) → (has (filter t p) l ≡ true → has p l ≡ true) → has (cond b (m ∷ filter t p) (filter t p)) l ≡ true → has (m ∷ p) l ≡ true
+    by true more e = ⊎_elim (λ s. or_left (is_same l m) (has p l) s) (λ s. or_right (is_same l m) (has p l) (more s)) (or_cases (is_same l m) (has (filter t p) l) e)
+    by false more e = or_right (is_same l m) (has p l) (more e)
+
+has_filter : (t : Literal → Bool) (p : List Literal) (l : Literal) → has p l ≡ true → t l ≡ true → has (filter t p) l ≡ true
+has_filter t [] l n h = n
+has_filter t (m ∷ p) l n h = ⊎_elim (λ s. here (t m) refl s) (λ s. later (t m) (has_filter t p l s h)) (or_cases (is_same l m) (has p l) n)
+  where
+    here : (b : Bool) → t m ≡ b → is_same l m ≡ true → has (cond b (m ∷ filter t p) (filter t p)) l ≡ true
+    here true e s = or_left (is_same l m) (has (filter t p) l) s
+    here false e s = absurd (true≢false (sym h ∙ ap t (literal_is l m s) ∙ e))
+
+    later : (b : Bool) → has (filter t p) l ≡ true → has (cond b (m ∷ filter t p) (filter t p)) l ≡ true
+    later true s = or_right (is_same l m) (has (filter t p) l) s
+    later false s = s
+
+-- ---- two patterns
+
+contradict_from : (p q : List Literal) (l m : Literal) → has p l ≡ true → has q m ≡ true → opposed l m ≡ true → contradict p q ≡ true
+contradict_from p q l m n k o = has_any (λ l. list_any (opposed l) q) p l n (has_any (opposed l) q m k o)
+
+contradict_turned : (p q : List Literal) → contradict p q ≡ true → contradict q p ≡ true
+contradict_turned p q h =
+    let of_p = any_has (λ l. list_any (opposed l) q) p h in
+    let of_q = any_has (opposed of_p.0) q of_p.2 in
+    contradict_from q p of_q.0 of_p.0 of_q.1 of_p.1 (sym (opposed_turned of_p.0 of_q.0) ∙ of_q.2)
+
+not_true : (b : Bool) → not b ≡ false → b ≡ true
+not_true true e = refl
+not_true false e = absurd (true≢false e)
+
 module _ (lone : List Literal) where
-  one_contested : (l m : Literal) → opposed l m ≡ true → is_contested lone l ≡ false → is_contested lone m ≡ true
-  one_contested l m o h = by (is_found m (slice_get lone (field_slot m))) refl
+  -- a literal that isn't contested is at its place
+  placed : (l : Literal) → is_contested lone l ≡ false → slice_get lone (field_slot l) ≡ Some l
+  placed l c = found_is l (slice_get lone (field_slot l)) (not_true (is_found l (slice_get lone (field_slot l))) c)
+
+  placed_for : (l m : Literal) → opposed l m ≡ true → is_contested lone m ≡ false → slice_get lone (field_slot l) ≡ Some m
+  placed_for l m o c = ap (λ k. slice_get lone (k % 4096)) (opposed_field l m o) ∙ placed m c
+
+  meets : (p : List Literal) (l m : Literal) → opposed l m ≡ true → is_contested lone m ≡ false → has p m ≡ true → opposes_lone lone p l ≡ true
+  meets p l m o c n = ap (opposes_found p l) (placed_for l m o c) ∙ and_from (opposed l m) (has p m) o n
+
+  both_lone : (l m : Literal) → opposed l m ≡ true → is_contested lone l ≡ false → is_contested lone m ≡ false → true ≡ false
+  both_lone l m o c d = sym o ∙ ap (opposed l) (same_Some m l (sym (placed_for l m o d) ∙ placed l c)) ∙ self_unopposed l
+
+  module _ (p q : List Literal) where
+    abbrev in_lists : Bool
+    in_lists = contradict (contested lone p) (contested lone q)
+
+    abbrev of_p : Bool
+    of_p = list_any (opposes_lone lone q) (contested lone p)
+
+    abbrev of_q : Bool
+    of_q = list_any (opposes_lone lone p) (contested lone q)
+
+    from_lists : in_lists ≡ true → contradict p q ≡ true
+    from_lists h =
+        let l = any_has (λ l. list_any (opposed l) (contested lone q)) (contested lone p) h in
+        let m = any_has (opposed l.0) (contested lone q) l.2 in
+        contradict_from p q l.0 m.0 (filter_has (is_contested lone) p l.0 l.1) (filter_has (is_contested lone) q m.0 m.1) m.2
+
+    to_any : contradict p q ≡ true → (in_lists || of_p || of_q) ≡ true
+    to_any h =
+        let l = any_has (λ l. list_any (opposed l) q) p h in
+        let m = any_has (opposed l.0) q l.2 in
+        by l.0 m.0 l.1 m.1 m.2 (is_contested lone l.0) (is_contested lone m.0) refl refl
+      where
+        by : (l m : Literal) → has p l ≡ true → has q m ≡ true → opposed l m ≡ true → (c d : Bool) → is_contested lone l ≡ c → is_contested lone m ≡ d → (in_lists || of_p || of_q) ≡ true
+        by l m n k o true true c d = or_left (in_lists || of_p) of_q (or_left in_lists of_p
+            (contradict_from (contested lone p) (contested lone q) l m (has_filter (is_contested lone) p l n c) (has_filter (is_contested lone) q m k d) o))
+        by l m n k o true false c d = or_left (in_lists || of_p) of_q (or_right in_lists of_p
+            (has_any (opposes_lone lone q) (contested lone p) l (has_filter (is_contested lone) p l n c) (meets q l m o d k)))
+        by l m n k o false true c d = or_right (in_lists || of_p) of_q
+            (has_any (opposes_lone lone p) (contested lone q) m (has_filter (is_contested lone) q m k d) (meets p m l (sym (opposed_turned l m) ∙ o) c n))
+        by l m n k o false false c d = absurd (true≢false (both_lone l m o c d))
+
+  from_lone : (p q : List Literal) → list_any (opposes_lone lone q) (contested lone p) ≡ true → contradict p q ≡ true
+  from_lone p q h =
+      let l = any_has (opposes_lone lone q) (contested lone p) h in
+      by l.0 (filter_has (is_contested lone) p l.0 l.1) (slice_get lone (field_slot l.0)) l.2
     where
-      not_true : (b : Bool) → not b ≡ false → b ≡ true
-      not_true true e = refl
-      not_true false e = absurd (true≢false e)
+      by : (l : Literal) → has p l ≡ true → (o : Option Literal) → opposes_found q l o ≡ true → contradict p q ≡ true
+      by l n None e = absurd (true≢false (sym e))
+      by l n (Some m) e = let parts = and_parts (opposed l m) (has q m) e in contradict_from p q l m n parts.1 parts.0
 
-      some_same : (x y : Literal) → Some x ≡ Some y → x ≡ y
-      some_same x y e = cc
-
-      by : (b : Bool) → is_found m (slice_get lone (field_slot m)) ≡ b → not b ≡ true
-      by false e = refl
-      by true e =
-          let left : slice_get lone (field_slot l) ≡ Some l = found_is l (slice_get lone (field_slot l)) (not_true (is_found l (slice_get lone (field_slot l))) h) in
-          let right : slice_get lone (field_slot m) ≡ Some m = found_is m (slice_get lone (field_slot m)) e in
-          let same : l ≡ m = some_same l m (sym left ∙ ap (λ k. slice_get lone (k % 4096)) (opposed_field l m o) ∙ right) in
-          absurd (true≢false (sym o ∙ ap (opposed l) (sym same) ∙ self_unopposed l))
-
-  -- a finding of one side is one of both
-  from_one : (p q : List Literal) → list_any (opposes lone q) p ≡ true → contradict p q ≡ true
-  from_one [] q h = absurd (true≢false (sym h))
-  from_one (l ∷ p) q h = ⊎_elim
-      (λ e. or_left (list_any (opposed l) q) (contradict p q) (and_parts (is_contested lone l) (list_any (opposed l) q) e).1)
-      (λ e. or_right (list_any (opposed l) q) (contradict p q) (from_one p q e))
-      (or_cases (opposes lone q l) (list_any (opposes lone q) p) h)
-
-  any_turned : (l : Literal) (q : List Literal) → list_any (opposed l) q ≡ true → list_any (λ m. opposed m l) q ≡ true
-  any_turned l [] h = absurd (true≢false (sym h))
-  any_turned l (m ∷ q) h = ⊎_elim
-      (λ e. or_left (opposed m l) (list_any (λ m. opposed m l) q) (sym (opposed_turned l m) ∙ e))
-      (λ e. or_right (opposed m l) (list_any (λ m. opposed m l) q) (any_turned l q e))
-      (or_cases (opposed l m) (list_any (opposed l) q) h)
-
-  grown : (p q : List Literal) (l : Literal) → contradict p q ≡ true → contradict p (l ∷ q) ≡ true
-  grown [] q l h = absurd (true≢false (sym h))
-  grown (k ∷ p) q l h = ⊎_elim
-      (λ e. or_left (list_any (opposed k) (l ∷ q)) (contradict p (l ∷ q)) (or_right (opposed k l) (list_any (opposed k) q) e))
-      (λ e. or_right (list_any (opposed k) (l ∷ q)) (contradict p (l ∷ q)) (grown p q l e))
-      (or_cases (list_any (opposed k) q) (contradict p q) h)
-
-  first_grown : (p q : List Literal) (l : Literal) → list_any (λ k. opposed k l) p ≡ true → contradict p (l ∷ q) ≡ true
-  first_grown [] q l h = absurd (true≢false (sym h))
-  first_grown (k ∷ p) q l h = ⊎_elim
-      (λ e. or_left (list_any (opposed k) (l ∷ q)) (contradict p (l ∷ q)) (or_left (opposed k l) (list_any (opposed k) q) e))
-      (λ e. or_right (list_any (opposed k) (l ∷ q)) (contradict p (l ∷ q)) (first_grown p q l e))
-      (or_cases (opposed k l) (list_any (λ k. opposed k l) p) h)
-
-  contradict_turned : (p q : List Literal) → contradict p q ≡ true → contradict q p ≡ true
-  contradict_turned [] q h = absurd (true≢false (sym h))
-  contradict_turned (l ∷ p) q h = ⊎_elim
-      (λ e. first_grown q p l (any_turned l q e))
-      (λ e. grown q p l (contradict_turned p q e))
-      (or_cases (list_any (opposed l) q) (contradict p q) h)
-
-  -- a literal that isn't contested is opposed to contested ones alone
-  other_opposes : (l : Literal) (p q : List Literal) → is_contested lone l ≡ false → list_any (opposed l) q ≡ true → list_any (opposes lone (l ∷ p)) q ≡ true
-  other_opposes l p [] c h = absurd (true≢false (sym h))
-  other_opposes l p (m ∷ q) c h = ⊎_elim
-      (λ e. or_left (opposes lone (l ∷ p) m) (list_any (opposes lone (l ∷ p)) q)
-      (and_from (is_contested lone m) (opposed m l || list_any (opposed m) p) (one_contested l m e c) (or_left (opposed m l) (list_any (opposed m) p) (sym (opposed_turned l m) ∙ e))))
-      (λ e. or_right (opposes lone (l ∷ p) m) (list_any (opposes lone (l ∷ p)) q) (other_opposes l p q c e))
-      (or_cases (opposed l m) (list_any (opposed l) q) h)
-
-  more_opposes : (l : Literal) (p q : List Literal) → list_any (opposes lone p) q ≡ true → list_any (opposes lone (l ∷ p)) q ≡ true
-  more_opposes l p [] h = absurd (true≢false (sym h))
-  more_opposes l p (m ∷ q) h = ⊎_elim
-      (λ e. let parts = and_parts (is_contested lone m) (list_any (opposed m) p) e in
-      or_left (opposes lone (l ∷ p) m) (list_any (opposes lone (l ∷ p)) q)
-      (and_from (is_contested lone m) (opposed m l || list_any (opposed m) p) parts.0 (or_right (opposed m l) (list_any (opposed m) p) parts.1)))
-      (λ e. or_right (opposes lone (l ∷ p) m) (list_any (opposes lone (l ∷ p)) q) (more_opposes l p q e))
-      (or_cases (opposes lone p m) (list_any (opposes lone p) q) h)
-
-  to_either : (p q : List Literal) → contradict p q ≡ true → (list_any (opposes lone q) p || list_any (opposes lone p) q) ≡ true
-  to_either [] q h = absurd (true≢false (sym h))
-  to_either (l ∷ p) q h = ⊎_elim (λ e. here (is_contested lone l) refl e) (λ e. later (to_either p q e)) (or_cases (list_any (opposed l) q) (contradict p q) h)
-    where
-      here : (c : Bool) → is_contested lone l ≡ c → list_any (opposed l) q ≡ true → (list_any (opposes lone q) (l ∷ p) || list_any (opposes lone (l ∷ p)) q) ≡ true
-      here true c e = or_left (list_any (opposes lone q) (l ∷ p)) (list_any (opposes lone (l ∷ p)) q)
-          (or_left (opposes lone q l) (list_any (opposes lone q) p) (and_from (is_contested lone l) (list_any (opposed l) q) c e))
-      here false c e = or_right (list_any (opposes lone q) (l ∷ p)) (list_any (opposes lone (l ∷ p)) q) (other_opposes l p q c e)
-
-      later : (list_any (opposes lone q) p || list_any (opposes lone p) q) ≡ true → (list_any (opposes lone q) (l ∷ p) || list_any (opposes lone (l ∷ p)) q) ≡ true
-      later r = ⊎_elim
-          (λ e. or_left (list_any (opposes lone q) (l ∷ p)) (list_any (opposes lone (l ∷ p)) q) (or_right (opposes lone q l) (list_any (opposes lone q) p) e))
-          (λ e. or_right (list_any (opposes lone q) (l ∷ p)) (list_any (opposes lone (l ∷ p)) q) (more_opposes l p q e))
-          (or_cases (list_any (opposes lone q) p) (list_any (opposes lone p) q) r)
-
--- Two patterns contradict each other where a contested literal of one is opposed to one of the other.
-pub contradict_apart : (lone p q : List Literal) → contradict p q ≡ (list_any (opposes lone q) p || list_any (opposes lone p) q)
-contradict_apart lone p q = by (contradict p q) (list_any (opposes lone q) p || list_any (opposes lone p) q) (to_either lone p q)
-    (λ h. ⊎_elim (from_one lone p q) (λ e. contradict_turned lone q p (from_one lone q p e)) (or_cases (list_any (opposes lone q) p) (list_any (opposes lone p) q) h))
+-- Two patterns contradict each other exactly if their contested literals do, or one of these and the one at its place.
+pub contradict_apart : (lone p q : List Literal) → contradict p q ≡ (contradict (contested lone p) (contested lone q) || list_any (opposes_lone lone q) (contested lone p) || list_any (opposes_lone lone p) (contested lone q))
+contradict_apart lone p q = by (contradict p q) (in_lists lone p q || of_p lone p q || of_q lone p q) (to_any lone p q)
+    (λ h. ⊎_elim
+    (λ e. ⊎_elim (from_lists lone p q) (from_lone lone p q) (or_cases (in_lists lone p q) (of_p lone p q) e))
+    (λ e. contradict_turned q p (from_lone lone q p e))
+    (or_cases (in_lists lone p q || of_p lone p q) (of_q lone p q) h))
   where
     by : (x y : Bool) → (x ≡ true → y ≡ true) → (y ≡ true → x ≡ true) → x ≡ y
     by true y f g = sym (f refl)
     by false true f g = g refl
     by false false f g = refl
+
+-- The same, where the lists are at hand.
+pub contradict_lists : (lone p q c d : List Literal) → c ≡ contested lone p → d ≡ contested lone q →
+    contradict p q ≡ (contradict c d || (list_any (opposes_lone lone q) c || list_any (opposes_lone lone p) d))
+contradict_lists lone p q c d e f =
+    contradict_apart lone p q
+    ∙ assoc (in_lists lone p q) (of_p lone p q) (of_q lone p q)
+    ∙ sym (ap₂ (λ (x y : List Literal). contradict x y || (list_any (opposes_lone lone q) x || list_any (opposes_lone lone p) y)) e f)
+  where
+    assoc : (x y z : Bool) → ((x || y) || z) ≡ (x || (y || z))
+    assoc true y z = refl
+    assoc false y z = refl

@@ -1,12 +1,11 @@
-// Which literals may be opposed to others: those whose field other literals name, too.
-ghost use Rattle.std.specs.Prelude.{◌≡◌};
+// Which literals may be opposed to others: those whose field other literals name, too. Two rows are compared by these alone.
+ghost use Rattle.std.specs.Prelude.{◌≡◌, ◌||◌, map, IfOk};
 ghost use Rattle.std.specs.List.{list_any};
 ghost use Rattle.lucid_code.specs.Guards as guards;
-ghost use Rattle.lucid_merge.specs.Contested.{field_slot, is_contested, opposes};
-ghost use Rattle.lucid_merge.specs.Product.{clash};
+ghost use Rattle.lucid_merge.specs.Contested.{field_slot, is_contested, contested, contested_row, opposes_lone};
 
-use crate::patterns::{is_opposed, is_same};
-use lucid_base::Memory;
+use crate::patterns::{contradict, has, is_same, opposed};
+use lucid_base::{Items, Memory};
 use lucid_code::Literal;
 use lucid_tables::Row;
 use std::alloc::Global;
@@ -27,40 +26,81 @@ fn is_contested(lone: &[Literal], literal: Literal) -> bool
     }
 }
 
-/// Returns whether a literal is contested, and opposed to some literal of the pattern.
-fn opposes(lone: &[Literal], pattern: &[Literal], literal: Literal) -> bool
-    ensures { result ≡ opposes lone.now pattern.now literal }
+/// Returns the contested literals of a pattern.
+pub(crate) fn contested(
+    alloc: Global,
+    lone: &[Literal],
+    pattern: &[Literal],
+) -> Result<Items<Literal>, Memory>
+    ensures { IfOk result (λ found. found ≡ contested lone.now pattern.now) }
 {
-    is_contested(lone, literal) && is_opposed(literal, pattern)
+    let mut found = Items::new(alloc);
+    for literal in pattern {
+        if is_contested(lone, *literal) {
+            found.push(*literal)?;
+        }
+    }
+    Ok(found)
 }
 
-fn any_opposes(lone: &[Literal], p: &[Literal], q: &[Literal]) -> bool
-    ensures { result ≡ list_any (opposes lone.now q.now) p.now }
+/// Returns the contested literals of each of these rows.
+pub(crate) fn contested_rows(
+    alloc: Global,
+    lone: &[Literal],
+    rows: &[Row],
+) -> Result<Vec<Items<Literal>>, Memory>
+    ensures { IfOk result (λ lists. lists.items ≡ map (contested_row lone.now) rows.now) }
 {
-    p.iter().any(|literal| opposes(lone, q, *literal))
+    let mut lists = Vec::new(alloc);
+    for row in rows {
+        lists.push(contested(alloc, lone, row.pattern.as_slice())?)?;
+    }
+    Ok(lists)
 }
 
-/// Returns whether a literal of the one pattern and one of the other never hold together.
-fn contradict_by(lone: &[Literal], p: &[Literal], q: &[Literal]) -> bool
+/// Returns whether a literal is opposed to the one at its field's place, and the pattern has that.
+fn opposes_lone(lone: &[Literal], pattern: &[Literal], literal: Literal) -> bool
+    ensures { result ≡ opposes_lone lone.now pattern.now literal }
+{
+    match lone.get(field_slot(literal)) {
+        None => false,
+        Some(found) => opposed(literal, *found) && has(pattern, *found),
+    }
+}
+
+fn any_opposes_lone(lone: &[Literal], pattern: &[Literal], literals: &[Literal]) -> bool
+    ensures { result ≡ list_any (opposes_lone lone.now pattern.now) literals.now }
+{
+    literals.iter().any(|l| opposes_lone(lone, pattern, *l))
+}
+
+/// Returns whether a contested literal of one of two patterns is opposed to the one at its field's place, and the other pattern has that.
+fn either_opposes_lone(
+    lone: &[Literal],
+    p: &[Literal],
+    q: &[Literal],
+    of_p: &[Literal],
+    of_q: &[Literal],
+) -> bool
+    ensures { result ≡ (list_any (opposes_lone lone.now q.now) of_p.now || list_any (opposes_lone lone.now p.now) of_q.now) }
+{
+    any_opposes_lone(lone, q, of_p) || any_opposes_lone(lone, p, of_q)
+}
+
+/// Returns whether a literal of the one pattern and one of the other never hold together, by the contested literals of both. A literal that
+/// is not contested is the one at its field's place, so it is met there.
+pub(crate) fn contradict_by(
+    lone: &[Literal],
+    p: &[Literal],
+    q: &[Literal],
+    of_p: &[Literal],
+    of_q: &[Literal],
+) -> bool
+    requires of_p { of_p.now ≡ contested lone.now p.now }
+    requires of_q { of_q.now ≡ contested lone.now q.now }
     ensures { result ≡ guards.contradict p.now q.now }
 {
-    any_opposes(lone, p, q) || any_opposes(lone, q, p)
-}
-
-/// Returns whether two literals of a pattern never hold together.
-fn contradicts_itself(lone: &[Literal], p: &[Literal]) -> bool
-    ensures { result ≡ guards.contradict p.now p.now }
-{
-    any_opposes(lone, p, p)
-}
-
-/// Returns whether two patterns together ask for two values of one field. That the one asks for another value than the other is the
-/// likeliest.
-#[tactic(auto, using(crate::proofs::Beside::clash_turned))]
-pub(crate) fn clash_by(lone: &[Literal], p: &[Literal], q: &[Literal]) -> bool
-    ensures { result ≡ clash p.now q.now }
-{
-    contradict_by(lone, p, q) || contradicts_itself(lone, p) || contradicts_itself(lone, q)
+    contradict(of_p, of_q) || either_opposes_lone(lone, p, q, of_p, of_q)
 }
 
 /// For each field of these rows the one literal that names it, or one of another place if there are more. Any literals would serve.

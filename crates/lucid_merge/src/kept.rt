@@ -2,11 +2,10 @@
 ghost use Rattle.std.specs.Prelude.{◌≡◌, ◌+◌, ◌≤◌, ◌++◌, [], ◌∷◌, true, length, bit_or, nat_eq, IfOk, OnOk};
 ghost use Rattle.std.specs.List.{list_any};
 ghost use Rattle.lucid_tables.specs.declared.table.Row.{Row as TableRow};
-ghost use Rattle.lucid_merge.specs.Product.{clash, includes, union};
+ghost use Rattle.lucid_merge.specs.Product.{includes, union};
 ghost use Rattle.lucid_merge.specs.Signs.{AreHeard, covers, is_heard, rows_of};
 
 use crate::chunks::{is_covered_by_any, note_common};
-use crate::contested::{clash_by, lone_literals};
 use crate::patterns::include_together;
 use crate::signs::{bits_for, with_bits};
 use lucid_base::{Items, Memory, Steps};
@@ -24,13 +23,12 @@ pub(crate) struct Signed {
 }
 
 /// Rows, which contracts see as their list. A literal has bits, by which most rows that a pattern doesn't include are known at once. Each
-/// chunk of rows has the bits that all its rows have. Of each field it is known whether other literals ask for it.
+/// chunk of rows has the bits that all its rows have.
 #[derive(Drop)]
 pub(crate) struct Kept {
     rows: Vec<Signed>,
     bits: Vec<u64>,
     commons: Vec<u64>,
-    lone: Vec<Literal>,
 }
 
 impl Model for Kept {
@@ -88,12 +86,10 @@ impl Kept {
         ensures { IfOk result (λ k. k ≡ []) }
     {
         let bits = bits_for(alloc, a, b)?;
-        let lone = lone_literals(alloc, a, b)?;
         Ok(Kept {
             rows: Vec::new(alloc),
             bits,
             commons: Vec::new(alloc),
-            lone,
         })
     }
 
@@ -101,13 +97,6 @@ impl Kept {
         ensures { result ≡ length self.now }
     {
         self.rows.len()
-    }
-
-    /// Returns whether two patterns together ask for two values of one field.
-    pub(crate) fn clash(&self, p: &[Literal], q: &[Literal]) -> bool
-        ensures { result ≡ clash p.now q.now }
-    {
-        clash_by(self.lone.as_slice(), p, q)
     }
 
     /// Returns whether two patterns together include that of a row. It takes a step for each row that it looks at.

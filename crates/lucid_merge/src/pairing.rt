@@ -34,10 +34,15 @@ fn union(alloc: Global, p: &[Literal], q: &[Literal]) -> Result<Items<Literal>, 
     ensures { IfOk result (λ pattern. pattern ≡ union p.now q.now) }
 {
     let mut seen = marks_for(alloc, p, q)?;
-    let mut pattern = Items::new(alloc);
+    let mut pattern = Items::from_vec(Vec::with_capacity(alloc, likely_size(p, q))?);
     put_literals(p, &mut seen, &mut pattern)?;
     put_literals(q, &mut seen, &mut pattern)?;
     Ok(pattern)
+}
+
+/// Returns how many literals the union probably has: rows behind one guard have few others.
+fn likely_size(p: &[Literal], q: &[Literal]) -> usize {
+    p.len().max(q.len()).saturating_add(4)
 }
 
 /// Places for the marks of the literals of two patterns; none where there are so few literals that all are marked.

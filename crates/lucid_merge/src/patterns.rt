@@ -7,7 +7,7 @@ ghost use Rattle.lucid_merge.specs.Product.{is_same, has, includes, union};
 use lucid_code::Literal;
 
 /// Whether two literals never hold together: a field equals two values, or equals a value and doesn't.
-fn opposed(l: Literal, m: Literal) -> bool
+pub(crate) fn opposed(l: Literal, m: Literal) -> bool
     ensures { result ≡ guards.opposed l m }
 {
     l.field == m.field && (l.equal || m.equal) && (l.value == m.value) != (l.equal == m.equal)
@@ -20,7 +20,7 @@ pub fn contradict(p: &[Literal], q: &[Literal]) -> bool
     p.iter().any(|l| is_opposed(*l, q))
 }
 
-pub(crate) fn is_opposed(literal: Literal, pattern: &[Literal]) -> bool
+fn is_opposed(literal: Literal, pattern: &[Literal]) -> bool
     ensures { result ≡ list_any (guards.opposed literal) pattern.now }
 {
     pattern.iter().any(|m| opposed(literal, *m))
@@ -33,7 +33,7 @@ pub fn is_same(l: Literal, m: Literal) -> bool
     l.field == m.field && l.equal == m.equal && l.value == m.value
 }
 
-fn has(pattern: &[Literal], literal: Literal) -> bool
+pub(crate) fn has(pattern: &[Literal], literal: Literal) -> bool
     ensures { result ≡ has pattern.now literal }
 {
     pattern.iter().any(|m| is_same(literal, *m))
