@@ -68,13 +68,23 @@ fn has_either(p: &[Literal], q: &[Literal], at: usize, literal: Literal) -> bool
     has_near(p, at, literal) || has_near(q, at, literal)
 }
 
-/// Returns whether all literals of the third pattern are in the first two together. Most are at the same position in one of these. The last
-/// is looked for first, since rows have the guard of all in front and differ behind it.
+/// Returns whether all literals of the third pattern are in the first two together. Most are at the same position in one of these. The first
+/// is looked for first, and then the last: rows differ there if they are of different handlers, or behind a guard of all.
 pub(crate) fn include_together(p: &[Literal], q: &[Literal], r: &[Literal]) -> bool
     ensures { result ≡ includes (union p.now q.now) r.now }
 {
-    for at in (0..r.len()).rev() {
-        if !has_either(p, q, at, r[at]) {
+    match r.split_first() {
+        None => true,
+        Some((first, rest)) => has_either(p, q, 0, *first) && include_rest(p, q, rest),
+    }
+}
+
+/// The same for the literals behind the first.
+fn include_rest(p: &[Literal], q: &[Literal], rest: &[Literal]) -> bool
+    ensures { result ≡ includes (union p.now q.now) rest.now }
+{
+    for at in (0..rest.len()).rev() {
+        if !has_either(p, q, at.saturating_add(1), rest[at]) {
             return false;
         }
     }
