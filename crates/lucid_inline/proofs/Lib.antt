@@ -1,5 +1,7 @@
 pub mod Accepted
-mod Fewer
-pub mod Puts
-mod Sizes
-mod SmallCores
+mod BodiesLemmas
+mod CallsLemmas
+mod ExpressionsLemmas
+mod GroupLemmas
+mod StackLemmas
+mod StatementsLemmas

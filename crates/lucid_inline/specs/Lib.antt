@@ -1,3 +1,3 @@
-pub mod Numbers
+pub mod Bodies
 pub mod Refusals
 pub mod Sites

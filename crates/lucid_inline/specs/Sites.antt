@@ -1,16 +1,15 @@
--- The position of an inlined body in code, as the definition has it, and the statements of a group.
+-- An inlined call, and the statements of a group.
 use Rattle.std.specs.Prelude.{ℕ, ◌++◌, List, Bool, Option, length, map}
 use Rattle.std.specs.List.{enumerate_from}
 use Rattle.lucid_core.specs.declared.body.Expr.{Expr}
 use Rattle.lucid_core.specs.declared.body.Stmt.{Stmt}
 use Rattle.lucid_core.specs.declared.body.Expr.TheOpen.{Stmt-F}
 use Rattle.lucid_core.specs.declared.body.Expr.TheViews.{roll-Expr, roll-Stmt}
-use Rattle.lucid_inline_spec.specs.Flat as f
-use Rattle.lucid_inline_spec.specs.Flat.{Flattened, PutIn, put_in, puts_of, to_member, width_in}
-use Rattle.lucid_inline.specs.declared.site.Site.{Site}
+use Rattle.lucid_inline_spec.specs.Flat.{Flattened, PutIn, put_in, to_member, width_in}
 
-abbrev pub place : Site → f.Site
-place site = record { arrays = site.arrays.now; first = site.first; funs = puts_of site.funs.now }
+-- The greatest number of 32 bits.
+abbrev pub most : ℕ
+most = 4294967295
 
 -- A call of this function, with these arrays and arguments, behind these locals.
 abbrev pub called : Option PutIn → List ℕ → List Expr → List ℕ → Flattened Expr

@@ -3,10 +3,9 @@ ghost use Rattle.std.specs.Prelude.{◌≡◌, ◌≤◌, ◌+◌, IfOk, map, le
 ghost use Rattle.std.specs.List.{enumerate_from};
 ghost use Rattle.lucid_core.specs.declared.body.Expr.TheViews.{roll-Stmt};
 ghost use Rattle.lucid_inline_spec.specs.Flat.{locals_from, to_member, width_in};
-ghost use Rattle.lucid_inline.specs.Numbers.{most};
-ghost use Rattle.lucid_inline.specs.Sites.{assigned, flattened, sent, sent_to_all};
+ghost use Rattle.lucid_inline.specs.Sites.{assigned, flattened, most, sent, sent_to_all};
 
-use crate::site::number;
+use crate::site::{next_number, number};
 use crate::widths::width_of;
 use lucid_base::{Bits, Items, Memory, Width};
 use lucid_core::{Expr, Stmt};
@@ -132,11 +131,9 @@ pub fn group(
     delayed: bool,
     members: &[u32],
 ) -> Result<Items<Stmt>, Memory>
-    requires room { length locals.now + length held.items ≤ most }
-    requires held { n ≤ length held.items }
     ensures { IfOk result (λ ss. flattened ss locals.new ≡ sent_to_all event n delayed members.now held.items locals.old) }
 {
-    let first = number(locals.len());
+    let first = next_number(locals.len(), held.len().max(n))?;
     let added = widths(alloc, locals.as_slice(), held.as_slice())?;
     let mut ss = hold(alloc, first, held)?;
     ss.append(send(alloc, event, first, n, delayed, members)?)?;

@@ -7,14 +7,19 @@
 #![tactic(auto)]
 
 mod bodies;
-mod depth;
+mod calls;
+mod endings;
 mod error;
+mod expressions;
 mod group;
 mod law;
 mod limits;
+mod machine;
 mod program;
-mod single;
 mod site;
+mod stack;
+mod statements;
+mod task;
 mod widths;
 
 pub use error::InlineError;

@@ -1,25 +1,19 @@
 // The flat form of a whole core.
-ghost use Rattle.std.specs.Prelude.{◌≡◌, ◌≤◌, All, IfOk, map, sum};
-ghost use Rattle.lucid_inline_spec.specs.Counts.{handler_sizes};
-ghost use Rattle.lucid_inline_spec.specs.Flat.{flat_body, flat_handler, flat_of};
-ghost use Rattle.lucid_inline.specs.Numbers.{FewStmts, most_size};
+ghost use Rattle.std.specs.Prelude.{◌≡◌, IfOk, map};
+ghost use Rattle.lucid_inline_spec.specs.Flat.{flat_handler, flat_of};
 
-use crate::bodies::block;
-use crate::depth::MOST;
+use crate::bodies::flat_body;
 use crate::law;
-use crate::site::Site;
 use lucid_base::{ArrayDef, Id, Items, Memory};
 use lucid_core::{Core, EventDef, Flat, FunDef, HandlerDef, MemopDef};
 use std::alloc::Global;
 
-/// The flat form of a core whose size is so small that its locals have numbers of 32 bits. The size may be exponential in the core's, and
-/// the call works and takes memory in proportion to it.
+/// The flat form of a core. Its size may be exponential in the core's, and the call works and takes memory in proportion to it. Memory is
+/// also answered for a flat form whose locals have no numbers of 32 bits.
 pub fn flatten(alloc: Global, core: &Core) -> Result<Flat, Memory>
-    requires { sum (handler_sizes core.now) ≤ most_size }
     ensures { IfOk result (λ flat. flat ≡ flat_of core.now) }
 {
     law::flat_is_valid(core);
-    law::has_few_locals(core);
     let arrays = copy_arrays(alloc, core.arrays())?;
     let memops = copy_memops(alloc, core.memops())?;
     let events = copy_events(alloc, core.events())?;
@@ -73,7 +67,6 @@ fn flat_handlers(
     funs: &[FunDef],
     handlers: &[HandlerDef],
 ) -> Result<Vec<HandlerDef>, Memory>
-    requires { All (λ h. FewStmts (flat_body funs.now h)) handlers.now }
     ensures { IfOk result (λ made. made.items ≡ map (flat_handler funs.now) handlers.now) }
 {
     let mut made = Vec::new(alloc);
@@ -85,17 +78,9 @@ fn flat_handlers(
 
 /// Inlines the calls of a handler.
 fn put_in_calls(alloc: Global, funs: &[FunDef], handler: &HandlerDef) -> Result<HandlerDef, Memory>
-    requires { FewStmts (flat_body funs.now handler.now) }
     ensures { IfOk result (λ made. made ≡ flat_handler funs.now handler.now) }
 {
-    let mut locals = Items::from_slice(alloc, handler.locals.as_slice())?;
-    let site = Site {
-        alloc,
-        arrays: &[],
-        first: 0,
-        funs,
-    };
-    let body = block(site, MOST, &mut locals, handler.body.as_slice())?;
+    let (body, locals) = flat_body(alloc, funs, handler)?;
     Ok(HandlerDef {
         event: handler.event,
         locals,

@@ -1,21 +1,32 @@
-// The position of an inlined body.
-ghost use Rattle.std.specs.Prelude.{◌≡◌, ◌≤◌, IfOk, IfSome, map, slice_get, take};
+// The position of an inlined body: its arrays, the numbers of its locals, and the functions before it.
+ghost use Rattle.std.specs.Prelude.{◌≡◌, ◌+◌, ◌≤◌, IfOk, IfSome, map, slice_get, take};
 ghost use Rattle.std.specs.Option.{option_map};
 ghost use Rattle.lucid_core.specs.Computations.{array_of};
-ghost use Rattle.lucid_inline.specs.Numbers.{most};
+ghost use Rattle.lucid_inline.specs.Sites.{most};
 
 use lucid_base::{ArrayName, Items, Memory};
 use lucid_core::FunDef;
 use std::alloc::Global;
 
-/// The position of an inlined body: the arrays passed for its array parameters, the number of its first local, and the functions before
-/// it.
-#[derive(Clone, Copy)]
-pub struct Site<'a> {
-    pub alloc: Global,
-    pub arrays: &'a [u32],
-    pub first: u32,
-    pub funs: &'a [FunDef],
+/// The number of a local of the body as one of the handler, in which the body's begin at `first`. No number exceeds 32 bits.
+pub fn shifted(first: u32, local: u32) -> Result<u32, Memory>
+    ensures { IfOk result (λ n. n ≡ first + local) }
+{
+    match first.checked_add(local) {
+        None => Err(Memory),
+        Some(n) => Ok(n),
+    }
+}
+
+/// The number of the next local behind `locals` others, if `more` locals have numbers of 32 bits.
+pub fn next_number(locals: usize, more: usize) -> Result<u32, Memory>
+    ensures next { IfOk result (λ n. n ≡ locals) }
+    ensures within { IfOk result (λ n. locals + more ≤ most) }
+{
+    match locals.checked_add(more) {
+        Some(all) if all <= u32::MAX as usize => Ok(number(locals)),
+        _ => Err(Memory),
+    }
 }
 
 /// A number of locals as the number of the next one.

@@ -1,6 +1,6 @@
 use Rattle.std.proofs.Common.{arith}
 use Rattle.std.proofs.lemmas.Grind.{common_steps}
-use Rattle.lucid_inline.proofs.Puts.{assigned_more}
+use Rattle.lucid_inline.proofs.GroupLemmas.{assigned_more}
 use Rattle.lucid_inline.proofs.group.hold.Goals as goal
 
 pub loop-e-preserved : goal.loop-e-preserved
