@@ -1,3 +1,8 @@
-pub mod BodiesLemmas
+mod BodiesLemmas
+mod BranchesLemmas
+mod EndsLemmas
+mod ExpressionsLemmas
 pub mod Fields
-pub mod Forms
+mod ListsLemmas
+mod StatementsLemmas
+mod TasksLemmas

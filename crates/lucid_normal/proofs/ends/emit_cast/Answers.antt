@@ -1,0 +1,18 @@
+use Rattle.std.proofs.Common.{◌∙◌, ap}
+use Rattle.lucid_code.specs.declared.op.Act.TheVariants as act
+use Rattle.lucid_normal_spec.specs.declared.env.Env.{Env}
+use Rattle.lucid_normal_spec.specs.declared.env.Typed.{Typed}
+use Rattle.lucid_normal_spec.specs.Translate.{emit}
+use Rattle.lucid_normal_steps.specs.Notes.{before}
+use Rattle.lucid_normal.specs.Bodies.{expressed, walk}
+use Rattle.lucid_normal.proofs.EndsLemmas.{stepped}
+use Rattle.lucid_normal.proofs.ends.emit_cast.Goals as goal
+
+pub returns : goal.returns
+returns c =
+    let a = c.args in
+    let s = walk a.machine.now in
+    let h = c.in_ok-machine.ensures in
+    stepped (λ v. v) (emit a.width (act.Cast c.needed-x.result.operand)) s c.as_slice.result.now c.as_slice.ensures c.in_ok-machine.field-0 h.value
+    _ h.env _ h.ops _ (ap (λ (e : Env). before a.machine.now.work.notes.items e.held) h.env)
+    ∙ ap (λ (z : Typed). expressed (emit a.width (act.Cast z.operand)) s) c.needed-x.ensures

@@ -1,0 +1,17 @@
+// The state of a walk over a body between two tasks.
+use lucid_base::Items;
+use lucid_code::Literal;
+use lucid_normal_spec::{Env, Typed};
+use lucid_normal_steps::Work;
+use std::alloc::Global;
+
+/// A walk over a body: the guard of all operations of the current branch, the output and the environment so far, and the value of the
+/// expression that ended last.
+#[derive(Drop)]
+pub struct Machine {
+    pub alloc: Global,
+    pub guard: Items<Literal>,
+    pub work: Work,
+    pub env: Env,
+    pub value: Option<Typed>,
+}
