@@ -5,3 +5,4 @@ mod ExpressionsLemmas
 mod GroupLemmas
 mod StackLemmas
 mod StatementsLemmas
+mod WidthsLemmas

@@ -1,3 +1,4 @@
 pub mod Bodies
 pub mod Refusals
 pub mod Sites
+pub mod Widths

@@ -40,7 +40,7 @@ fn widths(alloc: Global, locals: &[Width], held: &[Expr]) -> Result<Items<Width>
 fn width_held(locals: &[Width], e: &Expr) -> Width
     ensures { result ≡ width_in locals.now e.now }
 {
-    match width_of(locals, &[], e) {
+    match width_of(locals, e) {
         None => Width::int(),
         Some(width) => width,
     }
