@@ -15,13 +15,8 @@ from rowfile import Row
 from .rows import fill, read_all
 
 SMALL_STACKS = 1024, 288  # KiB
-# Rows that need more: the flat form of each nests thousands deep, or the words of the call take a quarter of the stack.
-LARGE = {
-    "a chain of 1,700 functions that do nothing, placed",
-    "a chain of 2,100 functions that do nothing, placed",
-    "40 functions with calls 62 deep, the last of the one before, placed",
-    "an event with 30,000 arguments",
-}
+# Its words take a quarter of the larger stack.
+LARGE = "an event with 30,000 arguments"
 
 
 def run(group: Group) -> None:
@@ -45,7 +40,7 @@ def line_of(group: Group, spent: Path, row: Row) -> List[object]:
     it = measure(spent, call, folder)
     group.check(f"tests/deep.rows:{row.line}: {row.title}", row.holds(it.ended), it.ended)
     for stack in SMALL_STACKS:
-        if row.title not in LARGE:
+        if row.title != LARGE:
             small = measure(spent, ["/bin/sh", "-c", f'ulimit -s {stack}; exec "$0" "$@"', *call], folder).ended
             group.check(f"tests/deep.rows:{row.line}: {row.title}: the same on a stack of {stack} KiB", small == it.ended, small)
     words = " ".join(row.words)[:40]
