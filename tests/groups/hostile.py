@@ -6,15 +6,16 @@ that grows faster than the bound allows. The gate makes only inputs that take le
 Sees no shapes that are not below. Names that collide in a hash table are in the group `collisions`; `names` and `keys` are the hardest
 for ordered maps.
 
-Seen to fail: statements of a block that are each kept in a list with room for four (238 MB for 1 MiB of assignments).
+Seen to fail: statements of a block that are each kept in a list with room for four (238 MB for 1 MiB of assignments); contested literals
+that are compared with all literals of the other row (a growth of 2.8 for 8 matches of 2 behind 480 tests).
 """
 from __future__ import annotations
 
 from dataclasses import dataclass
 from pathlib import Path
-from typing import Callable, List, Tuple, Union
+from typing import Callable, List, Optional, Tuple, Union
 
-from harness import Group, Spent, best, compile_c, measure, table
+from harness import Group, Spent, compile_c, measure, table
 from rowfile import spelled_out
 
 BIG = '{"stages":32,"tables":64,"rows":1024,"bits":1048576,"arrays":64,"arms":64}'
@@ -114,8 +115,8 @@ class Shape:
         return [(name, spelled_out(texts[name].replace("@", str(size)))) for name in texts if name in self.words]
 
 
-# How often a call beyond its bound is called again.
-AGAIN = 5
+# How often a call beyond its bound is made.
+TURNS = 12
 # The bounds on a processor, about twice the seconds and the memory that were measured. Lower them as the program gets quicker.
 SHAPES = {
     "8 matches of 4 behind 20 tests": Shape(lambda n: guarded(n, 4), LAYOUT, 20, 0.5, 20, True, growth=2.3),
@@ -162,28 +163,38 @@ def run(group: Group) -> None:
 
 
 def spend(group: Group, spent: Path, shape: Shape, size: int, seconds: int) -> Tuple[Spent, int]:
-    """Writes the files of a shape at a size, and measures its call; also returns the bytes.
-
-    A quick call is the quickest of three. One beyond its bound is called again, up to five times, since a busy machine makes calls slower.
-    """
+    """Writes the files of a shape at a size, and measures its call; also returns the bytes."""
     files = shape.files(size)
     for name, text in files:
         group.file(name, text)
-    words = [group.options.program, *shape.words]
-    took = [measure(spent, words, group.room, seconds)]
-    if took[0].seconds < 2:
-        took.append(best(spent, words, 2, group.room, seconds))
-    while len(took) <= AGAIN and shape.seconds < min(it.seconds for it in took) < seconds:
-        took.append(measure(spent, words, group.room, seconds))
-    return min(took, key=lambda it: it.seconds), sum(len(text) for _, text in files)
+    return measure(spent, [group.options.program, *shape.words], group.room, seconds), sum(len(text) for _, text in files)
+
+
+def spend_often(group: Group, spent: Path, shape: Shape, seconds: int, with_half: bool) -> Tuple[Optional[Spent], Spent, int]:
+    """The quickest calls of a shape at half and at full size, and the bytes at full size.
+
+    A machine may be slow for some seconds, so the calls are made in turn, and quick ones more often. As long as one is beyond a bound there
+    are more turns, up to twelve.
+    """
+    halves: List[Spent] = []
+    wholes: List[Spent] = []
+    while True:
+        if with_half:
+            halves.append(spend(group, spent, shape, shape.size // 2, seconds)[0])
+        took, size = spend(group, spent, shape, shape.size, seconds)
+        wholes.append(took)
+        half = min(halves, key=lambda it: it.seconds) if halves else None
+        whole = min(wholes, key=lambda it: it.seconds)
+        is_beyond = whole.seconds > shape.seconds or (half is not None and whole.seconds > shape.growth * half.seconds)
+        enough = TURNS if is_beyond else 1 + min(8, int(2 / max(whole.seconds, 0.01)))
+        if len(wholes) >= enough or whole.seconds >= seconds:
+            return half, whole, size
 
 
 def line_of(group: Group, spent: Path, name: str, shape: Shape) -> List[object]:
     limit = int(4 * shape.seconds) + 10
-    half, growth = None, 0.0
-    if group.options.whole or group.options.only:
-        half, _ = spend(group, spent, shape, shape.size // 2, limit)
-    whole, size = spend(group, spent, shape, shape.size, limit)
+    half, whole, size = spend_often(group, spent, shape, limit, bool(group.options.whole or group.options.only))
+    growth = 0.0
     group.check(f"{name}: ends with {shape.status}", whole.ended.status == shape.status, whole.ended)
     group.check(f"{name}: at most {shape.seconds} s", whole.seconds <= shape.seconds, whole.seconds)
     group.check(f"{name}: at most {shape.megabytes} MB", whole.megabytes <= shape.megabytes, whole.megabytes)
