@@ -69,27 +69,24 @@ module _ (s : Walk) (flag : Bool) (t : Typed) (ss ts : List Stmt) (begun : Begun
   abbrev test : Translation ℕ
   test = bit_field flag t.operand t
 
-  pub chooses : (c : ℕ) → c ≡ (test s.env).value → (there guard outer : List Literal) → there ≡ s.guard →
-      guard ≡ there ++ is c 1 ∷ [] → outer ≡ s.guard → (env : Env) → env ≡ (test s.env).env →
-      env ≡ record env { answer = begun.answer; slot = begun.slot; place = begun.place } →
-      (ops : List Op) → ops ≡ added there s.ops (test s.env).ops → (notes : List Note) → notes ≡ [] →
+  pub chooses : (c : ℕ) → c ≡ (test s.env).value → (guard outer : List Literal) → guard ≡ s.guard ++ is c 1 ∷ [] → outer ≡ s.guard →
+      (env : Env) → env ≡ (test s.env).env → env ≡ record env { answer = begun.answer; slot = begun.slot; place = begun.place } →
+      (ops : List Op) → ops ≡ added s.guard s.ops (test s.env).ops → (notes : List Note) → notes ≡ [] →
       turned begun c outer ts (finished (body_code ss) (record s { guard = guard; ops = ops; env = env; was = before notes env.held }))
       ≡ chosen flag ss ts s
   unfolding ended chosen
-  chooses c c_is there guard outer there_is guard_is outer_is env env_is begun_is ops ops_is notes notes_is =
+  chooses c c_is guard outer guard_is outer_is env env_is begun_is ops ops_is notes notes_is =
       let b = test s.env in
       let after = ended (λ _. s.value) test s in
       let next = branch (body_code ss) (body_code ts) in
-      let here : ops ≡ added s.guard s.ops b.ops = ops_is ∙ ap (λ (g : List Literal). added g s.ops b.ops) there_is in
-      let within : guard ≡ s.guard ++ is c 1 ∷ [] = guard_is ∙ ap (λ (g : List Literal). g ++ is c 1 ∷ []) there_is in
       let back : before begun.notes.items b.env.held ≡ s.was =
       ap (before begun.notes.items) (bit_held flag t.operand t s.env) ∙ sym notes_are in
       let begins : b.env ≡ record b.env { answer = begun.answer; slot = begun.slot; place = begun.place } =
       subst (λ (e : Env). e ≡ record e { answer = begun.answer; slot = begun.slot; place = begun.place }) env_is begun_is in
       ap₂ (λ (g : List Literal) (e : Env). turned begun c outer ts (finished (body_code ss)
-      (record s { guard = g; ops = ops; env = e; was = before notes e.held }))) within env_is
+      (record s { guard = g; ops = ops; env = e; was = before notes e.held }))) guard_is env_is
       ∙ ap₂ (λ (o : List Op) (ns : List Note). turned begun c outer ts (finished (body_code ss)
-      (record s { guard = s.guard ++ is c 1 ∷ []; ops = o; env = b.env; was = before ns b.env.held }))) here notes_is
+      (record s { guard = s.guard ++ is c 1 ∷ []; ops = o; env = b.env; was = before ns b.env.held }))) ops_is notes_is
       ∙ ap (λ (g : List Literal). turned begun c g ts (finished (body_code ss)
       (record after { guard = s.guard ++ is c 1 ∷ []; was = b.env.held }))) outer_is
       ∙ branched after c ss ts begun back begins
@@ -98,19 +95,17 @@ module _ (s : Walk) (flag : Bool) (t : Typed) (ss ts : List Stmt) (begun : Begun
       ∙ ap (λ (x : Typed). finished (bit_field flag x.operand x >>= next) s) t_is
 
 -- The walk where the second branch begins.
-pub turns : (s : Walk) (begun : Begun) (c : ℕ) (outer : List Literal) (ts : List Stmt) (there guard : List Literal) → there ≡ outer →
-    guard ≡ there ++ is c 0 ∷ [] → (env : Env) →
-    env ≡ record s.env { held = s.was; answer = begun.answer; slot = begun.slot; place = begun.place } →
+pub turns : (s : Walk) (begun : Begun) (c : ℕ) (outer : List Literal) (ts : List Stmt) (guard : List Literal) → guard ≡ outer ++ is c 0 ∷ [] →
+    (env : Env) → env ≡ record s.env { held = s.was; answer = begun.answer; slot = begun.slot; place = begun.place } →
     (ops : List Op) → ops ≡ s.ops → (notes : List Note) → notes ≡ [] →
     (earlier : List Note) → earlier ≡ begun.notes.items → (first : Ended) → ends_at s.was first ≡ ends_of s.env →
     joined c outer earlier (ends_at (finished (body_code ts) (record s { guard = guard; ops = ops; env = env; was = before notes env.held })).was first)
     (finished (body_code ts) (record s { guard = guard; ops = ops; env = env; was = before notes env.held }))
     ≡ turned begun c outer ts s
 unfolding ended turned
-turns s begun c outer ts there guard there_is guard_is env env_is ops ops_is notes notes_is earlier earlier_is first first_is =
-    let within : guard ≡ outer ++ is c 0 ∷ [] = guard_is ∙ ap (λ (g : List Literal). g ++ is c 0 ∷ []) there_is in
+turns s begun c outer ts guard guard_is env env_is ops ops_is notes notes_is earlier earlier_is first first_is =
     let walked : record s { guard = guard; ops = ops; env = env; was = before notes env.held } ≡ turned_back begun c outer s =
-    ap₂ (λ (g : List Literal) (e : Env). record s { guard = g; ops = ops; env = e; was = before notes e.held }) within env_is
+    ap₂ (λ (g : List Literal) (e : Env). record s { guard = g; ops = ops; env = e; was = before notes e.held }) guard_is env_is
     ∙ ap₂ (λ (o : List Op) (ns : List Note). record (turned_back begun c outer s) { ops = o; was = before ns s.was }) ops_is notes_is in
     ap₂ (λ (w : Walk) (ns : List Note). joined c outer ns (ends_at (finished (body_code ts) w).was first) (finished (body_code ts) w))
     walked earlier_is

@@ -15,15 +15,14 @@ use Rattle.lucid_normal_spec.specs.declared.env.Env.{Env}
 use Rattle.lucid_normal_spec.specs.declared.env.Typed.{Typed}
 use Rattle.lucid_normal_spec.specs.Translate.{Translation, touch_made}
 
-pub stepped : {A : Type 0} (view : A → Option Typed) (t : Translation A) (s : Walk) (guard : List Literal) → guard ≡ s.guard →
-    (v : Option Typed) → v ≡ view (t s.env).value → (env : Env) → env ≡ (t s.env).env →
-    (ops : List Op) → ops ≡ added guard s.ops (t s.env).ops → (was : List (Option Typed)) → was ≡ s.was →
+pub stepped : {A : Type 0} (view : A → Option Typed) (t : Translation A) (s : Walk) (v : Option Typed) →
+    v ≡ view (t s.env).value → (env : Env) → env ≡ (t s.env).env → (ops : List Op) →
+    ops ≡ added s.guard s.ops (t s.env).ops → (was : List (Option Typed)) → was ≡ s.was →
     record s { ops = ops; env = env; was = was; value = v } ≡ ended view t s
 unfolding ended
-stepped view t s guard guard_is v v_is env env_is ops ops_is was was_is =
+stepped view t s v v_is env env_is ops ops_is was was_is =
     let a = t s.env in
-    let here : ops ≡ added s.guard s.ops a.ops = ops_is ∙ ap (λ (g : List Literal). added g s.ops a.ops) guard_is in
-    ap₂ (λ (o : List Op) (e : Env). record s { ops = o; env = e; was = was; value = v }) here env_is
+    ap₂ (λ (o : List Op) (e : Env). record s { ops = o; env = e; was = was; value = v }) ops_is env_is
     ∙ ap₂ (λ (w : List (Option Typed)) (x : Option Typed). record s { ops = added s.guard s.ops a.ops; env = a.env; was = w; value = x })
     was_is v_is
 
@@ -46,15 +45,14 @@ leaves caller s v v_is env env_is ops ops_is notes notes_is =
     ap₂ (λ (o : List Op) (e : Env). record s { ops = o; env = e; was = before notes e.held; value = v }) ops_is env_is
     ∙ ap₂ (λ (ns : List Note) (x : Option Typed). record s { env = after; was = before ns s.was; value = x }) notes_is v_is
 
-pub joins_at : (c : ℕ) (outer : List Literal) (notes : List Note) (first : Ends) (s : Walk) (guard : List Literal) → guard ≡ outer →
-    (env : Env) → env ≡ env_of c s.was first s.env → (ops : List Op) → ops ≡ added guard s.ops (ops_of c s.was first s.env) →
+pub joins_at : (c : ℕ) (outer : List Literal) (notes : List Note) (first : Ends) (s : Walk) (env : Env) →
+    env ≡ env_of c s.was first s.env → (ops : List Op) → ops ≡ added outer s.ops (ops_of c s.was first s.env) →
     (was : List (Option Typed)) → was ≡ before notes s.was →
     record s { guard = outer; ops = ops; env = env; was = was; value = None } ≡ joined c outer notes first s
 unfolding joined
-joins_at c outer notes first s guard guard_is env env_is ops ops_is was was_is =
+joins_at c outer notes first s env env_is ops ops_is was was_is =
     let more = ops_of c s.was first s.env in
-    let here : ops ≡ added outer s.ops more = ops_is ∙ ap (λ (g : List Literal). added g s.ops more) guard_is in
-    ap₂ (λ (o : List Op) (e : Env). record s { guard = outer; ops = o; env = e; was = was; value = None }) here env_is
+    ap₂ (λ (o : List Op) (e : Env). record s { guard = outer; ops = o; env = e; was = was; value = None }) ops_is env_is
     ∙ ap (λ (w : List (Option Typed)). record s {
       guard = outer;
       ops = added outer s.ops more;

@@ -39,7 +39,7 @@ fn begin_walk(context: Context, work: &mut Work, env: &mut Env) -> Result<Machin
     ensures work { IfOk result (λ m. m.work ≡ work.old) }
 {
     let alloc = context.alloc;
-    let guard = Items::from_slice(alloc, context.guard)?;
+    let guard = context.guard.share()?;
     let no_work = Work {
         ops: Vec::new(alloc),
         notes: Vec::new(alloc),

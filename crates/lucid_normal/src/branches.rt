@@ -6,8 +6,8 @@ ghost use Rattle.lucid_normal_join.specs.Branches.{ends_at};
 use crate::machine::Machine;
 use crate::task::{End, Task};
 use crate::tasks::Tasks;
-use lucid_base::{Items, Memory};
-use lucid_code::Literal;
+use lucid_base::Memory;
+use lucid_code::Guard;
 use lucid_core::Stmt;
 use lucid_normal_join::{Begun, Turned, begin, join, turn};
 use lucid_normal_steps::{Context, bit, needed, within};
@@ -26,7 +26,7 @@ pub fn choose<'a>(
     let test = needed(machine.value);
     let context = Context {
         alloc: machine.alloc,
-        guard: machine.guard.as_slice(),
+        guard: &machine.guard,
     };
     let condition = bit(
         context,
@@ -53,14 +53,14 @@ pub fn turn_back<'a>(
     machine: &mut Machine,
     begun: Begun,
     condition: u32,
-    outer: Items<Literal>,
+    outer: Guard,
     no: &'a [Stmt],
 ) -> Result<(), Memory>
     ensures { OnOk result (after_all tasks.new (walk machine.new) ≡ after_all tasks.old (turned_by begun condition outer no.now (walk machine.old))) }
 {
     let context = Context {
         alloc: machine.alloc,
-        guard: outer.as_slice(),
+        guard: &outer,
     };
     machine.guard = within(context, condition, 0)?;
     let turned = turn(machine.alloc, &mut machine.work, &mut machine.env, begun)?;
@@ -77,14 +77,14 @@ pub fn join_branches(
     machine: &mut Machine,
     turned: Turned,
     condition: u32,
-    outer: Items<Literal>,
+    outer: Guard,
 ) -> Result<(), Memory>
     ensures { OnOk result (walk machine.new ≡ joined condition outer turned.notes.items (ends_at (walk machine.old).was turned.first) (walk machine.old)) }
 {
     machine.guard = outer;
     let context = Context {
         alloc: machine.alloc,
-        guard: machine.guard.as_slice(),
+        guard: &machine.guard,
     };
     join(
         context,

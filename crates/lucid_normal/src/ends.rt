@@ -75,7 +75,7 @@ fn emit_unary(machine: &mut Machine, op: UnOp) -> Result<(), Memory>
     let x = needed(machine.value);
     let context = Context {
         alloc: machine.alloc,
-        guard: machine.guard.as_slice(),
+        guard: &machine.guard,
     };
     machine.value = unary(context, &mut machine.work.ops, &mut machine.env, op, x)?;
     Ok(())
@@ -87,7 +87,7 @@ fn emit_binary(machine: &mut Machine, op: BinOp, x: Typed) -> Result<(), Memory>
     let y = needed(machine.value);
     let context = Context {
         alloc: machine.alloc,
-        guard: machine.guard.as_slice(),
+        guard: &machine.guard,
     };
     machine.value = binary(context, &mut machine.work.ops, &mut machine.env, op, x, y)?;
     Ok(())
@@ -99,7 +99,7 @@ fn emit_comparison(machine: &mut Machine, op: CmpOp, x: Typed) -> Result<(), Mem
     let y = needed(machine.value);
     let context = Context {
         alloc: machine.alloc,
-        guard: machine.guard.as_slice(),
+        guard: &machine.guard,
     };
     machine.value = compare(context, &mut machine.work.ops, &mut machine.env, op, x, y)?;
     Ok(())
@@ -111,7 +111,7 @@ fn emit_cast(machine: &mut Machine, width: Width) -> Result<(), Memory>
     let x = needed(machine.value);
     let context = Context {
         alloc: machine.alloc,
-        guard: machine.guard.as_slice(),
+        guard: &machine.guard,
     };
     machine.value = cast(context, &mut machine.work.ops, &mut machine.env, width, x)?;
     Ok(())
@@ -127,7 +127,7 @@ pub fn emit_hash(
 {
     let context = Context {
         alloc: machine.alloc,
-        guard: machine.guard.as_slice(),
+        guard: &machine.guard,
     };
     machine.value = hash(
         context,
@@ -146,7 +146,7 @@ fn emit_touch(machine: &mut Machine, t: &Touch, index: Typed, get_arg: Typed) ->
     let set_arg = needed(machine.value);
     let context = Context {
         alloc: machine.alloc,
-        guard: machine.guard.as_slice(),
+        guard: &machine.guard,
     };
     machine.value = call_array(
         context,
@@ -166,7 +166,7 @@ fn assign_local(machine: &mut Machine, local: u32) -> Result<(), Memory>
     let t = needed(machine.value);
     let context = Context {
         alloc: machine.alloc,
-        guard: machine.guard.as_slice(),
+        guard: &machine.guard,
     };
     assign(context, &mut machine.work, &mut machine.env, local, t)?;
     machine.value = None;
@@ -203,7 +203,7 @@ fn emit_event(
 {
     let context = Context {
         alloc: machine.alloc,
-        guard: machine.guard.as_slice(),
+        guard: &machine.guard,
     };
     send(
         context,
@@ -224,7 +224,7 @@ pub fn emit_print(machine: &mut Machine, form: u32, operands: Items<Operand>) ->
 {
     let context = Context {
         alloc: machine.alloc,
-        guard: machine.guard.as_slice(),
+        guard: &machine.guard,
     };
     say(
         context,

@@ -7,7 +7,7 @@ ghost use Rattle.lucid_normal_spec.specs.Translate.{body_code, guarded, is};
 
 use crate::bodies::block;
 use lucid_base::{Items, Memory, Width};
-use lucid_code::{Literal, Op, Operand};
+use lucid_code::{Guard, Literal, Op, Operand};
 use lucid_core::{EventDef, Flat, HandlerDef};
 use lucid_normal_spec::{Env, Typed};
 use lucid_normal_steps::{Context, Work};
@@ -60,11 +60,12 @@ fn with_handler(
         ops: built.ops,
         notes: Vec::new(alloc),
     };
-    let guard = [Literal {
+    let is_its_event = [Literal {
         field: 0,
         equal: true,
         value: handler.event as u64,
     }];
+    let guard = Guard::from_slice(alloc, &is_its_event)?;
     let context = Context {
         alloc,
         guard: &guard,

@@ -1,6 +1,6 @@
 // Lists of expressions, and the use of their operands: a hash, an event, a print or an inlined call.
 ghost use Rattle.std.specs.Prelude.{◌≡◌, [], ◌∷◌, ◌++◌, OnOk};
-ghost use Rattle.lucid_normal.specs.Bodies.{after_all, after_task, delay_last as delay_by, expressed, finished, inlined, listed, operand_of, sent_at, target_last as target_by, used, walk};
+ghost use Rattle.lucid_normal.specs.Bodies.{after_all, delay_last as delay_by, expressed, finished, inlined, listed, operand_of, sent_at, target_last as target_by, used, walk};
 ghost use Rattle.lucid_normal_spec.specs.Translate.{body_code, call_made};
 
 use crate::ends::{emit_hash, emit_print, target_of};

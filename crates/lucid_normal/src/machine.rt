@@ -1,6 +1,5 @@
 // The state of a walk over a body between two tasks.
-use lucid_base::Items;
-use lucid_code::Literal;
+use lucid_code::Guard;
 use lucid_normal_spec::{Env, Typed};
 use lucid_normal_steps::Work;
 use std::alloc::Global;
@@ -10,7 +9,7 @@ use std::alloc::Global;
 #[derive(Drop)]
 pub struct Machine {
     pub alloc: Global,
-    pub guard: Items<Literal>,
+    pub guard: Guard,
     pub work: Work,
     pub env: Env,
     pub value: Option<Typed>,

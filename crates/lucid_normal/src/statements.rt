@@ -1,6 +1,6 @@
 // Statements: each function translates a part of one, and pushes what remains.
 ghost use Rattle.std.specs.Prelude.{◌≡◌, [], OnOk};
-ghost use Rattle.lucid_normal_spec.specs.Translate.{body_code, return_none, stmt_code};
+ghost use Rattle.lucid_normal_spec.specs.Translate.{body_code, stmt_code};
 ghost use Rattle.lucid_normal.specs.Bodies.{after_all, finished, listed, walk};
 ghost use Rattle.lucid_normal.specs.declared.task.Purpose.TheVariants.{Gen};
 

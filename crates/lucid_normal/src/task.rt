@@ -1,6 +1,6 @@
 // What remains to be done of a walk over a body. Each task takes the value of the expression that ended last.
 use lucid_base::{BinOp, CmpOp, Items, UnOp, Width};
-use lucid_code::{Literal, Operand};
+use lucid_code::{Guard, Operand};
 use lucid_core::{Expr, Stmt, Touch};
 use lucid_normal_join::{Begun, Turned};
 use lucid_normal_spec::Typed;
@@ -43,7 +43,7 @@ pub enum Task<'a> {
     Turn {
         begun: Begun,
         condition: u32,
-        outer: Items<Literal>,
+        outer: Guard,
         no: &'a [Stmt],
     },
     /// The delay of an event is translated, its target is not.
@@ -96,7 +96,7 @@ pub enum End<'a> {
     Join {
         turned: Turned,
         condition: u32,
-        outer: Items<Literal>,
+        outer: Guard,
     },
 }
 

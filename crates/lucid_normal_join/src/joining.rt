@@ -228,7 +228,7 @@ fn move_both(
     put(
         Context {
             alloc,
-            guard: taken.as_slice(),
+            guard: &taken,
         },
         ops,
         at.level,
@@ -237,7 +237,7 @@ fn move_both(
     put(
         Context {
             alloc,
-            guard: other.as_slice(),
+            guard: &other,
         },
         ops,
         at.level,

@@ -9,7 +9,7 @@ ghost use Rattle.lucid_pass_rewrites.specs.Writers.{Tells};
 use crate::looks::{Looks, Now, looked_act};
 use crate::settle::settled;
 use crate::writers::writers_of;
-use lucid_base::{Items, Memory, Width};
+use lucid_base::{Memory, Width};
 use lucid_code::{Act, Op};
 use std::alloc::Global;
 
@@ -44,7 +44,7 @@ fn changed_op(alloc: Global, now: Now, op: &Op) -> Result<Op, Memory>
     ensures { IfOk result (λ new. new ≡ change_of now.entry.looks now.entry.widths.now (standing now.entry.done.now now.entry.ops.now) op.now) }
 {
     let looks = now.looks;
-    let guard = Items::from_slice(alloc, op.guard.as_slice())?;
+    let guard = op.guard.share()?;
     let act = looked_act(alloc, now, op.guard.as_slice(), &op.act)?;
     Ok(Op {
         guard,

@@ -1,5 +1,5 @@
-// Whether the literals of one guard are in another, and the length of the common beginning of two guards.
-ghost use Rattle.std.specs.Prelude.{◌≡◌, ◌≤◌, false, slice_get};
+// Whether the literals of one guard are in another, whether two guards are the same, and the length of their common beginning.
+ghost use Rattle.std.specs.Prelude.{◌≡◌, ◌≤◌, false, slice_get, IsTrue};
 ghost use Rattle.std.specs.Option.{option_map_or};
 ghost use Rattle.std.specs.List.{list_any};
 ghost use Rattle.lucid_pass_spec.specs.Looks.{same_literal, includes};
@@ -62,6 +62,13 @@ pub(crate) fn shared(a: &[Literal], b: &[Literal], most: usize) -> usize
         }
     }
     most
+}
+
+/// Returns whether two guards have the same literals in the same order.
+pub(crate) fn are_same(a: &[Literal], b: &[Literal]) -> bool
+    ensures { IsTrue result → a.now ≡ b.now }
+{
+    a.len() == b.len() && shared(a, b, a.len()) == a.len()
 }
 
 fn same_at(a: &[Literal], b: &[Literal], at: usize) -> bool

@@ -4,9 +4,9 @@ ghost use Rattle.lucid_pass_spec.specs.Direct.{direct_literal, direct_op, says};
 ghost use Rattle.lucid_pass_rewrites.specs.Comparisons.{direct_by};
 ghost use Rattle.lucid_pass_rewrites.specs.Trail.{Trail, TrailBefore, renewed, with_new};
 
-use crate::guards::{shared, stands};
-use lucid_base::{Items, Memory};
-use lucid_code::{Literal, Op};
+use crate::guards::{are_same, shared, stands};
+use lucid_base::Memory;
+use lucid_code::{Guard, Literal, Op};
 use lucid_pass_spec::Test;
 use std::alloc::Global;
 
@@ -21,7 +21,8 @@ pub(crate) fn directed(alloc: Global, table: &[Option<Test>], ops: &[Op]) -> Res
     let mut long = 0;
     for i in 0..ops.len() {
         long = turn(table, ops, i, long, &mut made, &mut ends)?;
-        new.push(directed_op(alloc, made.as_slice(), &ops[i])?)?;
+        let op = directed_op(alloc, new.last(), made.as_slice(), &ops[i])?;
+        new.push(op)?;
     }
     Ok(new)
 }
@@ -86,14 +87,32 @@ fn push_new(made: &mut Vec<Literal>, literal: Literal) -> Result<(), Memory>
     Ok(())
 }
 
-fn directed_op(alloc: Global, guard: &[Literal], op: &Op) -> Result<Op, Memory>
-    ensures { IfOk result (λ new. new ≡ record { guard = guard.now; level = op.now.level; act = op.now.act }) }
+/// The operation with these literals as its guard, `before` is the one before it.
+fn directed_op(
+    alloc: Global,
+    before: Option<&Op>,
+    literals: &[Literal],
+    op: &Op,
+) -> Result<Op, Memory>
+    ensures { IfOk result (λ new. new ≡ record { guard = literals.now; level = op.now.level; act = op.now.act }) }
 {
     Ok(Op {
-        guard: Items::from_slice(alloc, guard)?,
+        guard: guard_of(alloc, before, literals)?,
         level: op.level,
         act: op.act.copy(alloc)?,
     })
+}
+
+/// Returns the guard of these literals: that of the operation before if it has the same.
+fn guard_of(alloc: Global, before: Option<&Op>, literals: &[Literal]) -> Result<Guard, Memory>
+    ensures { IfOk result (λ guard. guard ≡ literals.now) }
+{
+    if let Some(op) = before
+        && are_same(op.guard.as_slice(), literals)
+    {
+        return op.guard.share();
+    }
+    Guard::from_slice(alloc, literals)
 }
 
 fn directed_literal(table: &[Option<Test>], l: Literal) -> Literal

@@ -3,7 +3,7 @@
 // ask that a field is no value, contradict themselves or say a thing twice, and much is computed that no operation reads.
 use crate::draws::Draws;
 use lucid_base::{ArrayDef, Bits, Id, Items, Memory, Width};
-use lucid_code::{Act, Code, Inputs, Literal, Op, Operand};
+use lucid_code::{Act, Code, Guard, Inputs, Literal, Op, Operand};
 use std::alloc::Global;
 
 /// That the event is the first.
@@ -83,18 +83,18 @@ impl<'a> Draft<'a> {
     }
 
     /// A guard that has the literals of a list.
-    fn guard(&mut self, alloc: Global, given: &[Literal]) -> Result<Items<Literal>, Memory> {
-        let mut guard = Items::from_slice(alloc, given)?;
+    fn guard(&mut self, alloc: Global, given: &[Literal]) -> Result<Guard, Memory> {
+        let mut literals = Items::from_slice(alloc, given)?;
         for _turn in 0..self.draws.below(2) {
             let literal = self.literal();
-            guard.push(literal)?;
+            literals.push(literal)?;
             match self.draws.below(12) {
-                0 => guard.push(self.opposed(literal))?,
-                1 => guard.push(literal)?,
+                0 => literals.push(self.opposed(literal))?,
+                1 => literals.push(literal)?,
                 _ => {}
             }
         }
-        Ok(guard)
+        Guard::new(alloc, literals)
     }
 
     fn act(&mut self, alloc: Global, target: Target) -> Result<Act, Memory> {

@@ -1,6 +1,6 @@
 // Code that is worked by hand, as constants: for each operation its guard, its level and its act. Field 3 is the one argument.
 use lucid_base::{ArrayDef, BinOp, CmpOp, Id, Items, MemAlu, MemArg, MemSide, Memory, UnOp, Width};
-use lucid_code::{Act, Code, Inputs, Literal, Op, Operand};
+use lucid_code::{Act, Code, Guard, Inputs, Literal, Op, Operand};
 use std::alloc::Global;
 
 const INPUTS: Inputs = Inputs {
@@ -212,7 +212,7 @@ fn act(alloc: Global, does: Does, cell: Width) -> Result<Act, Memory> {
 
 fn put(alloc: Global, ops: &mut Vec<Op>, line: Line, cell: Width) -> Result<(), Memory> {
     let (guard, level, does) = line;
-    let guard = Items::from_slice(alloc, guard)?;
+    let guard = Guard::from_slice(alloc, guard)?;
     let act = act(alloc, does, cell)?;
     ops.push(Op { guard, level, act })?;
     Ok(())

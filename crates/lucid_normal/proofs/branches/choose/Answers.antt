@@ -21,7 +21,7 @@ returns c =
     ∙ ap (after_all a.tasks.now)
     (chooses (walk m) a.needs_move c.needed-test.result a.yes.now a.no.now c.begin-begun.result c.needed-test.ensures
     (ap (λ (ns : List Note). before ns m.env.held) (sym b.notes))
-    c.in_ok-condition.condition e.value c.as_slice.result.now c.replace-outer.new.dest c.replace-outer.result c.as_slice.ensures
+    c.in_ok-condition.condition e.value c.replace-outer.new.dest c.replace-outer.result
     (c.replace-outer.ensures.after ∙ c.in_ok-inner.ensures) c.replace-outer.ensures.value
     _ e.env b.env _ (b.ops ∙ e.ops) _ b.begins))
     c.push-2.ensures

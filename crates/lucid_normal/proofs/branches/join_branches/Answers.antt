@@ -8,5 +8,5 @@ returns c =
     let a = c.args in
     let s = walk a.machine.now in
     let j = c.in_ok-join.ensures in
-    joins_at a.condition a.outer a.turned.notes.items (ends_at s.was a.turned.first) s c.as_slice.result.now c.as_slice.ensures
+    joins_at a.condition a.outer a.turned.notes.items (ends_at s.was a.turned.first) s
     _ j.env _ j.ops _ j.back

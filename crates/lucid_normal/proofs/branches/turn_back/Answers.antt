@@ -16,6 +16,6 @@ returns c =
     (λ h. ap (λ (us : List Task). after_all us n) h
     ∙ ap (λ (us : List Task). after_all us (after_task (Block a.no) n)) c.in_ok-push.ensures
     ∙ ap (after_all a.tasks.now)
-    (turns (walk m) a.begun a.condition a.outer a.no.now c.as_slice.result.now c.in_ok-machine.field-0 c.as_slice.ensures
-    c.in_ok-machine.ensures _ t.env _ t.ops _ t.begins _ t.notes c.in_ok-turned.turned.first t.first))
+    (turns (walk m) a.begun a.condition a.outer a.no.now c.in_ok-machine.field-0 c.in_ok-machine.ensures
+    _ t.env _ t.ops _ t.begins _ t.notes c.in_ok-turned.turned.first t.first))
     c.push-2.ensures

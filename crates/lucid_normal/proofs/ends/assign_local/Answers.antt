@@ -10,6 +10,6 @@ returns c =
     let a = c.args in
     let s = walk a.machine.now in
     let h = c.in_ok-assign.ensures in
-    stepped (λ _. None) (assign a.local c.needed-t.result) s c.as_slice.result.now c.as_slice.ensures None refl
+    stepped (λ _. None) (assign a.local c.needed-t.result) s None refl
     _ h.env _ h.ops _ h.back
     ∙ ap (λ (z : Typed). finished (assign a.local z) s) c.needed-t.ensures

@@ -11,6 +11,6 @@ returns c =
     let a = c.args in
     let s = walk a.machine.now in
     let h = c.in_ok-machine.ensures in
-    stepped (λ v. v) (binary a.op a.x c.needed-y.result) s c.as_slice.result.now c.as_slice.ensures c.in_ok-machine.field-0 h.value
+    stepped (λ v. v) (binary a.op a.x c.needed-y.result) s c.in_ok-machine.field-0 h.value
     _ h.env _ h.ops _ (ap (λ (e : Env). before a.machine.now.work.notes.items e.held) h.env)
     ∙ ap (λ (z : Typed). expressed (binary a.op a.x z) s) c.needed-y.ensures

@@ -10,5 +10,5 @@ returns c =
     let a = c.args in
     let s = walk a.machine.now in
     let h = c.in_ok-send.ensures in
-    stepped (λ _. None) (sent a.event a.args a.delay a.to) s c.as_slice.result.now c.as_slice.ensures None refl
+    stepped (λ _. None) (sent a.event a.args a.delay a.to) s None refl
     _ h.env _ h.ops _ (ap (λ (e : Env). before a.machine.now.work.notes.items e.held) h.env)

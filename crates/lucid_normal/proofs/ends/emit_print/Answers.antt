@@ -12,5 +12,5 @@ returns c =
     let a = c.args in
     let s = walk a.machine.now in
     let h = c.in_ok-say.ensures in
-    stepped (λ _. None) (out_made (λ slot. act.Say slot a.form a.operands)) s c.as_slice.result.now c.as_slice.ensures None refl
+    stepped (λ _. None) (out_made (λ slot. act.Say slot a.form a.operands)) s None refl
     _ h.env _ h.ops _ (ap (λ (e : Env). before a.machine.now.work.notes.items e.held) h.env)

@@ -12,7 +12,7 @@ returns c =
     let s = walk a.machine.now in
     let h = c.in_ok-machine.ensures in
     let x = c.needed-set_arg.result in
-    stepped (λ v. v) (touched a.t.now (a.index, (a.get_arg, x))) s c.as_slice.result.now c.as_slice.ensures c.in_ok-machine.field-0 h.value
+    stepped (λ v. v) (touched a.t.now (a.index, (a.get_arg, x))) s c.in_ok-machine.field-0 h.value
     _ h.env _ h.ops _
     (ap (λ (e : Env). before a.machine.now.work.notes.items e.held) h.env
     ∙ ap (before a.machine.now.work.notes.items) (touched_held a.t.now (a.index, (a.get_arg, x)) a.machine.now.env))

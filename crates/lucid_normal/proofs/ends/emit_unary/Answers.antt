@@ -13,6 +13,6 @@ returns c =
     let a = c.args in
     let s = walk a.machine.now in
     let h = c.in_ok-machine.ensures in
-    stepped (λ v. v) (emit c.needed-x.result.width (act.Un a.op c.needed-x.result.width c.needed-x.result.operand)) s c.as_slice.result.now c.as_slice.ensures c.in_ok-machine.field-0 h.value
+    stepped (λ v. v) (emit c.needed-x.result.width (act.Un a.op c.needed-x.result.width c.needed-x.result.operand)) s c.in_ok-machine.field-0 h.value
     _ h.env _ h.ops _ (ap (λ (e : Env). before a.machine.now.work.notes.items e.held) h.env)
     ∙ ap (λ (z : Typed). expressed (emit z.width (act.Un a.op z.width z.operand)) s) c.needed-x.ensures

@@ -10,5 +10,5 @@ returns c =
     let a = c.args in
     let s = walk a.machine.now in
     let h = c.in_ok-answer_nothing.ensures in
-    stepped (λ _. None) return_none s s.guard refl None refl
+    stepped (λ _. None) return_none s None refl
     _ h.env _ (h.ops ∙ sym (append-nil s.ops)) _ h.back

@@ -11,6 +11,6 @@ returns c =
     let a = c.args in
     let s = walk a.machine.now in
     let h = c.in_ok-answer.ensures in
-    stepped (λ _. None) (return_made c.needed-t.result) s s.guard refl None refl
+    stepped (λ _. None) (return_made c.needed-t.result) s None refl
     _ h.env _ (h.ops ∙ sym (append-nil s.ops)) _ h.back
     ∙ ap (λ (z : Typed). finished (return_made z) s) c.needed-t.ensures
