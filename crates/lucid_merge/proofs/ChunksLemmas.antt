@@ -55,18 +55,18 @@ inner (suc a) b (suc m) (x ∷ xs) h = inner a b m xs (omega (arith, h))
 
 pub next : (k to : ℕ) (rows : List Signed) → k < to → between k to rows ≡ chunk k rows ++ between (k + 1) to rows
 next k to rows h =
-    sym (take-append-drop 16 (between k to rows))
-    ∙ ap (λ l. l ++ drop 16 (between k to rows)) (inner (k * 16) 16 (to * 16) rows (omega (arith, h)))
-    ∙ ap (λ l. chunk k rows ++ l) (drop-drop 16 (k * 16) (take (to * 16) rows) ∙ ap (λ n. drop n (take (to * 16) rows)) (same k))
+    sym (take-append-drop 8 (between k to rows))
+    ∙ ap (λ l. l ++ drop 8 (between k to rows)) (inner (k * 8) 8 (to * 8) rows (omega (arith, h)))
+    ∙ ap (λ l. chunk k rows ++ l) (drop-drop 8 (k * 8) (take (to * 8) rows) ∙ ap (λ n. drop n (take (to * 8) rows)) (same k))
   where
-    same : (k : ℕ) → k * 16 + 16 ≡ (k + 1) * 16
+    same : (k : ℕ) → k * 8 + 8 ≡ (k + 1) * 8
     same k = omega arith
 
 pub ended : (k to : ℕ) (rows : List Signed) → to ≤ k → between k to rows ≡ []
-ended k to rows h = drop_of_length-le (take (to * 16) rows) (omega (arith, length-take (to * 16) rows, h))
+ended k to rows h = drop_of_length-le (take (to * 8) rows) (omega (arith, length-take (to * 8) rows, h))
 
-pub cut : (from : ℕ) (rows : List Signed) → rows ≡ between 0 from rows ++ between from (length rows / 16 + 1) rows
-cut from rows = sym (ap (λ l. take (from * 16) rows ++ drop (from * 16) l) (take_all ((length rows / 16 + 1) * 16) rows (omega arith)) ∙ take-append-drop (from * 16) rows)
+pub cut : (from : ℕ) (rows : List Signed) → rows ≡ between 0 from rows ++ between from (length rows / 8 + 1) rows
+cut from rows = sym (ap (λ l. take (from * 8) rows ++ drop (from * 8) l) (take_all ((length rows / 8 + 1) * 8) rows (omega arith)) ∙ take-append-drop (from * 8) rows)
 
 -- ---- one row more
 
@@ -100,57 +100,57 @@ no_bits s =
 -- the bits with those of row number n, by the cases of its chunk
 module _ (commons : List ℕ) (n sign : ℕ) where
   abbrev old : ℕ
-  old = slice_index commons (n / 16)
+  old = slice_index commons (n / 8)
 
   abbrev new : Bool → Bool → List ℕ
-  new a b = if a then slice_set commons (n / 16) (bit_and old sign) else (if b then commons ++ sign ∷ [] else commons)
+  new a b = if a then slice_set commons (n / 8) (bit_and old sign) else (if b then commons ++ sign ∷ [] else commons)
 
   abbrev is_old : Bool
-  is_old = nat_lt (n / 16) (length commons)
+  is_old = nat_lt (n / 8) (length commons)
 
   abbrev is_next : Bool
-  is_next = nat_eq (n % 16) 0 && nat_eq (n / 16) (length commons)
+  is_next = nat_eq (n % 8) 0 && nat_eq (n / 8) (length commons)
 
-  set_same : (k : ℕ) → k ≡ n / 16 → n / 16 < length commons → slice_index (slice_set commons (n / 16) (bit_and old sign)) k ≡ bit_and old sign
-  set_same k e h = ap (slice_index (slice_set commons (n / 16) (bit_and old sign))) e ∙ get_or-set_same commons (n / 16) (bit_and old sign) 0 h
+  set_same : (k : ℕ) → k ≡ n / 8 → n / 8 < length commons → slice_index (slice_set commons (n / 8) (bit_and old sign)) k ≡ bit_and old sign
+  set_same k e h = ap (slice_index (slice_set commons (n / 8) (bit_and old sign))) e ∙ get_or-set_same commons (n / 8) (bit_and old sign) 0 h
 
-  parts_of : is_next ≡ true → (n % 16 ≡ 0) × (n / 16 ≡ length commons)
+  parts_of : is_next ≡ true → (n % 8 ≡ 0) × (n / 8 ≡ length commons)
   parts_of f =
-      let parts = and_parts (nat_eq (n % 16) 0) (nat_eq (n / 16) (length commons)) f in
-      (eqb-true (n % 16) 0 parts.0, eqb-true (n / 16) (length commons) parts.1)
+      let parts = and_parts (nat_eq (n % 8) 0) (nat_eq (n / 8) (length commons)) f in
+      (eqb-true (n % 8) 0 parts.0, eqb-true (n / 8) (length commons) parts.1)
 
-  fewer : (a b : Bool) → is_old ≡ a → is_next ≡ b → (k : ℕ) → k * 16 < n → (x : ℕ) → bit_or x (slice_index commons k) ≡ x → bit_or x (slice_index (new a b) k) ≡ x
-  fewer true b e f k lt x h = by (nat_eq k (n / 16)) refl
+  fewer : (a b : Bool) → is_old ≡ a → is_next ≡ b → (k : ℕ) → k * 8 < n → (x : ℕ) → bit_or x (slice_index commons k) ≡ x → bit_or x (slice_index (new a b) k) ≡ x
+  fewer true b e f k lt x h = by (nat_eq k (n / 8)) refl
     where
-      by : (c : Bool) → nat_eq k (n / 16) ≡ c → bit_or x (slice_index (slice_set commons (n / 16) (bit_and old sign)) k) ≡ x
-      by true g = ap (bit_or x) (set_same k (eqb-true k (n / 16) g) (ltb-true (n / 16) (length commons) e)) ∙ fewer_bits x old sign (ap (λ j. bit_or x (slice_index commons j)) (sym (eqb-true k (n / 16) g)) ∙ h)
-      by false g = ap (bit_or x) (get_or-set_other commons (n / 16) k (bit_and old sign) 0 (λ i. true≢false (sym (eq-eqb k (n / 16) i) ∙ g))) ∙ h
+      by : (c : Bool) → nat_eq k (n / 8) ≡ c → bit_or x (slice_index (slice_set commons (n / 8) (bit_and old sign)) k) ≡ x
+      by true g = ap (bit_or x) (set_same k (eqb-true k (n / 8) g) (ltb-true (n / 8) (length commons) e)) ∙ fewer_bits x old sign (ap (λ j. bit_or x (slice_index commons j)) (sym (eqb-true k (n / 8) g)) ∙ h)
+      by false g = ap (bit_or x) (get_or-set_other commons (n / 8) k (bit_and old sign) 0 (λ i. true≢false (sym (eq-eqb k (n / 8) i) ∙ g))) ∙ h
   fewer false true e f k lt x h =
       let parts = parts_of f in
       ap (bit_or x) (get_or_append_left commons (sign ∷ []) 0 k (omega (arith, lt, parts.0, parts.1))) ∙ h
   fewer false false e f k lt x h = h
 
-  own : (a b : Bool) → is_old ≡ a → is_next ≡ b → (k : ℕ) → k * 16 ≤ n → n < k * 16 + 16 → bit_or sign (slice_index (new a b) k) ≡ sign
-  own true b e f k le lt = ap (bit_or sign) (set_same k (omega (arith, le, lt)) (ltb-true (n / 16) (length commons) e)) ∙ own_bits old sign
+  own : (a b : Bool) → is_old ≡ a → is_next ≡ b → (k : ℕ) → k * 8 ≤ n → n < k * 8 + 8 → bit_or sign (slice_index (new a b) k) ≡ sign
+  own true b e f k le lt = ap (bit_or sign) (set_same k (omega (arith, le, lt)) (ltb-true (n / 8) (length commons) e)) ∙ own_bits old sign
   own false true e f k le lt =
       let parts = parts_of f in
       ap (bit_or sign) (get_or_push commons sign 0 k (omega (arith, le, lt, parts.0, parts.1))) ∙ or_self sign
-  own false false e f k le lt = ap (bit_or sign) (get_or_past commons k 0 (omega (arith, le, lt, ltb-false (n / 16) (length commons) e))) ∙ no_bits sign
+  own false false e f k le lt = ap (bit_or sign) (get_or_past commons k 0 (omega (arith, le, lt, ltb-false (n / 8) (length commons) e))) ∙ no_bits sign
 
 abbrev noted : List ℕ → List Signed → ℕ → ℕ → ℕ
 noted commons rows sign k = slice_index (with_common commons (length rows) sign) k
 
 pub commons_fewer : (commons : List ℕ) (rows : List Signed) (sign : ℕ) → AreCommon commons rows → AreCommon (with_common commons (length rows) sign) rows
-commons_fewer commons rows sign h k = by (nat_lt (k * 16) (length rows)) refl
+commons_fewer commons rows sign h k = by (nat_lt (k * 8) (length rows)) refl
   where
-    by : (b : Bool) → nat_lt (k * 16) (length rows) ≡ b → HaveInCommon (noted commons rows sign k) (chunk k rows)
+    by : (b : Bool) → nat_lt (k * 8) (length rows) ≡ b → HaveInCommon (noted commons rows sign k) (chunk k rows)
     by true e = weaker (slice_index commons k) (noted commons rows sign k)
-        (fewer commons (length rows) sign (is_old commons (length rows) sign) (is_next commons (length rows) sign) refl refl k (ltb-true (k * 16) (length rows) e)) (chunk k rows) (h k)
-    by false e = subst (λ (l : List Signed). HaveInCommon (noted commons rows sign k) (take 16 l)) (sym (drop_of_length-le rows (ltb-false (k * 16) (length rows) e))) refl
+        (fewer commons (length rows) sign (is_old commons (length rows) sign) (is_next commons (length rows) sign) refl refl k (ltb-true (k * 8) (length rows) e)) (chunk k rows) (h k)
+    by false e = subst (λ (l : List Signed). HaveInCommon (noted commons rows sign k) (take 8 l)) (sym (drop_of_length-le rows (ltb-false (k * 8) (length rows) e))) refl
 
 pub commons_more : (commons : List ℕ) (rows : List Signed) (s : Signed) → AreCommon commons rows → AreCommon (with_common commons (length rows) s.sign) (rows ++ s ∷ [])
 commons_more commons rows s h k =
-    more (has_common (noted commons rows s.sign k)) (k * 16) 16 rows s (commons_fewer commons rows s.sign h k) (λ a b.
+    more (has_common (noted commons rows s.sign k)) (k * 8) 8 rows s (commons_fewer commons rows s.sign h k) (λ a b.
     eq-eqb (bit_or s.sign (noted commons rows s.sign k)) s.sign (own commons (length rows) s.sign (is_old commons (length rows) s.sign) (is_next commons (length rows) s.sign) refl refl k a b))
 
 -- a row that is put behind the others, or isn't, after its signature is noted
@@ -160,7 +160,7 @@ commons_still commons new rows after s (Ok u) h e is = subst (λ (c : List ℕ).
 commons_still commons new rows after s (Err u) h e is = subst (λ (c : List ℕ). AreCommon c after) (sym e) (subst (AreCommon (with_common commons (length rows) s.sign)) (sym is) (commons_fewer commons rows s.sign h))
 
 pub none_common : AreCommon [] []
-none_common j = none_taken (has_common (slice_index [] j)) 16 (j * 16)
+none_common j = none_taken (has_common (slice_index [] j)) 8 (j * 8)
 
 -- a chunk that is found or not
 pub found_in : (t : Signed → Bool) (k to : ℕ) (rows : List Signed) → k < to → list_any t (chunk k rows) ≡ true → list_any t (between k to rows) ≡ true
@@ -174,8 +174,8 @@ shorter k to rows h = ap length (next k to rows h) ∙ length-append (chunk k ro
 
 pub chunk_heard : (p q : List Literal) (sign k : ℕ) (rows : List Signed) → AreHeard p q sign rows → AreHeard p q sign (chunk k rows)
 chunk_heard p q sign k rows h =
-    let behind = (heard_parts p q sign (take (k * 16) rows) (drop (k * 16) rows) (subst (AreHeard p q sign) (sym (take-append-drop (k * 16) rows)) h)).1 in
-    (heard_parts p q sign (take 16 (drop (k * 16) rows)) (drop 16 (drop (k * 16) rows)) (subst (AreHeard p q sign) (sym (take-append-drop 16 (drop (k * 16) rows))) behind)).0
+    let behind = (heard_parts p q sign (take (k * 8) rows) (drop (k * 8) rows) (subst (AreHeard p q sign) (sym (take-append-drop (k * 8) rows)) h)).1 in
+    (heard_parts p q sign (take 8 (drop (k * 8) rows)) (drop 8 (drop (k * 8) rows)) (subst (AreHeard p q sign) (sym (take-append-drop 8 (drop (k * 8) rows))) behind)).0
 
 -- ---- chunks in another order
 

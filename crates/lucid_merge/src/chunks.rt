@@ -1,4 +1,4 @@
-// The kept rows in chunks of 16. A pair that lacks a bit which all signatures of a chunk have includes none of its rows.
+// The kept rows in chunks of 8. A pair that lacks a bit which all signatures of a chunk have includes none of its rows.
 ghost use Rattle.std.specs.Prelude.{◌≡◌, ◌+◌, ◌≤◌, length, slice_index, OnErr, OnOk};
 ghost use Rattle.std.specs.List.{list_any};
 ghost use Rattle.lucid_merge.specs.Chunks.{AreCommon, between, chunk, with_common};
@@ -23,9 +23,9 @@ fn common_of(commons: &[u64], number: usize) -> u64
 fn chunk(rows: &[Signed], number: usize) -> &[Signed]
     ensures { result.now ≡ chunk number rows.now }
 {
-    let from = number.saturating_mul(16);
+    let from = number.saturating_mul(8);
     let (_, behind) = rows.split_at(from.min(rows.len()));
-    let (first, _) = behind.split_at(16usize.min(behind.len()));
+    let (first, _) = behind.split_at(8usize.min(behind.len()));
     first
 }
 
@@ -34,12 +34,12 @@ pub(crate) fn note_common(commons: &mut Vec<u64>, number: usize, sign: u64) -> R
     ensures ok { OnOk result (commons.new.items ≡ with_common commons.old.items number sign) }
     ensures err { OnErr result (commons.new.items ≡ commons.old.items) }
 {
-    let place = number / 16;
+    let place = number / 8;
     if place < commons.len() {
         commons[place] &= sign;
         return Ok(());
     }
-    if number % 16 == 0 && place == commons.len() {
+    if number % 8 == 0 && place == commons.len() {
         commons.push(sign)?;
     }
     Ok(())
@@ -105,8 +105,8 @@ pub(crate) fn is_covered_by_any<L: Ledger>(
     ensures value { result ≡ list_any (covers p.now q.now) rows.now }
     ensures steps { steps.new ≤ steps.old + length rows.now }
 {
-    let from = rows.len().saturating_sub(1) / 16;
-    let to = rows.len() / 16 + 1;
+    let from = rows.len().saturating_sub(1) / 8;
+    let to = rows.len() / 8 + 1;
     is_covered_between(p, q, sign, rows, commons, from, to, steps)
         || is_covered_between(p, q, sign, rows, commons, 0, from, steps)
 }
