@@ -1,10 +1,10 @@
-"""Inputs within every limit that cost the most time and memory, at half and at full size.
+"""Inputs within every limit that cost the most time and memory, at a smaller and at full size.
 
-Prints a line of a table for each: bytes, processor seconds at half and at full size, growth, peak memory and bounds; docs/SPEED.md shows
-that table. Fails on a signal, on a status other than the expected one, on seconds or memory beyond the bound, and with `--whole` on time
-that grows faster than the bound allows. The gate makes only inputs that take less than two seconds, at full size. `--only NAME` takes one.
-Sees no shapes that are not below. Names that collide in a hash table are in the group `collisions`; `names` and `keys` are the hardest
-for ordered maps.
+Prints a line of a table for each: bytes, processor seconds at both sizes, growth for each doubling, peak memory and bounds; docs/SPEED.md
+shows that table. Fails on a signal, on a status other than the expected one, on seconds or memory beyond the bound, and with `--whole` on
+time that grows faster than the bound allows: instructions, counted by valgrind, if it is there and the smaller size takes less than 0.2 s,
+and else seconds. The gate makes only inputs that take less than two seconds, at full size. `--only NAME` takes one. Sees no shapes that are
+not below. Names that collide in a hash table are in the group `collisions`; `names` and `keys` are the hardest for ordered maps.
 
 Seen to fail: statements of a block that are each kept in a list with room for four (238 MB for 1 MiB of assignments); contested literals
 that are compared with all literals of the other row (a growth of 2.8 for 8 matches of 2 behind 480 tests); guards that are copied to each
@@ -12,11 +12,13 @@ operation (187 MB for 1,100 additions behind 1,700 early returns).
 """
 from __future__ import annotations
 
+import re
+import shutil
 from dataclasses import dataclass
 from pathlib import Path
 from typing import Callable, List, Optional, Tuple, Union
 
-from harness import Group, Spent, compile_c, measure, table
+from harness import Group, Spent, call, compile_c, measure, table
 from rowfile import spelled_out
 
 BIG = '{"stages":32,"tables":64,"rows":1024,"bits":1048576,"arrays":64,"arms":64}'
@@ -97,7 +99,8 @@ CHECK, LAYOUT, ONCE, RUN = ["check", "p"], ["layout", "p", "l"], ["once", "p", "
 @dataclass(frozen=True)
 class Shape:
     """An input: its program, by a text or a function of its size, its call and its full size; the bounds on seconds and MB at that size;
-    whether the gate tries it; the status of its call; how much its time grows at most if the size doubles, if that is bounded; its files."""
+    whether the gate tries it; the status of its call; how much its time grows at most for each doubling of the size; how often the smaller
+    size doubles to the full one; its files. How many matches share a table depends on their cases, so one doubling of cases tells little."""
 
     program: Union[str, Callable[[int], str]]
     words: List[str]
@@ -107,8 +110,17 @@ class Shape:
     gate: bool = False
     status: int = 0
     growth: float = 5.0
+    doublings: int = 1
     limits: str = BIG
     scenario: str = ""
+
+    def smaller(self) -> int:
+        """The smaller size."""
+        return self.size >> self.doublings
+
+    def growth_from(self, smaller: float, whole: float) -> float:
+        """The growth for each doubling, from what the call takes at the smaller size and at full size."""
+        return (whole / smaller) ** (1 / self.doublings) if smaller else 0.0
 
     def files(self, size: int) -> List[Tuple[str, str]]:
         """The files at a size."""
@@ -124,24 +136,24 @@ SHAPES = {
     "8 matches of 2 behind 60 tests": Shape(lambda n: guarded(n, 2), LAYOUT, 60, 0.5, 20, True, growth=2.3),
     "8 matches of 2 behind 240 tests": Shape(lambda n: guarded(n, 2), LAYOUT, 240, 1, 40, growth=2.3),
     "8 matches of 2 behind 480 tests": Shape(lambda n: guarded(n, 2), LAYOUT, 480, 1, 60, growth=2.3),
-    "8 matches of 16": Shape(FLAT, LAYOUT, 16, 1, 20, True),
-    "8 matches of 32": Shape(FLAT, LAYOUT, 32, 1, 20),
+    "8 matches of 16": Shape(FLAT, LAYOUT, 16, 1, 20, True, growth=2.3, doublings=2),
+    "8 matches of 32": Shape(FLAT, LAYOUT, 32, 1, 20, growth=2.3, doublings=2),
     "4 events of 8 matches of 16": Shape(EVENTS, LAYOUT, 4, 3, 20),
-    "15 arrays in 32 arms each": Shape(arrays, LAYOUT, 15, 0.5, 20, True),
-    "15 arrays in 32 arms each behind 40 tests": Shape(lambda n: arrays(n, 40), LAYOUT, 15, 1, 20, True),
-    "60 arrays in 32 arms each": Shape(arrays, LAYOUT, 60, 1, 40),
+    "15 arrays in 32 arms each": Shape(arrays, LAYOUT, 15, 0.5, 20, True, growth=2.3),
+    "15 arrays in 32 arms each behind 40 tests": Shape(lambda n: arrays(n, 40), LAYOUT, 15, 1, 20, True, growth=2.3),
+    "60 arrays in 32 arms each": Shape(arrays, LAYOUT, 60, 1, 40, growth=2.3),
     "64 instances of 5,000 calls": Shape(wide_calls, CHECK, 64, 8, 600, status=6),
     "32 instances of 1,700 calls in order": Shape(ordered_calls, CHECK, 32, 3, 300),
     "4 instances of 1,700 calls in order": Shape(ordered_calls, CHECK, 4, 3, 100, True),
-    "8 matches of 16 behind 60 tests": Shape(lambda n: guarded(60, n), LAYOUT, 16, 2, 20),
-    "128 sends behind an else": Shape(ELSE_SENDS, LAYOUT, 128, 0.5, 20, True),
-    "512 sends behind an else": Shape(ELSE_SENDS, LAYOUT, 512, 1, 40),
+    "8 matches of 16 behind 60 tests": Shape(lambda n: guarded(60, n), LAYOUT, 16, 2, 20, growth=2.3, doublings=2),
+    "128 sends behind an else": Shape(ELSE_SENDS, LAYOUT, 128, 0.5, 20, True, growth=2.3),
+    "512 sends behind an else": Shape(ELSE_SENDS, LAYOUT, 512, 1, 40, growth=2.3),
     "512 sends behind tests of 8 parameters": Shape(TESTED_SENDS, LAYOUT, 64, 1, 20, growth=2.5),
     "2,048 sends behind tests of 8 parameters": Shape(TESTED_SENDS, LAYOUT, 256, 3, 60, growth=2.5),
     "10,000 early returns": Shape(EARLY, CHECK, 10000, 1, 100, True),
     "1 MiB of assignments": Shape(ASSIGNMENTS, CHECK, 262130, 1, 120, True),
     "1 MiB of calls": Shape(DROPPED, CHECK, 262130, 1, 120, True),
-    "1,100 additions behind 1,700 early returns": Shape(SUMS, LAYOUT, 1100, 1, 90, status=7),
+    "1,100 additions behind 1,700 early returns": Shape(SUMS, LAYOUT, 1100, 1, 90, True, 7),
     "a chain of 1,000 functions": Shape(CHAIN, LAYOUT, 1000, 1, 60, True, limits="{}"),
     "4,900 names with one beginning": Shape(NAMES, CHECK, 4900, 2, 100, True),
     "a tower of 20 functions": Shape(TOWER, ONCE, 19, 1, 30, True, growth=float("inf")),
@@ -159,7 +171,7 @@ def run(group: Group) -> None:
     if group.options.only:
         shapes = {name: SHAPES[name] for name in group.options.only}
     rows = [line_of(group, spent, name, shape) for name, shape in shapes.items()]
-    titles = ["Input", "Call", "Bytes", "Half, s", "Whole, s", "Growth", "MB", "Bound, s", "Bound, MB"]
+    titles = ["Input", "Call", "Bytes", "Smaller, s", "Whole, s", "Growth", "MB", "Bound, s", "Bound, MB"]
     table(group, titles, rows)
 
 
@@ -171,38 +183,54 @@ def spend(group: Group, spent: Path, shape: Shape, size: int, seconds: int) -> T
     return measure(spent, [group.options.program, *shape.words], group.room, seconds), sum(len(text) for _, text in files)
 
 
-def spend_often(group: Group, spent: Path, shape: Shape, seconds: int, with_half: bool) -> Tuple[Optional[Spent], Spent, int]:
-    """The quickest calls of a shape at half and at full size, and the bytes at full size.
+def spend_often(group: Group, spent: Path, shape: Shape, seconds: int, with_smaller: bool) -> Tuple[Optional[Spent], Spent, int]:
+    """The quickest calls of a shape at the smaller and at full size, and the bytes at full size.
 
     A machine may be slow for some seconds, so the calls are made in turn, and quick ones more often. As long as one is beyond a bound there
     are more turns, up to twelve.
     """
-    halves: List[Spent] = []
+    smallers: List[Spent] = []
     wholes: List[Spent] = []
     while True:
-        if with_half:
-            halves.append(spend(group, spent, shape, shape.size // 2, seconds)[0])
+        if with_smaller:
+            smallers.append(spend(group, spent, shape, shape.smaller(), seconds)[0])
         took, size = spend(group, spent, shape, shape.size, seconds)
         wholes.append(took)
-        half = min(halves, key=lambda it: it.seconds) if halves else None
+        smaller = min(smallers, key=lambda it: it.seconds) if smallers else None
         whole = min(wholes, key=lambda it: it.seconds)
-        is_beyond = whole.seconds > shape.seconds or (half is not None and whole.seconds > shape.growth * half.seconds)
+        is_beyond = whole.seconds > shape.seconds or (smaller is not None and shape.growth_from(smaller.seconds, whole.seconds) > shape.growth)
         enough = TURNS if is_beyond else 1 + min(8, int(2 / max(whole.seconds, 0.01)))
         if len(wholes) >= enough or whole.seconds >= seconds:
-            return half, whole, size
+            return smaller, whole, size
+
+
+def count_instructions(group: Group, shape: Shape, size: int) -> int:
+    """The instructions of a call; 0 if valgrind cannot count them."""
+    for name, text in shape.files(size):
+        group.file(name, text)
+    ended = call(["valgrind", "--tool=callgrind", "--callgrind-out-file=/dev/null", group.options.program, *shape.words], cwd=group.room)
+    found = re.search(rb"Collected : (\d+)", ended.err)
+    return int(found[1]) if found else 0
+
+
+def find_growth(group: Group, shape: Shape, smaller: Spent, whole: Spent) -> float:
+    """How much the time of a call grows for each doubling; 0 if it is too short for its seconds to tell, and nothing counts instructions."""
+    if smaller.seconds < 0.2 and shutil.which("valgrind"):
+        return shape.growth_from(*(count_instructions(group, shape, size) for size in (shape.smaller(), shape.size)))
+    return shape.growth_from(smaller.seconds, whole.seconds) if smaller.seconds >= 0.05 else 0.0
 
 
 def line_of(group: Group, spent: Path, name: str, shape: Shape) -> List[object]:
     limit = int(4 * shape.seconds) + 10
-    half, whole, size = spend_often(group, spent, shape, limit, bool(group.options.whole or group.options.only))
+    smaller, whole, size = spend_often(group, spent, shape, limit, bool(group.options.whole or group.options.only))
     growth = 0.0
     group.check(f"{name}: ends with {shape.status}", whole.ended.status == shape.status, whole.ended)
     group.check(f"{name}: at most {shape.seconds} s", whole.seconds <= shape.seconds, whole.seconds)
     group.check(f"{name}: at most {shape.megabytes} MB", whole.megabytes <= shape.megabytes, whole.megabytes)
-    if half and half.seconds >= 0.05:
-        growth = whole.seconds / half.seconds
-        group.check(f"{name}: grows at most by {shape.growth} if it doubles", growth <= shape.growth, growth)
-    took = f"{half.seconds:.2f}" if half else ""
+    if smaller and shape.growth < float("inf"):
+        growth = find_growth(group, shape, smaller, whole)
+        group.check(f"{name}: grows at most by {shape.growth} for each doubling", growth <= shape.growth, growth)
+    took = f"{smaller.seconds:.2f}" if smaller else ""
     shown = f"{growth:.1f}" if growth else ""
-    call = f"`{shape.words[0]}{' ' + shape.words[1] if shape.words[0] == 'run' else ''}`"
-    return [name, call, size, took, f"{whole.seconds:.2f}", shown, whole.megabytes, shape.seconds, shape.megabytes]
+    call_shown = f"`{shape.words[0]}{' ' + shape.words[1] if shape.words[0] == 'run' else ''}`"
+    return [name, call_shown, size, took, f"{whole.seconds:.2f}", shown, whole.megabytes, shape.seconds, shape.megabytes]
