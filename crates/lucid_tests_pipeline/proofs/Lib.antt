@@ -1,1 +1,2 @@
 mod FlightsLemmas
+mod WholeLemmas

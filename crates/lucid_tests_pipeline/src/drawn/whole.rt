@@ -2,7 +2,7 @@
 ghost use Rattle.std.specs.Prelude.{◌≡◌, IfSome};
 ghost use Rattle.lucid_code.specs.Inputs.{IsInput};
 
-use crate::draws::Draws;
+use crate::drawn::draws::Draws;
 use lucid_base::{Args, Bits, Event, Items};
 use lucid_code::Code;
 use lucid_conf::Limits;
@@ -38,7 +38,7 @@ pub(crate) fn placed(alloc: Global, code: &Code) -> Option<Placed> {
 }
 
 /// The event of these arguments, by their low bits, if the code takes two.
-#[tactic(auto, using(crate::proofs::Inputs::two))]
+#[tactic(auto, using(crate::proofs::WholeLemmas::two))]
 fn event(code: &Code, me: u32, id: u32, a: u64, b: u64) -> Option<Event>
     ensures { IfSome result (IsInput code.now me) }
 {

@@ -3,10 +3,10 @@
 // Seen to fail: a `go` that asks whether slot k + 2 is free, and so moves a packet into a taken slot.
 ghost use Rattle.std.specs.Prelude.{◌≡◌};
 
-use crate::codes::code;
-use crate::drawn_whole::{drawn_input, placed, same_rows};
-use crate::draws::Draws;
-use crate::interpreted::interpret;
+use crate::drawn::codes::code;
+use crate::drawn::draws::Draws;
+use crate::drawn::interpreted::interpret;
+use crate::drawn::whole::{drawn_input, placed, same_rows};
 use lucid_base::{Cells, Memory};
 use lucid_code::Code;
 use lucid_pipe::{Passed, Pipe, Stuck};

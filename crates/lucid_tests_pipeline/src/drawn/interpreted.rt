@@ -1,6 +1,6 @@
 // An interpreter of code, which runs the operations in the order of the list, each on the fields that the ones before it wrote. It has no
 // table, stage or register.
-use crate::drawn_whole::Input;
+use crate::drawn::whole::Input;
 use lucid_base::{Args, Bits, Cells, Event, Memory, Out, Outs, Target};
 use lucid_code::{Act, Code, Literal, Operand};
 use lucid_pipe::Passed;

@@ -3,10 +3,10 @@
 // Seen to fail: a `Fold` that puts numbers in place of fields and does not cut them to the width of the field.
 ghost use Rattle.std.specs.Prelude.{◌≡◌};
 
-use crate::codes::code;
-use crate::drawn_whole::{drawn_input, pass, placed, same_rows};
-use crate::draws::Draws;
-use crate::interpreted::interpret;
+use crate::drawn::codes::code;
+use crate::drawn::draws::Draws;
+use crate::drawn::interpreted::interpret;
+use crate::drawn::whole::{drawn_input, pass, placed, same_rows};
 use lucid_base::{Cells, Items, Memory};
 use lucid_code::Code;
 use lucid_pass::{Dead, Pass};

@@ -1,7 +1,7 @@
 // Drawn code, group by group. The operations of a group write one field, call one array or have one slot, under guards that contradict;
 // each reads inputs and the fields of groups before it, written or not. So the code is valid, and much of it is as no program's is: guards
 // ask that a field is no value, contradict themselves or say a thing twice, and much is computed that no operation reads.
-use crate::draws::Draws;
+use crate::drawn::draws::Draws;
 use lucid_base::{ArrayDef, Bits, Id, Items, Memory, Width};
 use lucid_code::{Act, Code, Guard, Inputs, Literal, Op, Operand};
 use std::alloc::Global;
