@@ -4,7 +4,6 @@ Sees no proofs. Seen to fail:
 - run: a plan for one job, minutes of a processor that are seconds
 - whole: a crate that begins before its libraries are there, libraries that stay in their lane, one or three crates at a time, the shortest
   chain first, another line of progress, a lane that stays, a wrong crate that ends with 0 or without its log
-- uneven: one processor for each crate that is ready
 - interrupted: libraries of the stopped build that no lane gets, SIGTERM without its handler, another status at an interrupt
 """
 from __future__ import annotations
@@ -36,7 +35,6 @@ for low in $(sed -n "s/^$name: *//p" ../../crates.txt); do
 done
 [ ! -e out/rlib/stamp ] || exit 0
 echo "begin $name" >>"$calls"
-echo "$name $*" >>"${0%/*}/words"
 sleep 0.2
 mkdir -p out/rlib out/incremental
 echo "$name" >out/incremental/kept
@@ -55,7 +53,6 @@ def run(group: Group) -> None:
     fits = plan is not None and float(plan[2]) / 4 <= float(plan[4]) <= 25 and float(plan[3]) <= float(plan[4])
     group.check("the plan of four jobs is at most 25 minutes", fits, ended)
     whole(group)
-    uneven(group)
     for name in SIGNALS:
         interrupted(group, name)
 
@@ -112,15 +109,6 @@ def whole(group: Group) -> None:
     last = [f"lucid: side_c could not be built; {top}/out/side_c.log ends:", "a function is wrong"]
     group.check("a crate that is not proved", process.returncode == 70 and lines[-2:] == last, lines)
     group.check("no lane of it stays", os.listdir(top / "lanes") == [])
-
-
-def uneven(group: Group) -> None:
-    """A crate that takes longer than all others that are ready together gets all processors but one."""
-    top = project(group, "uneven")
-    (top / "tests/seconds").write_text("low 1\nside_f 1000\n")
-    lines = begin(top).communicate(timeout=120)[1].decode().splitlines()
-    words = (top / "bin/words").read_text().splitlines()
-    group.check("three of four processors for the crate that takes longest", "side_f lib --jobs 3" in words, words or lines)
 
 
 def interrupted(group: Group, name: str) -> None:
