@@ -8,7 +8,7 @@ not below. Names that collide in a hash table are in the group `collisions`; `na
 
 Seen to fail: statements of a block that are each kept in a list with room for four (238 MB for 1 MiB of assignments); contested literals
 that are compared with all literals of the other row (a growth of 2.8 for 8 matches of 2 behind 480 tests); guards that are copied to each
-operation (187 MB for 1,100 additions behind 1,700 early returns).
+operation (187 MB for 1,100 additions behind 1,700 early returns); 16 cases in place of 14, whose rows double to 2.3 times as many.
 """
 from __future__ import annotations
 
@@ -100,7 +100,7 @@ CHECK, LAYOUT, ONCE, RUN = ["check", "p"], ["layout", "p", "l"], ["once", "p", "
 class Shape:
     """An input: its program, by a text or a function of its size, its call and its full size; the bounds on seconds and MB at that size;
     whether the gate tries it; the status of its call; how much its time grows at most for each doubling of the size; how often the smaller
-    size doubles to the full one; its files. How many matches share a table depends on their cases, so one doubling of cases tells little."""
+    size doubles to the full one; its files. One doubling of cases tells little (see FEW_CASES)."""
 
     program: Union[str, Callable[[int], str]]
     words: List[str]
@@ -130,6 +130,9 @@ class Shape:
 
 # How often a call beyond its bound is made.
 TURNS = 12
+# How many matches share a table depends on their cases. From these cases to twice as many the rows of a layout grow by more than the bound on
+# the time for each doubling. So two doublings are measured at once.
+FEW_CASES = 14
 # The bounds on a processor, about twice the seconds and the memory that were measured. Lower them as the program gets quicker.
 SHAPES = {
     "8 matches of 4 behind 20 tests": Shape(lambda n: guarded(n, 4), LAYOUT, 20, 0.5, 20, True, growth=2.3),
@@ -171,8 +174,19 @@ def run(group: Group) -> None:
     if group.options.only:
         shapes = {name: SHAPES[name] for name in group.options.only}
     rows = [line_of(group, spent, name, shape) for name, shape in shapes.items()]
+    few, many = count_rows(group, FEW_CASES), count_rows(group, 2 * FEW_CASES)
+    group.check("a doubling of cases has more than 2.9 times the rows", 0 < 2.9 * few < many, (few, many))
     titles = ["Input", "Call", "Bytes", "Smaller, s", "Whole, s", "Growth", "MB", "Bound, s", "Bound, MB"]
     table(group, titles, rows)
+
+
+def count_rows(group: Group, cases: int) -> int:
+    """The rows of all tables of 8 matches of this many cases."""
+    shape = SHAPES["8 matches of 32"]
+    for name, text in shape.files(cases):
+        group.file(name, text)
+    ended = call([group.options.program, *shape.words], cwd=group.room)
+    return sum(int(found) for found in re.findall(rb" rows (\d+)", ended.out))
 
 
 def spend(group: Group, spent: Path, shape: Shape, size: int, seconds: int) -> Tuple[Spent, int]:
