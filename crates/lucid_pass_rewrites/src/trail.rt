@@ -87,7 +87,7 @@ fn push_new(made: &mut Vec<Literal>, literal: Literal) -> Result<(), Memory>
     Ok(())
 }
 
-/// The operation with these literals as its guard, `before` is the one before it.
+/// The operation with these literals as its guard. `before` is the one before it.
 fn directed_op(
     alloc: Global,
     before: Option<&Op>,
