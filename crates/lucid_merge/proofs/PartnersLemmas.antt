@@ -61,15 +61,14 @@ default_pair a h = ap (λ t. if t then [] else pair a default ∷ []) (clash_is 
 -- ---- what the partners of a row are good for
 
 pub of_partners : (a : Row) (self rows : List Row) (p : List Literal) (found places : List ℕ) → self ≡ rows → p ≡ a.pattern → found ≡ filter (is_partner rows p) places → length found ≤ length places →
-    contradict p p ≡ false → HaveAllPairs a rows places → ArePartners a self (Some found)
-of_partners a self rows p found places s e f few alone all =
-    let stands : contradict a.pattern a.pattern ≡ false = ap (λ (l : List Literal). contradict l l) (sym e) ∙ alone in (
-      stands,
-      ap (λ (xs : List Row). map (pair a) (rows_at xs found)) s
-          ∙ ap (λ (xs : List ℕ). map (pair a) (rows_at rows xs)) (f ∙ ap (λ (l : List Literal). filter (is_partner rows l) places) e)
-          ∙ partner_pairs a stands rows places ∙ all.0 ∙ ap (pairs_with a) (sym s),
-      omega (arith, few, all.1, ap length s),
-    )
+    contradict a.pattern a.pattern ≡ false → HaveAllPairs a rows places → ArePartners a self (Some found)
+of_partners a self rows p found places s e f few alone all = (
+  alone,
+  ap (λ (xs : List Row). map (pair a) (rows_at xs found)) s
+      ∙ ap (λ (xs : List ℕ). map (pair a) (rows_at rows xs)) (f ∙ ap (λ (l : List Literal). filter (is_partner rows l) places) e)
+      ∙ partner_pairs a alone rows places ∙ all.0 ∙ ap (pairs_with a) (sym s),
+  omega (arith, few, all.1, ap length s),
+)
 
 module _ (a : Row) (rows : List Row) where
   pub stands : (places : List ℕ) (o : Option (List ℕ)) → ArePartners a rows o → o ≡ Some places → contradict a.pattern a.pattern ≡ false

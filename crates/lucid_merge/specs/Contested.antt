@@ -2,8 +2,9 @@
 use Rattle.std.specs.Prelude.{ℕ, ◌%◌, List, Option, Some, None, Bool, false, not, ◌&&◌, slice_get}
 use Rattle.std.specs.List.{filter}
 use Rattle.lucid_code.specs.declared.op.Literal.{Literal}
-use Rattle.lucid_code.specs.Guards.{opposed}
+use Rattle.lucid_code.specs.Guards.{contradict, opposed}
 use Rattle.lucid_tables.specs.declared.table.Row.{Row}
+use Rattle.lucid_merge.specs.declared.contested.ContestedRow.{ContestedRow}
 use Rattle.lucid_merge.specs.Product.{is_same, has}
 
 -- Where a literal's field has its place.
@@ -22,8 +23,9 @@ is_contested lone l = not (is_found l (slice_get lone (field_slot l)))
 abbrev pub contested : List Literal → List Literal → List Literal
 contested lone p = filter (is_contested lone) p
 
-abbrev pub contested_row : List Literal → Row → List Literal
-contested_row lone r = contested lone r.pattern
+-- Those of a row, and whether it contradicts itself.
+abbrev pub contested_row : List Literal → Row → ContestedRow
+contested_row lone r = record { literals = contested lone r.pattern; contradicts_itself = contradict r.pattern r.pattern }
 
 abbrev pub opposes_found : List Literal → Literal → Option Literal → Bool
 opposes_found p l None = false

@@ -27,11 +27,7 @@ fn is_contested(lone: &[Literal], literal: Literal) -> bool
 }
 
 /// Returns the contested literals of a pattern.
-pub(crate) fn contested(
-    alloc: Global,
-    lone: &[Literal],
-    pattern: &[Literal],
-) -> Result<Items<Literal>, Memory>
+fn contested(alloc: Global, lone: &[Literal], pattern: &[Literal]) -> Result<Items<Literal>, Memory>
     ensures { IfOk result (λ found. found ≡ contested lone.now pattern.now) }
 {
     let mut found = Items::new(alloc);
@@ -43,19 +39,43 @@ pub(crate) fn contested(
     Ok(found)
 }
 
-/// Returns the contested literals of each of these rows.
+/// The contested literals of a row, and whether it contradicts itself.
+#[derive(Drop)]
+pub(crate) struct ContestedRow {
+    pub(crate) literals: Items<Literal>,
+    pub(crate) contradicts_itself: bool,
+}
+
+pub(crate) fn contested_row(
+    alloc: Global,
+    lone: &[Literal],
+    row: &Row,
+) -> Result<ContestedRow, Memory>
+    ensures { IfOk result (λ found. found ≡ contested_row lone.now row.now) }
+{
+    let pattern = row.pattern.as_slice();
+    let literals = contested(alloc, lone, pattern)?;
+    let own = literals.as_slice();
+    let contradicts_itself = contradict_by(lone, pattern, pattern, own, own);
+    Ok(ContestedRow {
+        literals,
+        contradicts_itself,
+    })
+}
+
+/// Returns what `contested_row` returns, for each of these rows.
 pub(crate) fn contested_rows(
     alloc: Global,
     lone: &[Literal],
     rows: &[Row],
-) -> Result<Vec<Items<Literal>>, Memory>
-    ensures { IfOk result (λ lists. lists.items ≡ map (contested_row lone.now) rows.now) }
+) -> Result<Vec<ContestedRow>, Memory>
+    ensures { IfOk result (λ found. found.items ≡ map (contested_row lone.now) rows.now) }
 {
-    let mut lists = Vec::new(alloc);
+    let mut found = Vec::new(alloc);
     for row in rows {
-        lists.push(contested(alloc, lone, row.pattern.as_slice())?)?;
+        found.push(contested_row(alloc, lone, row)?)?;
     }
-    Ok(lists)
+    Ok(found)
 }
 
 /// Returns whether a literal is opposed to the one at its field's place, and the pattern has that.

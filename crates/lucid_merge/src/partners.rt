@@ -6,7 +6,7 @@ ghost use Rattle.lucid_merge.specs.Contested.{contested, contested_row};
 ghost use Rattle.lucid_merge.specs.Partners.{is_partner, AreAll, HaveAllPairs, ArePartners};
 ghost use Rattle.lucid_merge.specs.Standing.{IsNear};
 
-use crate::contested::{contested, contested_rows, contradict_by, lone_literals};
+use crate::contested::{ContestedRow, contested_row, contested_rows, contradict_by, lone_literals};
 use crate::near::{Near, all_near, suits};
 use lucid_base::{Items, Memory, Steps};
 use lucid_code::Literal;
@@ -15,12 +15,12 @@ use std::alloc::Global;
 use std::marker::Model;
 use std::sync::ledger::Ledger;
 
-/// The rows of a table, which contracts see as their list. Each has a list of its contested literals.
+/// The rows of a table, which contracts see as their list. Of each it is known which literals are contested, and whether it contradicts itself.
 #[derive(Drop)]
 pub(crate) struct Partners<'a> {
     rows: &'a [Row],
     lone: Vec<Literal>,
-    contested: Vec<Items<Literal>>,
+    contested: Vec<ContestedRow>,
     all: Vec<usize>,
     near: Vec<Near>,
 }
@@ -56,21 +56,21 @@ fn all_places(alloc: Global, rows: &[Row]) -> Result<Vec<usize>, Memory>
 fn is_partner(
     lone: &[Literal],
     rows: &[Row],
-    lists: &[Items<Literal>],
+    others: &[ContestedRow],
     p: &[Literal],
     of_p: &[Literal],
     place: usize,
 ) -> bool
-    requires lists { lists.now ≡ map (contested_row lone.now) rows.now }
+    requires others { others.now ≡ map (contested_row lone.now) rows.now }
     requires own { of_p.now ≡ contested lone.now p.now }
     ensures { result ≡ is_partner rows.now p.now place }
 {
-    if place >= rows.len() || place >= lists.len() {
+    if place >= rows.len() || place >= others.len() {
         return false;
     }
     let q = rows[place].pattern.as_slice();
-    let of_q = lists[place].as_slice();
-    !contradict_by(lone, p, q, of_p, of_q) && !contradict_by(lone, q, q, of_q, of_q)
+    let other = &others[place];
+    !contradict_by(lone, p, q, of_p, other.literals.as_slice()) && !other.contradicts_itself
 }
 
 /// Returns those of some positions at which a row neither contradicts a pattern nor itself. It takes a step for each position.
@@ -78,13 +78,13 @@ fn partners_among<L: Ledger>(
     alloc: Global,
     lone: &[Literal],
     rows: &[Row],
-    lists: &[Items<Literal>],
+    others: &[ContestedRow],
     p: &[Literal],
     of_p: &[Literal],
     places: &[usize],
     steps: &mut Steps<L>,
 ) -> Result<Items<usize>, Memory>
-    requires lists { lists.now ≡ map (contested_row lone.now) rows.now }
+    requires others { others.now ≡ map (contested_row lone.now) rows.now }
     requires own { of_p.now ≡ contested lone.now p.now }
     ensures value { IfOk result (λ found. found ≡ filter (is_partner rows.now p.now) places.now) }
     ensures few { IfOk result (λ found. length found ≤ length places.now) }
@@ -93,7 +93,7 @@ fn partners_among<L: Ledger>(
     let mut found = Items::new(alloc);
     for place in places {
         steps.tick();
-        if is_partner(lone, rows, lists, p, of_p, *place) {
+        if is_partner(lone, rows, others, p, of_p, *place) {
             found.push(*place)?;
         }
     }
@@ -149,14 +149,14 @@ impl<'a> Partners<'a> {
     {
         let p = row.pattern.as_slice();
         let lone = self.lone.as_slice();
-        let own = contested(alloc, lone, p)?;
-        let of_p = own.as_slice();
-        if contradict_by(lone, p, p, of_p, of_p) {
+        let own = contested_row(alloc, lone, row)?;
+        if own.contradicts_itself {
             return Ok(None);
         }
+        let of_p = own.literals.as_slice();
         let places = likely_places(self.near.as_slice(), self.all.as_slice(), row);
-        let lists = self.contested.as_slice();
-        let found = partners_among(alloc, lone, self.rows, lists, p, of_p, places, steps)?;
+        let others = self.contested.as_slice();
+        let found = partners_among(alloc, lone, self.rows, others, p, of_p, places, steps)?;
         Ok(Some(found))
     }
 }

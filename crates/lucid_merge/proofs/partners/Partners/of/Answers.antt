@@ -1,5 +1,6 @@
-use Rattle.std.proofs.Common.{sym, subst, ◌∙◌}
+use Rattle.std.proofs.Common.{sym, ap, subst, ◌∙◌}
 use Rattle.std.specs.List.{All}
+use Rattle.lucid_merge.specs.declared.contested.ContestedRow.{ContestedRow}
 use Rattle.lucid_merge.specs.Partners.{AreAll, HaveAllPairs}
 use Rattle.lucid_merge.specs.Standing.{IsNear}
 use Rattle.lucid_merge.proofs.PartnersLemmas.{of_partners}
@@ -12,4 +13,4 @@ returns-clause-value g c =
     let likely : HaveAllPairs c.args.row.now rows places =
     c.likely_places-places.ensures rows (subst (All (IsNear rows)) (sym c.as_slice.ensures.value) c.self.invariant.2) (subst (AreAll rows) (sym c.as_slice-2.ensures.value) c.self.invariant.1) in
     of_partners c.args.row.now c.args.self.now rows c.as_slice-p.result.now c.in_ok-found.found places (sym c.self.view_is) c.as_slice-p.ensures
-    c.in_ok-found.ensures.value c.in_ok-found.ensures.few (sym c.contradict_by.ensures ∙ c.if-contradict_by.false) likely
+    c.in_ok-found.ensures.value c.in_ok-found.ensures.few (sym (ap ContestedRow.contradicts_itself c.in_ok-own.ensures) ∙ c.if-own.false) likely
