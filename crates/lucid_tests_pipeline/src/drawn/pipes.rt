@@ -100,19 +100,38 @@ fn fly(
     Ok(())
 }
 
-/// Flies until no packet is left. All that entered must have come out, and the cells must be those of the interpreter.
-fn land(alloc: Global, draws: &mut Draws, code: &Placed, tally: &mut Tally) -> Result<(), Memory> {
-    let mut told = VecDeque::new(alloc);
-    let mut cells = Cells::zeros(alloc, code.code().arrays())?;
-    let mut pipe = Pipe::new(alloc, code)?;
-    fly(alloc, draws, code, &mut pipe, &mut cells, &mut told, tally)?;
-    drain(&mut pipe, &mut told, tally);
+/// Returns whether the arrays have the same cells.
+fn are_equal(alloc: Global, pipe: &Pipe, cells: &Cells) -> Result<bool, Memory> {
     let rows = pipe.rows(alloc)?;
     let held = cells.rows(alloc)?;
-    if !told.is_empty() || !same_rows(rows.as_slice(), held.as_slice()) {
+    Ok(same_rows(rows.as_slice(), held.as_slice()))
+}
+
+/// Flies until no packet is left. All that entered must have come out, and the cells must be those of the interpreter.
+fn land_in(
+    alloc: Global,
+    draws: &mut Draws,
+    code: &Placed,
+    pipe: &mut Pipe,
+    cells: &mut Cells,
+    tally: &mut Tally,
+) -> Result<(), Memory>
+    requires { pipe.old.placed ≡ code.now }
+{
+    let mut told = VecDeque::new(alloc);
+    fly(alloc, draws, code, pipe, cells, &mut told, tally)?;
+    drain(pipe, &mut told, tally);
+    if !told.is_empty() || !are_equal(alloc, pipe, cells)? {
         add_one(&mut tally.wrong);
     }
     Ok(())
+}
+
+/// Flies in a new pipe.
+fn land(alloc: Global, draws: &mut Draws, code: &Placed, tally: &mut Tally) -> Result<(), Memory> {
+    let mut cells = Cells::zeros(alloc, code.code().arrays())?;
+    let mut pipe = Pipe::new(alloc, code)?;
+    land_in(alloc, draws, code, &mut pipe, &mut cells, tally)
 }
 
 /// Flies through this many drawn codes.
