@@ -1,5 +1,5 @@
 // The call that the program makes: `lucid` with the four passes, and a watch that sees nothing.
-ghost use Rattle.std.specs.Prelude.{◌≡◌, IfOk, OnErr, codes};
+ghost use Rattle.std.specs.Prelude.{◌≡◌, [], ◌∷◌, IfOk, OnErr, codes};
 ghost use Rattle.lucid_main.specs.Answered.{Called, WithOurs, copies_pass, dead_pass, direct_pass, fold_pass};
 ghost use Rattle.lucid_top.specs.Call.{bytes_of};
 ghost use Rattle.lucid_top_words.specs.Views.{files_view, sink_view};
@@ -77,10 +77,24 @@ fn over<F: Files, W: Sink, E: Sink>(
     ensures out_stays { OnErr result (out.new ≡ out.old) }
     ensures err_stays { OnErr result (err.new ≡ err.old) }
 {
+    let mut passes = list_of(alloc, first, second, third, last)?;
+    Ok(lucid(alloc, words, files, out, err, &mut passes, &mut NoWatch))
+}
+
+/// Returns the list of these boxes.
+fn list_of(
+    alloc: Global,
+    first: Box<dyn Pass>,
+    second: Box<dyn Pass>,
+    third: Box<dyn Pass>,
+    last: Box<dyn Pass>,
+) -> Result<Vec<Box<dyn Pass>>, Memory>
+    ensures { IfOk result (λ passes. passes.items ≡ first ∷ second ∷ third ∷ last ∷ []) }
+{
     let mut passes = Vec::new(alloc);
     passes.push(first)?;
     passes.push(second)?;
     passes.push(third)?;
     passes.push(last)?;
-    Ok(lucid(alloc, words, files, out, err, &mut passes, &mut NoWatch))
+    Ok(passes)
 }
