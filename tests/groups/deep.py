@@ -1,7 +1,7 @@
-"""Texts and files at their limits: the calls of tests/deep.rows, with seconds and memory, and again on stacks of 1 MiB and 304 KiB.
+"""Texts and files at their limits: the calls of tests/deep.rows, with seconds and memory, and again on stacks of 1 MiB and 256 KiB.
 
 Prints a line of a table for each call. Fails on a call that ends by a signal, takes over two minutes, or ends otherwise than its row says
-or than on the larger stack. A walk that takes a few hundred bytes of stack more for each sign fails at 304 KiB. `--only WORD` makes the calls
+or than on the larger stack. A walk that takes a few hundred bytes of stack more for each sign fails at 256 KiB. `--only WORD` makes the calls
 whose title has the word; `--fill` writes missing sums, as of rows. Sees nothing of shapes that have no row.
 """
 from __future__ import annotations
@@ -14,7 +14,7 @@ from rowfile import Row
 
 from .rows import fill, read_all
 
-SMALL_STACKS = 1024, 304  # KiB
+SMALL_STACKS = 1024, 256  # KiB
 # Its words take a quarter of the larger stack.
 LARGE = "an event with 30,000 arguments"
 

@@ -22,7 +22,7 @@ use Rattle.lucid_types_expressions.specs.declared.fault.Fault.{Fault}
 use Rattle.lucid_types_expressions.specs.declared.fault.Fault.TheVariants.{NoRule, Memory}
 use Rattle.lucid_types_expressions.specs.Gives.{Fails, Gives}
 use Rattle.lucid_types_statements.specs.Assembly.{HaveTheEffect}
-use Rattle.lucid_types_statements.specs.Bodies.{Adds, Leaves, LeavesParts, Takes, before_rest}
+use Rattle.lucid_types_statements.specs.Bodies.{Adds, Leaves, LeavesParts, Takes, alone_of, before_rest}
 use Rattle.lucid_types_statements.specs.MatchArms.{with_parts}
 
 -- ---- answers that may be none
@@ -262,3 +262,22 @@ chain_done r z c d p a s q m k is d_is of g =
     by (Err NoRule) None g = refl
     by (Err NoRule) (Some b) g = absurd (cc)
     by (Err Memory) o g = tt
+
+-- An `else if` whose branches and test are typed.
+pub chain_chosen : (r : Result (Option Body) Fault) (z : No) (c d : C) (xs : List S) (a : Option ValueType) (s t q : Names) (m l n : Numbered)
+    (b : Body) (o : Option Body) → z ≡ no.Cond c → d ≡ c → xs ≡ (out-C d).yes → body_of xs a s m ≡ Some (b, l) → t ≡ s →
+    other_of (other (out-C d).no) a t l ≡ Some (o, n) → q ≡ t →
+    Gives r (alone_of (option_map (λ e. chosen e b o) (core_of (out-C d).test q vt.Bool))) → Leaves r n (other_of (other z) a s m)
+chain_chosen r z c d xs a s t q m l n b o is d_is yes_is of ts and qt =
+    by r (option_map (λ e. chosen e b o) (core_of (out-C d).test q vt.Bool)) refl
+  where
+    by : (r : Result (Option Body) Fault) (x : Option Part) → option_map (λ e. chosen e b o) (core_of (out-C d).test q vt.Bool) ≡ x →
+        Gives r (alone_of x) → Leaves r n (other_of (other z) a s m)
+    by (Ok y) None e g = absurd (cc)
+    by (Ok y) (Some p) e g =
+        chain_done (Ok y) z c d p a s q m n is d_is (choice_done (Ok p) d xs a s t q m l n b o yes_is of ts and qt e) g
+    by (Err NoRule) None e g =
+        chain_fails NoRule z c d a s m is d_is (choice_done (Err NoRule) d xs a s t q m l n b o yes_is of ts and qt e)
+    by (Err NoRule) (Some p) e g =
+        chain_done (Err NoRule) z c d p a s q m n is d_is (choice_done (Ok p) d xs a s t q m l n b o yes_is of ts and qt e) g
+    by (Err Memory) x e g = tt

@@ -1,11 +1,11 @@
 -- The answers of calls on bodies.
-use Rattle.std.specs.Prelude.{◌≡◌, ℕ, Bool, ◌&&◌, List, nat_eq, Option, None, Some, Result, Ok, Err}
+use Rattle.std.specs.Prelude.{◌≡◌, ℕ, Bool, ◌&&◌, List, nat_eq, Option, None, Some, option_map, Result, Ok, Err}
 use Rattle.lucid_core.specs.Typing.{◌>>=◌}
 use Rattle.lucid_types_spec.specs.declared.body.Body.{Body}
 use Rattle.lucid_types_spec.specs.Block.{Numbered}
 use Rattle.lucid_types_spec.specs.Names.{Names}
 use Rattle.lucid_types_laws.specs.declared.part.Part.{Part}
-use Rattle.lucid_types_laws.specs.Statement.{Taken, onto}
+use Rattle.lucid_types_laws.specs.Statement.{Taken, onto, put}
 use Rattle.lucid_types_expressions.specs.declared.fault.Fault.{Fault}
 use Rattle.lucid_types_expressions.specs.Gives.{Fails}
 
@@ -17,6 +17,10 @@ Takes (Err f) s m o = Fails f o
 -- A part of its block, with any names and any numbered unchanged.
 abbrev pub Adds : Result Part Fault → Part → Type 0
 Adds r p = (s : Names) (m : Numbered) → Takes r s m (Some (record { part = p; names = s; numbered = m }))
+
+-- A part alone, as the second branch of an `if`.
+abbrev pub alone_of : Option Part → Option (Option Body)
+alone_of o = o >>= (λ p. option_map Some (put p None))
 
 -- The result, and the locals and texts numbered after it.
 abbrev pub Leaves : {A : Type 0} → Result A Fault → Numbered → Option (A × Numbered) → Type 0

@@ -8,7 +8,7 @@ ghost use Rattle.lucid_types_laws.specs.Reading.{core_of};
 ghost use Rattle.lucid_types_laws.specs.Statement.{chosen, onto, or_empty, put};
 ghost use Rattle.lucid_types_expressions.specs.Gives.{Gives};
 ghost use Rattle.lucid_types_statements.specs.Assembly.{GivesRest, HaveTheEffect, rest_of};
-ghost use Rattle.lucid_types_statements.specs.Bodies.{Adds};
+ghost use Rattle.lucid_types_statements.specs.Bodies.{Adds, alone_of};
 
 use crate::simple::{one, part};
 use lucid_base::{Items, Memory};
@@ -260,17 +260,6 @@ pub fn either(first: Ending, second: Ending) -> Ending
     }
 }
 
-/// The body of one part alone, as the second branch of an if.
-#[inline(never)]
-pub fn only(alloc: Global, part: Part) -> Result<Option<Body>, Fault>
-    ensures { Gives result (option_map Some (put part None)) }
-{
-    match alone(alloc, part) {
-        Ok(body) => Ok(Some(body)),
-        Err(fault) => Err(fault),
-    }
-}
-
 /// An if on this test with these branches. Without a second one, a branch that always returns is a guard of all the rest.
 #[inline(never)]
 pub fn chosen(
@@ -289,6 +278,33 @@ pub fn chosen(
             drop(no);
             Err(fault)
         }
+    }
+}
+
+/// The body of that if alone, as the second branch of another.
+#[inline(never)]
+pub fn chosen_alone(
+    alloc: Global,
+    scope: &Scope,
+    test: &E,
+    yes: Body,
+    no: Option<Body>,
+) -> Result<Option<Body>, Fault>
+    ensures { Gives result (alone_of (option_map (λ c. chosen c yes no) (core_of test.now scope.now Bool))) }
+{
+    match chosen(alloc, scope, test, yes, no) {
+        Ok(part) => only(alloc, part),
+        Err(fault) => Err(fault),
+    }
+}
+
+/// The body of one part alone, as the second branch of an if.
+fn only(alloc: Global, part: Part) -> Result<Option<Body>, Fault>
+    ensures { Gives result (option_map Some (put part None)) }
+{
+    match alone(alloc, part) {
+        Ok(body) => Ok(Some(body)),
+        Err(fault) => Err(fault),
     }
 }
 

@@ -7,7 +7,7 @@ ghost use Rattle.lucid_types_statements.specs.Bodies.{Leaves, LeavesParts, Takes
 ghost use Rattle.lucid_types_statements.specs.Kept.{Keeps};
 
 use crate::arms::{Arm, begin, joined};
-use crate::assembly::{add_part, assemble, chosen, only};
+use crate::assembly::{add_part, assemble, chosen, chosen_alone};
 use crate::simple::{assign, declare, drop_call, drop_touch, generate, give_back, print};
 use lucid_base::{Items, Width};
 use lucid_core::Ending;
@@ -128,7 +128,8 @@ fn choice(
     }
 }
 
-/// The part after the first block of a choice. It is not inlined, so that nested choices take little stack.
+/// The part after the first block of a choice. It is not inlined and does not call `choice`, so that each `else if` of a chain takes one
+/// frame of the stack.
 #[cycle(block)]
 #[inline(never)]
 fn second(
@@ -147,10 +148,19 @@ fn second(
             Ok(body) => Ok(Some(body)),
             Err(fault) => Err(fault),
         },
-        No::Cond(c) => match choice(alloc, answer, scope, numbering, c.get()) {
-            Ok(part) => only(alloc, part),
-            Err(fault) => Err(fault),
-        },
+        No::Cond(c) => {
+            let c = c.get();
+            match block(alloc, answer, scope, numbering, c.yes.as_slice()) {
+                Ok(yes) => match second(alloc, answer, scope, numbering, &c.no) {
+                    Ok(no) => chosen_alone(alloc, scope, &c.test, yes, no),
+                    Err(fault) => {
+                        drop(yes);
+                        Err(fault)
+                    }
+                },
+                Err(fault) => Err(fault),
+            }
+        }
     }
 }
 

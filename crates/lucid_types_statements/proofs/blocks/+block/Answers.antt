@@ -6,7 +6,7 @@ use Rattle.lucid_parse_tree.specs.declared.tree.S.TheVariants as form
 use Rattle.lucid_types_laws.specs.Statement.{parts, taking}
 use Rattle.lucid_types_laws.proofs.StatementForms.{absent_is, array_is, assign_is, call_is, cond_is, declare_is, generate_is, printf_is, return_is}
 use Rattle.lucid_types_scope.specs.Numbered.{numbered_of}
-use Rattle.lucid_types_statements.proofs.Assembled.{assembled, block_done, block_fails, chain_done, chain_fails, choice_done, last_part, next_part}
+use Rattle.lucid_types_statements.proofs.Assembled.{assembled, block_done, block_fails, chain_chosen, chain_fails, choice_done, last_part, next_part}
 use Rattle.lucid_types_statements.proofs.Assembled.{no_fails, no_part, on_ok_always, parts_fail, yes_fails}
 use Rattle.lucid_types_statements.proofs.Kept.{declare_keeps, keeps_all, keeps_more, keeps_same}
 use Rattle.lucid_types_statements.proofs.Matches.{arms_fail, begin_fails, last_fails, last_of_arms, match_done, next_arm, no_arm}
@@ -166,18 +166,29 @@ second-returns-in-Err-clause-gives t c =
     block_fails c.in-Err.fault c.args.no.now c.in-Block.xs c.as_slice.result.now c.args.answer.now c.args.scope.now
     (numbered_of c.args.numbering.now) c.in-Block.is c.as_slice.ensures c.in-Err.ensures.gives
 
-pub second-returns-in-Ok-choice : goal.second-returns-in-Ok-choice
-second-returns-in-Ok-choice t c = record {
-  gives = chain_done c.only.result c.args.no.now c.in-Cond.c c.get.result.now c.in-Ok-choice.part c.args.answer.now c.args.scope.now
-      c.choice.new.scope (numbered_of c.args.numbering.now) (numbered_of c.choice.new.numbering) c.in-Cond.is c.get.ensures
-      c.in-Ok-choice.ensures.gives c.only.ensures;
-  kept = on_ok_always _ c.in-Ok-choice.ensures.kept;
+pub second-returns-in-Ok-second : goal.second-returns-in-Ok-second
+second-returns-in-Ok-second t c = record {
+  gives = chain_chosen c.chosen_alone.result c.args.no.now c.in-Cond.c c.get-c.result.now c.as_slice-in-Cond.result.now c.args.answer.now
+      c.args.scope.now c.block-in-Cond.new.scope c.second.new.scope (numbered_of c.args.numbering.now) (numbered_of c.block-in-Cond.new.numbering)
+      (numbered_of c.second.new.numbering) c.in-Ok-block.yes c.in-Ok-second.no c.in-Cond.is c.get-c.ensures c.as_slice-in-Cond.ensures
+      c.in-Ok-block.ensures.gives c.in-Ok-block.ensures.kept c.in-Ok-second.ensures.gives c.in-Ok-second.ensures.kept c.chosen_alone.ensures;
+  kept = on_ok_always _ (c.in-Ok-second.ensures.kept ∙ c.in-Ok-block.ensures.kept);
 }
 
-pub second-returns-in-Err-choice-clause-gives : goal.second-returns-in-Err-choice-clause-gives
-second-returns-in-Err-choice-clause-gives t c =
-    chain_fails c.in-Err-choice.fault c.args.no.now c.in-Cond.c c.get.result.now c.args.answer.now c.args.scope.now
-    (numbered_of c.args.numbering.now) c.in-Cond.is c.get.ensures c.in-Err-choice.ensures.gives
+pub second-returns-in-Err-second-clause-gives : goal.second-returns-in-Err-second-clause-gives
+second-returns-in-Err-second-clause-gives t c =
+    chain_fails c.in-Err-second.fault c.args.no.now c.in-Cond.c c.get-c.result.now c.args.answer.now c.args.scope.now
+    (numbered_of c.args.numbering.now) c.in-Cond.is c.get-c.ensures
+    (no_fails c.in-Err-second.fault c.get-c.result.now c.as_slice-in-Cond.result.now c.args.answer.now c.args.scope.now
+    c.block-in-Cond.new.scope (numbered_of c.args.numbering.now) (numbered_of c.block-in-Cond.new.numbering) c.in-Ok-block.yes
+    c.as_slice-in-Cond.ensures c.in-Ok-block.ensures.gives c.in-Ok-block.ensures.kept c.in-Err-second.ensures.gives)
+
+pub second-returns-in-Err-block-clause-gives : goal.second-returns-in-Err-block-clause-gives
+second-returns-in-Err-block-clause-gives t c =
+    chain_fails c.in-Err-block.fault c.args.no.now c.in-Cond.c c.get-c.result.now c.args.answer.now c.args.scope.now
+    (numbered_of c.args.numbering.now) c.in-Cond.is c.get-c.ensures
+    (yes_fails c.in-Err-block.fault c.get-c.result.now c.as_slice-in-Cond.result.now c.args.answer.now c.args.scope.now
+    (numbered_of c.args.numbering.now) c.as_slice-in-Cond.ensures c.in-Err-block.ensures.gives)
 
 -- ---- arms
 
