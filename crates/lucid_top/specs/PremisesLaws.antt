@@ -1,5 +1,5 @@
 -- The premises of the headline are what the commands accept: each is the definition that the commands use, at a result that is no refusal.
-use Rattle.std.specs.Prelude.{◌≡◌, ◌↔◌, ℕ, List, Ok, length, map}
+use Rattle.std.specs.Prelude.{◌↔◌, List, Ok, length, map}
 use Rattle.lucid_audit.specs.declared.plan.Plan.{Plan}
 use Rattle.lucid_code.specs.Nodes.{nodes}
 use Rattle.lucid_conf.specs.declared.limits.Limits.{Limits}
