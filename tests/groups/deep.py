@@ -1,8 +1,9 @@
 """Texts and files at their limits: the calls of tests/deep.rows, with seconds and memory, and again on stacks of 1 MiB and 256 KiB.
 
 Prints a line of a table for each call. Fails on a call that ends by a signal, takes over two minutes, or ends otherwise than its row says
-or than on the larger stack. A walk that takes a few hundred bytes of stack more for each sign fails at 256 KiB. `--only WORD` makes the calls
-whose title has the word; `--fill` writes missing sums, as of rows. Sees nothing of shapes that have no row.
+or than on the larger stack. A walk that takes a few hundred bytes of stack more for each sign fails at 256 KiB. The environment, which lies
+on the stack, too, is empty there. `--only WORD` makes the calls whose title has the word; `--fill` writes missing sums, as of rows. Sees
+nothing of shapes that have no row.
 """
 from __future__ import annotations
 
@@ -41,7 +42,7 @@ def line_of(group: Group, spent: Path, row: Row) -> List[object]:
     group.check(f"tests/deep.rows:{row.line}: {row.title}", row.holds(it.ended), it.ended)
     for stack in SMALL_STACKS:
         if row.title != LARGE:
-            small = measure(spent, ["/bin/sh", "-c", f'ulimit -s {stack}; exec "$0" "$@"', *call], folder).ended
+            small = measure(spent, ["/bin/sh", "-c", f'ulimit -s {stack}; exec env -i "$0" "$@"', *call], folder).ended
             group.check(f"tests/deep.rows:{row.line}: {row.title}: the same on a stack of {stack} KiB", small == it.ended, small)
     words = " ".join(row.words)[:40]
     return [f"{row.title}: `{words}`", row.bytes_read(), ending(it.ended), f"{it.seconds:.2f}", it.megabytes]
