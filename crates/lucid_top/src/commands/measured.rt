@@ -18,14 +18,6 @@ use lucid_top_words::Refusal;
 use std::alloc::Global;
 
 impl Measured {
-    // As `Target::new`.
-    fn new(target: Target, made: Composition) -> Measured
-        ensures target { result.target ≡ target }
-        ensures made { result.made ≡ made }
-    {
-        Measured { target, made }
-    }
-
     /// Prepares the code that the passes make of the program of the first text, of which the counts keep the limits of the second.
     pub fn read(
         alloc: Global,
@@ -88,7 +80,7 @@ fn measured_as(alloc: Global, target: Target, made: Composition) -> Result<Measu
     ensures keeps { IfOk result MeasuredKeeps }
 {
     match counted(alloc, &target.core, &target.limits, &made.code) {
-        Ok(()) => Ok(Measured::new(target, made)),
+        Ok(()) => Ok(Measured { target, made }),
         Err(refusal) => {
             drop(target);
             drop(made);

@@ -1,5 +1,5 @@
 // A program under the limits of a target, from the texts of their files.
-ghost use Rattle.std.specs.Prelude.{◌≡◌, ◌<◌, IfOk, length};
+ghost use Rattle.std.specs.Prelude.{◌<◌, IfOk, length};
 ghost use Rattle.lucid_top_words.specs.Files.{texts_in};
 ghost use Rattle.lucid_top_words.specs.Outcome.{Prepares};
 ghost use Rattle.lucid_top_words.specs.Words.{word_at};
@@ -8,21 +8,11 @@ ghost use Rattle.lucid_top.specs.Pipes.{IsTarget};
 
 use crate::commands::setup::Target;
 use crate::commands::text_at;
-use lucid_conf::Limits;
-use lucid_core::Core;
 use lucid_top_program::{accepted, limits};
 use lucid_top_words::Refusal;
 use std::alloc::Global;
 
 impl Target {
-    // Apart from `read`, whose proof would unfold this struct on each of its paths.
-    fn new(core: Core, limits: Limits) -> Target
-        ensures core { result.core ≡ core }
-        ensures limits { result.limits ≡ limits }
-    {
-        Target { core, limits }
-    }
-
     /// Returns the program of the first text under the limits of the second.
     pub fn read(alloc: Global, texts: &[Vec<u8>]) -> Result<Target, Refusal>
         requires { 1 < length texts.now }
@@ -32,7 +22,7 @@ impl Target {
     {
         let core = accepted(alloc, text_at(texts, 0))?;
         match limits(alloc, text_at(texts, 1)) {
-            Ok(limits) => Ok(Target::new(core, limits)),
+            Ok(limits) => Ok(Target { core, limits }),
             Err(refusal) => {
                 drop(core);
                 Err(refusal)

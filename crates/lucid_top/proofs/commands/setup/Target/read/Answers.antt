@@ -1,6 +1,4 @@
-use Rattle.std.proofs.Common.{◌≡◌, List, ℕ, Ok, Err, Result, ap, rules, subst, ◌∙◌}
-use Rattle.lucid_conf.specs.declared.limits.Limits.{Limits}
-use Rattle.lucid_core.specs.Parts.{CoreParts}
+use Rattle.std.proofs.Common.{◌≡◌, List, ℕ, Ok, Err, Result, rules, subst}
 use Rattle.lucid_top_program.specs.Program.{IsProgram}
 use Rattle.lucid_top_program.specs.Settings.{IsLimits}
 use Rattle.lucid_top_words.specs.declared.refusal.Refusal.{Refusal}
@@ -23,16 +21,11 @@ pub returns-in-Ok-clause-target : goal.returns-in-Ok-clause-target
 returns-in-Ok-clause-target c =
     let text = word_at (texts_in c.args.texts.now) in
     let target = seen.target c.in_ok-core.core c.in-Ok.limits in
-    let same : target_view c.new.result ≡ target =
-    ap (λ (core : CoreParts). seen.target core c.new.result.limits) c.new.ensures.core
-    ∙ ap (λ (l : Limits). seen.target c.in_ok-core.core l) c.new.ensures.limits in
-    Prepares-ok {Q = Target} (IsProgram (text 0)) (λ core. seen.IsUnder core (text 1)) target_view c.in_ok-core.core (Ok c.new.result)
+    Prepares-ok {Q = Target} (IsProgram (text 0)) (λ core. seen.IsUnder core (text 1)) target_view c.in_ok-core.core (Ok (record { core = c.in_ok-core.core; limits = c.in-Ok.limits }))
     (subst (λ (t : List ℕ). IsTheAnswer (IsProgram t) (Ok c.in_ok-core.core)) c.text_at.ensures c.in_ok-core.ensures.program)
     (Prepares-ok {Q = Target} (IsLimits (text 1)) (λ l (p : Result seen.Target Refusal). p ≡ Ok (seen.target c.in_ok-core.core l)) target_view
-    c.in-Ok.limits (Ok c.new.result)
-    (subst (λ (t : List ℕ). IsTheAnswer (IsLimits t) (Ok c.in-Ok.limits)) c.text_at-2.ensures c.in-Ok.ensures.limits)
-    (subst (λ (t : seen.Target). IsTheAnswer (λ (p : Result seen.Target Refusal). p ≡ Ok t) (Ok (target_view c.new.result))) same
-    (one-text (target_view c.new.result))))
+    c.in-Ok.limits (Ok (record { core = c.in_ok-core.core; limits = c.in-Ok.limits }))
+    (subst (λ (t : List ℕ). IsTheAnswer (IsLimits t) (Ok c.in-Ok.limits)) c.text_at-2.ensures c.in-Ok.ensures.limits) (one-text target))
 
 pub returns-in-Err-clause-target : goal.returns-in-Err-clause-target
 returns-in-Err-clause-target c =
