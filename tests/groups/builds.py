@@ -3,7 +3,8 @@
 Sees no proofs. Seen to fail:
 - run: a plan for one job, minutes of a processor that are seconds
 - whole: a crate that begins before its libraries are there, libraries that stay in their lane, one or three crates at a time, the shortest
-  chain first, another line of progress, a lane that stays, a wrong crate that ends with 0 or without its log; libraries with proofs
+  chain first, another line of progress, a lane that stays, a wrong crate that ends with 0 or without its log; libraries with proofs,
+  one job for the lowest crate, or several for each
 - interrupted: libraries of the stopped build that no lane gets, SIGTERM without its handler, another status at an interrupt
 """
 from __future__ import annotations
@@ -26,12 +27,12 @@ from .script import tool_file
 SIDES = [f"side_{letter}" for letter in "abcdef"]
 CRATES = {"low": "", **{side: "low" for side in SIDES}, "top": " ".join(SIDES), "lucid_main": "top"}
 # `rt lib` proves a crate if its libraries are there and its own is not, and takes a moment for it. `rt run` links the program. Libraries
-# with their proofs would load slowly, and more jobs for each crate than one prove slowly.
+# with their proofs would load slowly, and several jobs prove slowly, but for the lowest crate.
 KIT = """#!/bin/sh
 calls=${0%/*}/calls
 name=${PWD##*/}
 [ ! -e "${0%/*}/wrong-$name" ] || { echo "a function is wrong"; exit 1; }
-case "$*" in "lib --jobs 1 --statements" | "run --jobs 1 -- "*) ;; *) echo "slow: $*"; exit 1 ;; esac
+case "$name $*" in "low lib --jobs 4 --statements" | [!l]*" lib --jobs 1 --statements" | *" run --jobs 1 -- "*) ;; *) echo "slow: $*"; exit 1 ;; esac
 for low in $(sed -n "s/^$name: *//p" ../../crates.txt); do
     [ -e "../$low/out/rlib/stamp" ] || { echo "lacks $name $low" >>"$calls"; exit 1; }
 done
