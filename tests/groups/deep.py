@@ -1,7 +1,7 @@
-"""Texts and files at their limits: the calls of tests/deep.rows, with seconds and memory, and again on stacks of 1 MiB and 256 KiB.
+"""Texts and files at their limits: the calls of tests/deep.rows, with seconds and memory, and again on stacks of 1 MiB and 288 KiB, three of 256 KiB.
 
 Prints a line of a table for each call. Fails on a call that ends by a signal, takes over two minutes, or ends otherwise than its row says
-or than on the larger stack. A walk that takes a few hundred bytes of stack more for each sign fails at 256 KiB. The environment, which lies
+or than on the larger stack. A walk that takes a few hundred bytes of stack more for each sign fails at 288 KiB. The environment, which lies
 on the stack, too, is empty there. `--only WORD` makes the calls whose title has the word; `--fill` writes missing sums, as of rows. Sees
 nothing of shapes that have no row.
 """
@@ -15,7 +15,9 @@ from rowfile import Row
 
 from .rows import fill, read_all
 
-SMALL_STACKS = 1024, 256  # KiB
+SMALL_STACKS = 1024, 288  # KiB
+# Ordinary programs run on a smaller one.
+ORDINARY, LEAST = ("a sum of 127 terms", "ifs 62 deep in one another", "an if with 256 else"), 256
 # Its words take a quarter of the larger stack.
 LARGE = "an event with 30,000 arguments"
 
@@ -40,7 +42,7 @@ def line_of(group: Group, spent: Path, row: Row) -> List[object]:
     call = [group.options.program, *row.words]
     it = measure(spent, call, folder)
     group.check(f"tests/deep.rows:{row.line}: {row.title}", row.holds(it.ended), it.ended)
-    for stack in SMALL_STACKS:
+    for stack in (*SMALL_STACKS, *[LEAST] * (row.title in ORDINARY)):
         if row.title != LARGE:
             small = measure(spent, ["/bin/sh", "-c", f'ulimit -s {stack}; exec env -i "$0" "$@"', *call], folder).ended
             group.check(f"tests/deep.rows:{row.line}: {row.title}: the same on a stack of {stack} KiB", small == it.ended, small)
