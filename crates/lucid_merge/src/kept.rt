@@ -119,7 +119,13 @@ impl Kept {
         ensures { OnOk result (self.new ≡ self.old ++ row ∷ []) }
     {
         let sign = with_bits(self.bits.as_slice(), 0, row.pattern.as_slice());
-        note_common(&mut self.commons, self.rows.len(), sign)?;
+        match note_common(&mut self.commons, self.rows.len(), sign) {
+            Ok(()) => {}
+            Err(error) => {
+                drop(row);
+                return Err(error);
+            }
+        }
         self.rows.push(Signed { row, sign })?;
         Ok(())
     }

@@ -115,7 +115,9 @@ pub(crate) fn offer_all<L: Ledger>(
         None => Ok(true),
         Some(places) => {
             let rows = partners.rows();
-            if !offer_places(alloc, kept, a, rows, places.as_slice(), most, steps)? {
+            let offered = offer_places(alloc, kept, a, rows, places.as_slice(), most, steps);
+            drop(places);
+            if !offered? {
                 return Ok(false);
             }
             offer(alloc, kept, a, last, most, steps)

@@ -25,8 +25,22 @@ fn both_ops(alloc: Global, a: &[u32], b: &[u32]) -> Result<Items<u32>, Memory>
     ensures { IfOk result (λ ops. ops ≡ a.now ++ b.now) }
 {
     let mut ops = Items::from_slice(alloc, a)?;
-    ops.append(Items::from_slice(alloc, b)?)?;
-    Ok(ops)
+    match append_copy(alloc, &mut ops, b) {
+        Ok(()) => Ok(ops),
+        Err(error) => {
+            drop(ops);
+            Err(error)
+        }
+    }
+}
+
+/// Puts a copy of more operations behind these.
+fn append_copy(alloc: Global, ops: &mut Items<u32>, more: &[u32]) -> Result<(), Memory>
+    ensures { OnOk result (ops.new ≡ ops.old ++ more.now) }
+{
+    let copy = Items::from_slice(alloc, more)?;
+    ops.append(copy)?;
+    Ok(())
 }
 
 /// Returns the literals of two patterns, none twice.

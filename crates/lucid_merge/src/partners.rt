@@ -151,12 +151,14 @@ impl<'a> Partners<'a> {
         let lone = self.lone.as_slice();
         let own = contested_row(alloc, lone, row)?;
         if own.contradicts_itself {
+            drop(own);
             return Ok(None);
         }
         let of_p = own.literals.as_slice();
         let places = likely_places(self.near.as_slice(), self.all.as_slice(), row);
         let others = self.contested.as_slice();
-        let found = partners_among(alloc, lone, self.rows, others, p, of_p, places, steps)?;
-        Ok(Some(found))
+        let found = partners_among(alloc, lone, self.rows, others, p, of_p, places, steps);
+        drop(own);
+        Ok(Some(found?))
     }
 }

@@ -1,5 +1,6 @@
-use Rattle.std.proofs.Common.{◌≡◌, [], sym, refl, subst, append-nil, rules}
+use Rattle.std.proofs.Common.{◌≡◌, [], sym, refl, subst, append-nil, rules, arith}
 use Rattle.std.proofs.lemmas.Result.{on_ok_weaker, on_err_weaker}
+use Rattle.std.proofs.lemmas.Grind.{common_steps}
 use Rattle.lucid_io.specs.Puts.{Leaves}
 use Rattle.lucid_io.proofs.Leaves.{Leaves-whole, Leaves-after, PutsPart-last}
 use Rattle.lucid_io.proofs.room.hold_behind.Goals as goal
@@ -17,3 +18,6 @@ returns-clause-part g c =
     on_err_weaker c.put_all.result
     (λ cut. PutsPart-last (Leaves-after Leaves-whole c.in_ok-release.ensures.all refl) cut refl)
     c.put_all.ensures.part
+
+pub returns-in_err-release-clause-part : goal.returns-in_err-release-clause-part
+returns-in_err-release-clause-part g c = grind (arith, common_steps)

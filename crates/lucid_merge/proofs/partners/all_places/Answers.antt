@@ -1,4 +1,5 @@
 use Rattle.std.proofs.Common.{◌≡◌, ℕ, ◌+◌, List, [], ◌∷◌, ◌++◌, length, drop, sym, subst, arith, length-append}
+use Rattle.std.proofs.lemmas.Grind.{common_steps}
 use Rattle.lucid_merge.specs.Standing.{rows_at}
 use Rattle.lucid_merge.proofs.PartnersLemmas.{place_more}
 use Rattle.lucid_merge.proofs.partners.all_places.Goals as goal
@@ -12,3 +13,6 @@ loop-place-preserved c =
       place_more rows all i c.loop-place-test.true c.loop-place.invariant.0,
       omega (arith, length-append all (i ∷ []), c.loop-place.invariant.1),
     )
+
+pub returns : goal.returns
+returns c = grind (arith, common_steps)

@@ -1,4 +1,5 @@
-use Rattle.std.proofs.Common.{◌++◌, ◌∷◌, [], subst}
+use Rattle.std.proofs.Common.{◌++◌, ◌∷◌, [], subst, arith}
+use Rattle.std.proofs.lemmas.Grind.{common_steps, elements}
 use Rattle.lucid_merge.specs.Offers.{Offered}
 use Rattle.lucid_merge.specs.Product.{default, pairs_with, kept_of}
 use Rattle.lucid_merge.proofs.Keeping.{row_passes, end_answers}
@@ -13,3 +14,12 @@ pub returns-clause-offered : goal.returns-clause-offered
 returns-clause-offered g c =
     end_answers c.args.most c.loop-row.row-index c.loop-row.kept c.offer_each.new.kept c.args.last.now c.args.a.now c.args.b.now c.offer_each.result c.loop-row-test.false c.requires.last c.loop-row.invariant.0
     c.offer_each.ensures.offered
+
+pub loop-row-preserved : goal.loop-row-preserved
+loop-row-preserved g c = grind (arith, common_steps)
+
+pub returns-in_err-offer_all-clause-steps : goal.returns-in_err-offer_all-clause-steps
+returns-in_err-offer_all-clause-steps g c = grind (arith, elements)
+
+pub returns-then-not-branch-clause-steps : goal.returns-then-not-branch-clause-steps
+returns-then-not-branch-clause-steps g c = grind (arith, elements)

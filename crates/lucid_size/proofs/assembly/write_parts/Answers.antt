@@ -2,6 +2,7 @@ use Rattle.std.proofs.Common.{◌≡◌, ◌∙◌, ◌<◌, ◌≤◌, List, �
 use Rattle.std.specs.Prelude.{All}
 use Rattle.std.proofs.lemmas.List.Elements.{All-get_or}
 use Rattle.std.proofs.lemmas.Result.{on_ok_weaker}
+use Rattle.std.proofs.lemmas.Grind.{moves}
 use Rattle.lucid_size.specs.declared.step.Step.{Step}
 use Rattle.lucid_size.specs.declared.template.Template.{Template}
 use Rattle.lucid_size.specs.Places.{AreInOrder, InText}
@@ -77,3 +78,6 @@ returns c =
     whole_end c.args.text.now c.args.tokens.now c.args.underscores c.args.names.now (widths_in c.args.found.now) c.loop-at.from c.loop-at.at
     c.args.templates.now c.loop-at.out.items c.write_outside-written.new.out.items _ c.loop-at-test.false h c.loop-at.invariant.left)
     c.write_outside-written.ensures
+
+pub index-requires : goal.index-requires
+index-requires c = grind (arith, moves)

@@ -1,4 +1,5 @@
-use Rattle.std.proofs.Common.{List, ℕ, ap, ap₂, ◌∙◌}
+use Rattle.std.proofs.Common.{List, ℕ, ap, ap₂, ◌∙◌, arith}
+use Rattle.std.proofs.lemmas.Grind.{common_steps}
 use Rattle.lucid_code.specs.declared.op.Literal.{Literal}
 use Rattle.lucid_merge.specs.Chunks.{with_common}
 use Rattle.lucid_merge.specs.Signs.{with_bits}
@@ -15,7 +16,7 @@ invariant_of-self-in_err-push c =
           (c.with_bits-sign.ensures ∙ ap₂ (λ (bits : List ℕ) (p : List Literal). with_bits bits 0 p) c.as_slice.ensures.value c.as_slice-2.ensures)
           c.push.ensures.items,
       commons_still commons c.note_common.new.commons.items rows c.push.new.self.items (record { row = c.args.row; sign = sign }) c.push.result c.self.invariant.1
-          (c.in_ok-note_common.ensures.ok ∙ ap (λ n. with_common commons n sign) (c.len.ensures ∙ c.self.inside.rows.ok.0))
+          (c.in-Ok.ensures.ok ∙ ap (λ n. with_common commons n sign) (c.len.ensures ∙ c.self.inside.rows.ok.0))
           c.push.ensures.items,
     )
 
@@ -28,6 +29,9 @@ invariant_of-self-2 c =
           (c.with_bits-sign.ensures ∙ ap₂ (λ (bits : List ℕ) (p : List Literal). with_bits bits 0 p) c.as_slice.ensures.value c.as_slice-2.ensures)
           c.push.ensures.items,
       commons_still commons c.note_common.new.commons.items rows c.push.new.self.items (record { row = c.args.row; sign = sign }) c.push.result c.self.invariant.1
-          (c.in_ok-note_common.ensures.ok ∙ ap (λ n. with_common commons n sign) (c.len.ensures ∙ c.self.inside.rows.ok.0))
+          (c.in-Ok.ensures.ok ∙ ap (λ n. with_common commons n sign) (c.len.ensures ∙ c.self.inside.rows.ok.0))
           c.push.ensures.items,
     )
+
+pub returns : goal.returns
+returns c = grind (arith, common_steps)
