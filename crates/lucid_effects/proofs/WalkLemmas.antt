@@ -1,6 +1,6 @@
 -- A block that ends in an `if`, gone along by the second branches.
 use Rattle.std.proofs.Common.{◌≡◌, ℕ, ◌+◌, ◌<◌, ◌≤◌, ◌⊎◌, inl, inr, Bool, true, false, List, [], ◌∷◌, ◌++◌, if◌then◌else◌, ◌||◌, Option, None, Some, Ok, Err}
-use Rattle.std.proofs.Common.{map, refl, sym}
+use Rattle.std.proofs.Common.{length, map, refl, sym}
 use Rattle.std.proofs.Common.{ap, ap₂, subst, ◌∙◌, arith}
 use Rattle.std.specs.List.{list_any}
 use Rattle.std.specs.Prelude.{Result, IsErr, OnOk}
@@ -52,6 +52,23 @@ pub closes : {A : Type 0} (r : Result A Memory) (firsts : Option (List Atom)) (t
     Goes there here r → Goes whole (closed firsts here) r
 closes (Ok x) firsts there here whole is h = ap (λ (w : Walked). closed firsts w) h ∙ is
 closes (Err d) firsts there here whole is h = subst (λ (w : Walked). here.steps ≤ w.steps) is h
+
+-- No statement is left.
+pub none_left : (left : List Stmt) (fs : List Scheme) (w : Walked) (firsts : Option (List Atom)) (whole : Walked) → length left ≡ 0 →
+    closed firsts (body_found left fs w) ≡ whole → closed firsts w ≡ whole
+none_left [] fs w firsts whole none is = is
+none_left (s ∷ ss) fs w firsts whole none is = absurd (omega arith)
+
+-- A first branch that is lent as a slice, after a step.
+module _ (x : Expr) (a ss : List Stmt) (fs : List Scheme) (at : Scheme) (n k : ℕ) (is : ss ≡ a) (tick : k ≡ n + 1) where
+  pub branch_is : (here : Walked) → here ≡ back_from x ss fs (walked at k) → here ≡ back_from x a fs (walked at (n + 1))
+  branch_is here found = found ∙ ap₂ (λ (ss : List Stmt) (k : ℕ). back_from x ss fs (walked at k)) is tick
+
+  pub branch_ends : (ends : List Atom) → ends ≡ (first x ss fs (walked at k)).ends → ends ≡ (first x a fs (walked at (n + 1))).ends
+  branch_ends ends found = found ∙ ap₂ (λ (ss : List Stmt) (k : ℕ). (first x ss fs (walked at k)).ends) is tick
+
+  pub branch_most : (j : ℕ) → j ≤ (first x ss fs (walked at k)).steps → j ≤ (first x a fs (walked at (n + 1))).steps
+  branch_most j most = subst (λ steps. j ≤ steps) (ap₂ (λ (ss : List Stmt) (k : ℕ). (first x ss fs (walked at k)).steps) is tick) most
 
 -- ---- joining joined places
 

@@ -270,14 +270,17 @@ fn along<L: Ledger>(
     ensures { Goes (closed firsts.old (body_found stmts.now schemes.now (walked at.old steps.old))) (closed firsts.new (walked at.new steps.new)) result }
 {
     let mut left = stmts;
-    while let Some((Stmt::If(e, a, b), front)) = left.split_last() {
+    while let Some((last, front)) = left.split_last() {
+        let Stmt::If(e, a, b) = last else {
+            return each(alloc, schemes, at, steps, left);
+        };
         each(alloc, schemes, at, steps, front)?;
         steps.tick();
         let ends = first_branch(alloc, schemes, at, steps, e, a.as_slice())?;
         keep(firsts, ends)?;
         left = b.as_slice();
     }
-    each(alloc, schemes, at, steps, left)
+    Ok(())
 }
 
 /// Walks along statements, each by itself.

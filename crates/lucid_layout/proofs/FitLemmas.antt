@@ -83,6 +83,17 @@ pub record Moment (ops : List Op) (limits : Limits) (fields : ℕ) (nodes : List
   pub fit : (ps : List Pair) → IsFirstFit ops limits (seats nodes pairs) (drop i nodes) ps → IsFirstFit ops limits [] nodes (pairs ++ ps)
   pub stuck : (j : ℕ) → IsStuck ops limits (seats nodes pairs) (drop i nodes) j → IsStuck ops limits [] nodes (i + j)
 
+pub start : (ops : List Op) (limits : Limits) (fields : ℕ) (nodes : List Work) (stages : List Stage) (low : List ℕ) (pairs : List Pair) →
+    stages ≡ replicate limits.stages no_tables → low ≡ zeros fields → pairs ≡ [] → Moment ops limits fields nodes 0 stages low pairs
+start ops limits fields nodes stages low pairs none lowest no_pairs =
+    subst (λ ps. Moment ops limits fields nodes 0 stages low ps) (sym no_pairs) (record {
+      long = refl;
+      stages_are = none;
+      low_are = lowest;
+      fit = λ ps found. found;
+      stuck = λ j found. subst (λ k. IsStuck ops limits [] nodes k) (omega arith) found;
+    })
+
 module _ (ops : List Op) (limits : Limits) (fields i : ℕ) (nodes : List Work) (stages : List Stage) (low : List ℕ) (pairs : List Pair) (m : Moment ops limits fields nodes i stages low pairs) where
   pub finish : length nodes ≤ i → IsFirstFit ops limits [] nodes pairs
   finish h = subst (λ ps. IsFirstFit ops limits [] nodes ps) (append-nil pairs) (m.fit [] (subst (λ ns. IsFirstFit ops limits (seats nodes pairs) ns []) (sym (drop_all i nodes h)) tt))

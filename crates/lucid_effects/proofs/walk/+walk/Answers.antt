@@ -8,14 +8,14 @@ use Rattle.lucid_core.specs.declared.body.Stmt.{Stmt}
 use Rattle.lucid_core.specs.declared.body.Stmt.TheVariants as s
 use Rattle.lucid_constraints.specs.Same.{same_atom, join_all}
 use Rattle.lucid_effects_spec.specs.Evaluation.{sequence}
-use Rattle.lucid_effects.specs.Walk.{asked_found, back_from, behind, closed, first}
+use Rattle.lucid_effects.specs.Walk.{asked_found, back_from, behind, closed}
 use Rattle.lucid_effects.specs.Goes.{walked}
 use Rattle.lucid_effects_spec.specs.Schemes.{Walked, body_found, either, expr_found, finds, given_found, stmt_found}
 use Rattle.lucid_effects_spec.specs.Schemes.{touch_found}
 use Rattle.lucid_effects.proofs.Rising.{expr_left, get_left, given_all, given_left, given_next, next_item, no_item, stmt_left}
-use Rattle.lucid_effects.proofs.WalkLemmas.{array_goes, assign_goes, behind_goes, bin_goes, both_stop, call_goes, call_stops, closes, either_joins}
+use Rattle.lucid_effects.proofs.WalkLemmas.{array_goes, assign_goes, behind_goes, bin_goes, branch_ends, branch_is, branch_most, both_stop, call_goes, call_stops, closes, either_joins}
 use Rattle.lucid_effects.proofs.WalkLemmas.{either_left, ends_there, first_back, first_left, front_left, gen_goes, gen_stops}
-use Rattle.lucid_effects.proofs.WalkLemmas.{goes_on, hash_goes, if_goes, inlined_goes, inlined_stops, multi_goes, multi_stops, no_deeper}
+use Rattle.lucid_effects.proofs.WalkLemmas.{goes_on, hash_goes, if_goes, inlined_goes, inlined_stops, multi_goes, multi_stops, no_deeper, none_left}
 use Rattle.lucid_effects.proofs.WalkLemmas.{parts_are_less, return_goes, say_goes, stepped_by, stops, tested_left, touch_goes, touch_stops, two_stop, un_goes}
 use Rattle.lucid_effects.proofs.walk.+walk.Goals as goal
 
@@ -150,82 +150,75 @@ touch-returns g t c =
     touch_goes c.passes.result c.args.t.now c.args.schemes.now (walked c.args.at.now c.args.steps.now) (walked c.two.new.at c.two.new.steps) (walked c.passes.new.at c.passes.new.steps) c.in_ok-two.ensures
     (walked c.expr.new.at c.expr.new.steps) c.in_ok-expr.ensures c.passes.ensures
 
-pub along-loop-e-init : goal.along-loop-e-init
-along-loop-e-init g t c =
+pub along-loop-last-init : goal.along-loop-last-init
+along-loop-last-init g t c =
     (omega arith, refl)
 
-pub along-loop-e-preserved : goal.along-loop-e-preserved
-along-loop-e-preserved g t c =
-    let last = c.in-Some-If-default in
-    let split : c.loop-e.left.now ≡ last.front.now ++ s.If last.e last.a last.b ∷ [] =
-    last.ensures.cases.0 ∙ ap (λ (x : Stmt). last.front.now ++ x ∷ []) last.field-0-0-is in
-    let rest : c.as_slice-left.result.now ≡ last.b = search rules in
-    let deep = no_deeper c.loop-e.left.now last.front.now c.args.stmts.now c.as_slice-left.result.now last.e last.a last.b split rest c.loop-e.invariant.0 in
-    let two : walked c.first_branch.new.at c.first_branch.new.steps ≡ back_from last.e last.a c.args.schemes.now
-    (walked c.each.new.at (c.each.new.steps + 1)) = search rules in
-    let ends : c.in_ok-ends.ends ≡ (first last.e last.a c.args.schemes.now (walked c.each.new.at (c.each.new.steps + 1))).ends =
-    search rules in (
+pub along-loop-last-preserved : goal.along-loop-last-preserved
+along-loop-last-preserved g t c =
+    let split : c.loop-last.left.now ≡ c.in-Some.front.now ++ s.If c.in-If.e c.in-If.a c.in-If.b ∷ [] =
+    c.in-Some.ensures.cases.0 ∙ ap (λ (x : Stmt). c.in-Some.front.now ++ x ∷ []) c.in-If.is in
+    let deep = no_deeper c.loop-last.left.now c.in-Some.front.now c.args.stmts.now c.as_slice-left.result.now c.in-If.e c.in-If.a c.in-If.b split c.as_slice-left.ensures c.loop-last.invariant.0 in
+    let two = branch_is c.in-If.e c.in-If.a c.as_slice.result.now c.args.schemes.now c.each-in-Some.new.at c.each-in-Some.new.steps c.tick.new.self c.as_slice.ensures c.tick.ensures
+    (walked c.first_branch.new.at c.first_branch.new.steps) c.in_ok-ends.ensures.found in
+    let ends = branch_ends c.in-If.e c.in-If.a c.as_slice.result.now c.args.schemes.now c.each-in-Some.new.at c.each-in-Some.new.steps c.tick.new.self c.as_slice.ensures c.tick.ensures c.in_ok-ends.ends c.in_ok-ends.ensures.ends in (
       deep.0,
-      stepped_by c.loop-e.left.now last.front.now last.e last.a last.b split c.args.schemes.now (walked c.loop-e.at c.loop-e.steps)
-          c.loop-e.firsts (closed c.args.firsts.now (body_found c.args.stmts.now c.args.schemes.now (walked c.args.at.now c.args.steps.now))) c.loop-e.invariant.1
-          (walked c.each.new.at c.each.new.steps) (walked c.first_branch.new.at c.first_branch.new.steps) c.in_ok-ends.ends c.keep.new.firsts
-          c.as_slice-left.result.now c.in_ok-each.ensures two ends c.in_ok-keep.ensures rest,
+      stepped_by c.loop-last.left.now c.in-Some.front.now c.in-If.e c.in-If.a c.in-If.b split c.args.schemes.now (walked c.loop-last.at c.loop-last.steps)
+          c.loop-last.firsts (closed c.args.firsts.now (body_found c.args.stmts.now c.args.schemes.now (walked c.args.at.now c.args.steps.now))) c.loop-last.invariant.1
+          (walked c.each-in-Some.new.at c.each-in-Some.new.steps) (walked c.first_branch.new.at c.first_branch.new.steps) c.in_ok-ends.ends c.keep.new.firsts
+          c.as_slice-left.result.now c.in_ok-each.ensures two ends c.in_ok-keep.ensures c.as_slice-left.ensures,
     )
 
-pub along-loop-e-smaller : goal.along-loop-e-smaller
-along-loop-e-smaller g t c =
-    let last = c.in-Some-If-default in
-    let split : c.loop-e.left.now ≡ last.front.now ++ s.If last.e last.a last.b ∷ [] =
-    last.ensures.cases.0 ∙ ap (λ (x : Stmt). last.front.now ++ x ∷ []) last.field-0-0-is in
-    let rest : c.as_slice-left.result.now ≡ last.b = search rules in
-    (no_deeper c.loop-e.left.now last.front.now c.args.stmts.now c.as_slice-left.result.now last.e last.a last.b split rest c.loop-e.invariant.0).1
+pub along-loop-last-smaller : goal.along-loop-last-smaller
+along-loop-last-smaller g t c =
+    let split : c.loop-last.left.now ≡ c.in-Some.front.now ++ s.If c.in-If.e c.in-If.a c.in-If.b ∷ [] =
+    c.in-Some.ensures.cases.0 ∙ ap (λ (x : Stmt). c.in-Some.front.now ++ x ∷ []) c.in-If.is in
+    (no_deeper c.loop-last.left.now c.in-Some.front.now c.args.stmts.now c.as_slice-left.result.now c.in-If.e c.in-If.a c.in-If.b split c.as_slice-left.ensures c.loop-last.invariant.0).1
 
 pub along-first_branch-requires : goal.along-first_branch-requires
 along-first_branch-requires g t c =
-    let last = c.in-Some-If-default in
-    let split : c.loop-e.left.now ≡ last.front.now ++ s.If last.e last.a last.b ∷ [] =
-    last.ensures.cases.0 ∙ ap (λ (x : Stmt). last.front.now ++ x ∷ []) last.field-0-0-is in
-    let yes : c.as_slice.result.now ≡ last.a = search rules in
+    let split : c.loop-last.left.now ≡ c.in-Some.front.now ++ s.If c.in-If.e c.in-If.a c.in-If.b ∷ [] =
+    c.in-Some.ensures.cases.0 ∙ ap (λ (x : Stmt). c.in-Some.front.now ++ x ∷ []) c.in-If.is in
     let less = parts_are_less _ _ _ _ _ split in
-    let slice : most (λ x. size-Stmt x) c.as_slice.result.now ≡ most (λ x. size-Stmt x) last.a =
-    ap (λ (ss : List Stmt). most (λ x. size-Stmt x) ss) yes in
+    let slice = ap (λ (ss : List Stmt). most (λ x. size-Stmt x) ss) c.as_slice.ensures in
     search (rules, less, slice)
 
 pub along-returns-in_err-each : goal.along-returns-in_err-each
 along-returns-in_err-each g t c =
-    let last = c.in-Some-If-default in
-    let split : c.loop-e.left.now ≡ last.front.now ++ s.If last.e last.a last.b ∷ [] =
-    last.ensures.cases.0 ∙ ap (λ (x : Stmt). last.front.now ++ x ∷ []) last.field-0-0-is in
-    stops c.from_residual.result (closed c.args.firsts.now (body_found c.args.stmts.now c.args.schemes.now (walked c.args.at.now c.args.steps.now))) (closed c.loop-e.firsts (walked c.each.new.at c.each.new.steps)) c.from_residual.ensures.0
-    (front_left c.loop-e.left.now last.front.now last.e last.a last.b split c.args.schemes.now (walked c.loop-e.at c.loop-e.steps)
-    c.loop-e.firsts (closed c.args.firsts.now (body_found c.args.stmts.now c.args.schemes.now (walked c.args.at.now c.args.steps.now))) c.loop-e.invariant.1 c.each.new.steps c.in_err-each.ensures)
+    let split : c.loop-last.left.now ≡ c.in-Some.front.now ++ s.If c.in-If.e c.in-If.a c.in-If.b ∷ [] =
+    c.in-Some.ensures.cases.0 ∙ ap (λ (x : Stmt). c.in-Some.front.now ++ x ∷ []) c.in-If.is in
+    stops c.from_residual.result (closed c.args.firsts.now (body_found c.args.stmts.now c.args.schemes.now (walked c.args.at.now c.args.steps.now))) (closed c.loop-last.firsts (walked c.each-in-Some.new.at c.each-in-Some.new.steps)) c.from_residual.ensures.0
+    (front_left c.loop-last.left.now c.in-Some.front.now c.in-If.e c.in-If.a c.in-If.b split c.args.schemes.now (walked c.loop-last.at c.loop-last.steps)
+    c.loop-last.firsts (closed c.args.firsts.now (body_found c.args.stmts.now c.args.schemes.now (walked c.args.at.now c.args.steps.now))) c.loop-last.invariant.1 c.each-in-Some.new.steps c.in_err-each.ensures)
 
 pub along-returns-in_err-ends : goal.along-returns-in_err-ends
 along-returns-in_err-ends g t c =
-    let last = c.in-Some-If-default in
-    let split : c.loop-e.left.now ≡ last.front.now ++ s.If last.e last.a last.b ∷ [] =
-    last.ensures.cases.0 ∙ ap (λ (x : Stmt). last.front.now ++ x ∷ []) last.field-0-0-is in
-    let low : c.first_branch.new.steps ≤ (first last.e last.a c.args.schemes.now (walked c.each.new.at (c.each.new.steps + 1))).steps =
-    search rules in
-    stops c.from_residual-in_err-ends.result (closed c.args.firsts.now (body_found c.args.stmts.now c.args.schemes.now (walked c.args.at.now c.args.steps.now))) (closed c.loop-e.firsts (walked c.first_branch.new.at c.first_branch.new.steps)) c.from_residual-in_err-ends.ensures.0
-    (first_left c.loop-e.left.now last.front.now last.e last.a last.b split c.args.schemes.now (walked c.loop-e.at c.loop-e.steps)
-    c.loop-e.firsts (closed c.args.firsts.now (body_found c.args.stmts.now c.args.schemes.now (walked c.args.at.now c.args.steps.now))) c.loop-e.invariant.1 (walked c.each.new.at c.each.new.steps) c.first_branch.new.steps c.in_ok-each.ensures low)
+    let split : c.loop-last.left.now ≡ c.in-Some.front.now ++ s.If c.in-If.e c.in-If.a c.in-If.b ∷ [] =
+    c.in-Some.ensures.cases.0 ∙ ap (λ (x : Stmt). c.in-Some.front.now ++ x ∷ []) c.in-If.is in
+    let low = branch_most c.in-If.e c.in-If.a c.as_slice.result.now c.args.schemes.now c.each-in-Some.new.at c.each-in-Some.new.steps c.tick.new.self c.as_slice.ensures c.tick.ensures c.first_branch.new.steps c.in_err-ends.ensures.found in
+    stops c.from_residual-in_err-ends.result (closed c.args.firsts.now (body_found c.args.stmts.now c.args.schemes.now (walked c.args.at.now c.args.steps.now))) (closed c.loop-last.firsts (walked c.first_branch.new.at c.first_branch.new.steps)) c.from_residual-in_err-ends.ensures.0
+    (first_left c.loop-last.left.now c.in-Some.front.now c.in-If.e c.in-If.a c.in-If.b split c.args.schemes.now (walked c.loop-last.at c.loop-last.steps)
+    c.loop-last.firsts (closed c.args.firsts.now (body_found c.args.stmts.now c.args.schemes.now (walked c.args.at.now c.args.steps.now))) c.loop-last.invariant.1 (walked c.each-in-Some.new.at c.each-in-Some.new.steps) c.first_branch.new.steps c.in_ok-each.ensures low)
 
 pub along-returns-in_err-keep : goal.along-returns-in_err-keep
 along-returns-in_err-keep g t c =
-    let last = c.in-Some-If-default in
-    let split : c.loop-e.left.now ≡ last.front.now ++ s.If last.e last.a last.b ∷ [] =
-    last.ensures.cases.0 ∙ ap (λ (x : Stmt). last.front.now ++ x ∷ []) last.field-0-0-is in
-    let two : walked c.first_branch.new.at c.first_branch.new.steps ≡ back_from last.e last.a c.args.schemes.now
-    (walked c.each.new.at (c.each.new.steps + 1)) = search rules in
+    let split : c.loop-last.left.now ≡ c.in-Some.front.now ++ s.If c.in-If.e c.in-If.a c.in-If.b ∷ [] =
+    c.in-Some.ensures.cases.0 ∙ ap (λ (x : Stmt). c.in-Some.front.now ++ x ∷ []) c.in-If.is in
+    let two = branch_is c.in-If.e c.in-If.a c.as_slice.result.now c.args.schemes.now c.each-in-Some.new.at c.each-in-Some.new.steps c.tick.new.self c.as_slice.ensures c.tick.ensures
+    (walked c.first_branch.new.at c.first_branch.new.steps) c.in_ok-ends.ensures.found in
     stops c.from_residual-in_err-keep.result (closed c.args.firsts.now (body_found c.args.stmts.now c.args.schemes.now (walked c.args.at.now c.args.steps.now))) (closed c.keep.new.firsts (walked c.first_branch.new.at c.first_branch.new.steps)) c.from_residual-in_err-keep.ensures.0
-    (first_left c.loop-e.left.now last.front.now last.e last.a last.b split c.args.schemes.now (walked c.loop-e.at c.loop-e.steps)
-    c.loop-e.firsts (closed c.args.firsts.now (body_found c.args.stmts.now c.args.schemes.now (walked c.args.at.now c.args.steps.now))) c.loop-e.invariant.1 (walked c.each.new.at c.each.new.steps) c.first_branch.new.steps c.in_ok-each.ensures (first_back last.e last.a c.args.schemes.now (walked c.each.new.at (c.each.new.steps + 1)) (walked c.first_branch.new.at c.first_branch.new.steps) two))
+    (first_left c.loop-last.left.now c.in-Some.front.now c.in-If.e c.in-If.a c.in-If.b split c.args.schemes.now (walked c.loop-last.at c.loop-last.steps)
+    c.loop-last.firsts (closed c.args.firsts.now (body_found c.args.stmts.now c.args.schemes.now (walked c.args.at.now c.args.steps.now))) c.loop-last.invariant.1 (walked c.each-in-Some.new.at c.each-in-Some.new.steps) c.first_branch.new.steps c.in_ok-each.ensures (first_back c.in-If.e c.in-If.a c.args.schemes.now (walked c.each-in-Some.new.at (c.each-in-Some.new.steps + 1)) (walked c.first_branch.new.at c.first_branch.new.steps) two))
 
 pub along-returns : goal.along-returns
 along-returns g t c =
-    closes c.each-2.result c.loop-e.firsts (body_found c.loop-e.left.now c.args.schemes.now (walked c.loop-e.at c.loop-e.steps)) (walked c.each-2.new.at c.each-2.new.steps) (closed c.args.firsts.now (body_found c.args.stmts.now c.args.schemes.now (walked c.args.at.now c.args.steps.now)))
-    c.loop-e.invariant.1 c.each-2.ensures
+    none_left c.loop-last.left.now c.args.schemes.now (walked c.loop-last.at c.loop-last.steps) c.loop-last.firsts (closed c.args.firsts.now (body_found c.args.stmts.now c.args.schemes.now (walked c.args.at.now c.args.steps.now)))
+    c.in_default.ensures.cases c.loop-last.invariant.1
+
+pub along-returns-in_default-last : goal.along-returns-in_default-last
+along-returns-in_default-last g t c =
+    closes c.each.result c.loop-last.firsts (body_found c.loop-last.left.now c.args.schemes.now (walked c.loop-last.at c.loop-last.steps)) (walked c.each.new.at c.each.new.steps) (closed c.args.firsts.now (body_found c.args.stmts.now c.args.schemes.now (walked c.args.at.now c.args.steps.now)))
+    c.loop-last.invariant.1 c.each.ensures
 
 pub body-returns-in-Ok : goal.body-returns-in-Ok
 body-returns-in-Ok g t c =

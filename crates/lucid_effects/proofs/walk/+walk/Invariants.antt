@@ -18,11 +18,11 @@ abbrev pub invariant-givens-loop-e : goal.invariant-givens-loop-e
 invariant-givens-loop-e g l = given_found (drop l.e-index l.given) l.schemes (walked l.at l.steps) ≡ given_found l.given l.schemes (walked l.fn.at l.fn.steps)
 
 -- what is left is no deeper than all of it, and makes the whole with what was walked
-abbrev pub invariant-along-loop-e : goal.invariant-along-loop-e
-invariant-along-loop-e g l = (most (λ s. size-Stmt s) l.left ≤ most (λ s. size-Stmt s) l.stmts) × (closed l.firsts (body_found l.left l.schemes (walked l.at l.steps)) ≡ closed l.fn.firsts (body_found l.stmts l.schemes (walked l.fn.at l.fn.steps)))
+abbrev pub invariant-along-loop-last : goal.invariant-along-loop-last
+invariant-along-loop-last g l = (most (λ s. size-Stmt s) l.left ≤ most (λ s. size-Stmt s) l.stmts) × (closed l.firsts (body_found l.left l.schemes (walked l.at l.steps)) ≡ closed l.fn.firsts (body_found l.stmts l.schemes (walked l.fn.at l.fn.steps)))
 
-abbrev pub decreases-along-loop-e : goal.decreases-along-loop-e
-decreases-along-loop-e g l = most (λ s. size-Stmt s) l.left
+abbrev pub decreases-along-loop-last : goal.decreases-along-loop-last
+decreases-along-loop-last g l = most (λ s. size-Stmt s) l.left
 
 abbrev pub decreases-expr : goal.decreases-expr
 decreases-expr g l = 6 * goal.size-expr g l

@@ -1,7 +1,7 @@
-use Rattle.std.proofs.Common.{refl, subst, sym, ap, length, slice_set, slice_index_or, Ok, ◌≡◌, ◌∙◌, ◌+◌, ◌<◌}
+use Rattle.std.proofs.Common.{refl, subst, sym, ap, length, slice_set, slice_index_or, Ok, ◌≡◌, ◌∙◌, ◌+◌, ◌<◌, ◌≤◌}
 use Rattle.lucid_stages.specs.Stage.{with_table, no_tables}
 use Rattle.lucid_stages.specs.Marks.{Within, end_marks, zeros, raised}
-use Rattle.lucid_layout.proofs.FitLemmas.{many, writes_within, nowhere, further, finish, taken, taken_none}
+use Rattle.lucid_layout.proofs.FitLemmas.{all_at, start, many, writes_within, nowhere, further, finish, taken, taken_none}
 use Rattle.lucid_layout.proofs.fit.fit.Goals as goal
 
 pub next-requires-clause-stages : goal.next-requires-clause-stages
@@ -43,3 +43,21 @@ loop-at-preserved c =
 
 pub returns-clause-pairs : goal.returns-clause-pairs
 returns-clause-pairs c = finish c.args.code.now.ops c.args.limits.now (length c.args.code.now.fields) c.loop-at.at c.args.nodes.now c.loop-at.stages.items c.loop-at.low.items c.loop-at.pairs c.loop-at.invariant c.loop-at-test.false
+
+pub loop-at-init : goal.loop-at-init
+loop-at-init c =
+    start c.args.code.now.ops c.args.limits.now (length c.args.code.now.fields) c.args.nodes.now c.in_ok-stages.stages.items c.in_ok-low.low.items c.new-pairs.result
+    c.in_ok-stages.ensures (c.in_ok-low.ensures ∙ ap (λ fs. zeros (length fs)) c.fields-fields.ensures.value) c.new-pairs.ensures
+
+pub next-requires-clause-ops : goal.next-requires-clause-ops
+next-requires-clause-ops c =
+    all_at (λ n. Within (length c.args.code.now.ops) n.ops) c.loop-at.at c.args.nodes.now c.index-nodes-at.result c.requires.ops c.loop-at-test.true c.index-nodes-at.is
+
+pub sit-requires-clause-table : goal.sit-requires-clause-table
+sit-requires-clause-table c =
+    let found = taken c.args.code.now.ops c.args.limits.now c.in_ok-ends.ends.items c.as_slice.result.now c.loop-at.low.items c.as_slice-in-loop-at.result.now c.loop-at.stages.items c.loop-at.stages.items c.index-nodes-at.result c.loop-at.at
+    c.in_ok-next.field-0 c.in-Some.pair c.in-Some.table c.in_ok-next.ensures.some c.as_slice.ensures.value c.as_slice-in-loop-at.ensures.value refl c.in-Some.is in
+    subst (λ xs. c.in-Some.pair.table ≤ length (slice_index_or xs c.in-Some.pair.stage no_tables).tables) (sym c.in_ok-next.ensures.same) found.least.holds.fits.table.next
+
+pub returns-clause-stages : goal.returns-clause-stages
+returns-clause-stages c = c.in_ok-stages-2.ensures ∙ c.loop-at.invariant.stages_are
