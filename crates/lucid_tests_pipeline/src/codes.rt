@@ -1,7 +1,8 @@
 // Code that is worked by hand, as constants: for each operation its guard, its level and its act. Field 3 is the one argument.
-use lucid_base::{ArrayDef, BinOp, CmpOp, Id, Items, MemAlu, MemArg, MemSide, Memory, UnOp, Width};
+use lucid_base::{ArrayDef, BinOp, CmpOp, Id, Items, MemAlu, MemArg, MemSide, UnOp, Width};
 use lucid_code::{Act, Code, Guard, Inputs, Literal, Op, Operand};
 use std::alloc::Global;
+use std::process::Abort;
 
 const INPUTS: Inputs = Inputs {
     event: 0,
@@ -22,26 +23,38 @@ pub(crate) enum Does {
     /// Whether a field of this many bits is a number.
     IsEqual(u64, u32, u64, u32),
     Hash(&'static [Operand], u32),
-    /// Reads a cell of an array.
-    Get(u32, u64, Option<u32>),
-    /// Adds a field to the first cell of an array, and returns the sum.
-    Count(u32, u32, u32),
-    /// Stores a field in the first cell of an array, and returns the old number.
-    Swap(u32, u32, u32),
+    /// Calls a cell of an array by two memops that have the same argument.
+    Touch(u32, u64, Sides, Operand, Option<u32>),
     /// Prints fields.
     Say(&'static [Operand]),
     /// Sends event 0 in a slot, with a delay and to a switch.
     Send(u32, &'static [Operand], Operand, Option<Operand>),
 }
 
+/// What a call of a cell returns, and what it stores.
+type Sides = (MemSide, MemSide);
+
+const STORED: MemSide = MemSide::One(MemArg::Stored);
+
+const SUM: MemSide = MemSide::Two(BinOp::Add, MemArg::Stored, MemArg::Arg);
+
+/// Reads a cell.
+pub(crate) const GET: Sides = (STORED, STORED);
+
+/// Adds the argument to a cell, and returns the sum.
+pub(crate) const COUNT: Sides = (SUM, SUM);
+
+/// Stores the argument in a cell, and returns the old number.
+pub(crate) const SWAP: Sides = (STORED, MemSide::One(MemArg::Arg));
+
 /// An operation: its guard, its level and its act.
 pub(crate) type Line = (&'static [Literal], u32, Does);
 
-/// Code: the bits of its fields, this many arrays of four cells, the bits of a cell, and the operations.
+/// Code: the bits of its fields, the sizes of its arrays, the bits of a cell, and the operations.
 #[derive(Clone, Copy)]
 pub(crate) struct Given {
     pub(crate) fields: &'static [u64],
-    pub(crate) arrays: u32,
+    pub(crate) arrays: &'static [u32],
     pub(crate) cell: u64,
     pub(crate) ops: &'static [Line],
 }
@@ -70,14 +83,22 @@ const NO: Literal = Literal {
 /// `int n = 0; if (v == 0) { n = Array.get(x, 0); } else { n = Array.get(x, 1); } generate out(n);`
 pub(crate) const BRANCHES: Given = Given {
     fields: &[32, 32, 32, 32, 32, 1, 32, 32, 32, 32, 32],
-    arrays: 1,
+    arrays: &[4],
     cell: 32,
     ops: &[
         (&[EVENT], 0, Does::Move(Operand::Fixed(0), 4)),
         (&[EVENT], 0, Does::IsEqual(32, 3, 0, 5)),
-        (&[EVENT, YES], 0, Does::Get(0, 0, Some(6))),
+        (
+            &[EVENT, YES],
+            0,
+            Does::Touch(0, 0, GET, Operand::Fixed(0), Some(6)),
+        ),
         (&[EVENT, YES], 1, Does::Move(Operand::Field(6), 7)),
-        (&[EVENT, NO], 0, Does::Get(0, 1, Some(8))),
+        (
+            &[EVENT, NO],
+            0,
+            Does::Touch(0, 1, GET, Operand::Fixed(0), Some(8)),
+        ),
         (&[EVENT, NO], 1, Does::Move(Operand::Field(8), 9)),
         (&[EVENT, YES], 1, Does::Move(Operand::Field(7), 10)),
         (&[EVENT, NO], 1, Does::Move(Operand::Field(9), 10)),
@@ -97,22 +118,34 @@ pub(crate) const BRANCHES: Given = Given {
 /// Two calls of an array whose guards contradict.
 pub(crate) const APART: Given = Given {
     fields: &[32, 32, 32, 32, 32, 1, 32, 32],
-    arrays: 1,
+    arrays: &[4],
     cell: 32,
     ops: &[
-        (&[YES], 0, Does::Get(0, 0, Some(6))),
-        (&[NO], 0, Does::Get(0, 1, Some(7))),
+        (
+            &[YES],
+            0,
+            Does::Touch(0, 0, GET, Operand::Fixed(0), Some(6)),
+        ),
+        (&[NO], 0, Does::Touch(0, 1, GET, Operand::Fixed(0), Some(7))),
     ],
 };
 
 /// Two calls of an array under one guard.
 pub(crate) const TOGETHER: Given = Given {
     fields: &[32, 32, 32, 32, 32, 1, 32, 32],
-    arrays: 1,
+    arrays: &[4],
     cell: 32,
     ops: &[
-        (&[YES], 0, Does::Get(0, 0, Some(6))),
-        (&[YES], 0, Does::Get(0, 1, Some(7))),
+        (
+            &[YES],
+            0,
+            Does::Touch(0, 0, GET, Operand::Fixed(0), Some(6)),
+        ),
+        (
+            &[YES],
+            0,
+            Does::Touch(0, 1, GET, Operand::Fixed(0), Some(7)),
+        ),
     ],
 };
 
@@ -132,140 +165,106 @@ fn memop(width: Width, side: MemSide) -> MemAlu {
     }
 }
 
-/// Calls a cell of an array. Both memops have the same argument.
-fn touch(array: u32, index: u64, get: MemAlu, set: MemAlu, arg: Operand, to: Option<u32>) -> Act {
-    Act::Touch {
-        array,
-        index: Operand::Fixed(index),
-        get,
-        get_arg: arg,
-        set,
-        set_arg: arg,
-        to,
-    }
+fn operands(rt: &impl Abort, alloc: Global, given: &[Operand]) -> Items<Operand> {
+    Items::from_slice(alloc, given).expect(rt, "memory")
 }
 
-const STORED: MemSide = MemSide::One(MemArg::Stored);
-
-const GIVEN: MemSide = MemSide::One(MemArg::Arg);
-
-const SUM: MemSide = MemSide::Two(BinOp::Add, MemArg::Stored, MemArg::Arg);
-
-fn said(alloc: Global, fields: &[Operand]) -> Result<Act, Memory> {
-    Ok(Act::Say {
-        slot: 0,
-        form: 0,
-        args: Items::from_slice(alloc, fields)?,
-    })
-}
-
-fn sent(
-    alloc: Global,
-    slot: u32,
-    args: &[Operand],
-    delay: Operand,
-    to: Option<Operand>,
-) -> Result<Act, Memory> {
-    Ok(Act::Gen {
-        slot,
-        event: 0,
-        args: Items::from_slice(alloc, args)?,
-        delay,
-        to,
-    })
-}
-
-fn act(alloc: Global, does: Does, cell: Width) -> Result<Act, Memory> {
+fn act(rt: &impl Abort, alloc: Global, does: Does, cell: Width) -> Act {
     match does {
-        Does::Move(a, to) => Ok(Act::Move(a, to)),
-        Does::Cast(a, to) => Ok(Act::Cast(a, to)),
-        Does::Negate(bits, a, to) => Ok(Act::Un(UnOp::Neg, width(bits), a, to)),
-        Does::Add(bits, a, b, to) => Ok(Act::Bin(BinOp::Add, width(bits), a, b, to)),
-        Does::IsEqual(bits, field, value, to) => Ok(Act::Cmp(
+        Does::Move(a, to) => Act::Move(a, to),
+        Does::Cast(a, to) => Act::Cast(a, to),
+        Does::Negate(bits, a, to) => Act::Un(UnOp::Neg, width(bits), a, to),
+        Does::Add(bits, a, b, to) => Act::Bin(BinOp::Add, width(bits), a, b, to),
+        Does::IsEqual(bits, field, value, to) => Act::Cmp(
             CmpOp::Eq,
             width(bits),
             Operand::Field(field),
             Operand::Fixed(value),
             to,
-        )),
-        Does::Hash(words, to) => Ok(Act::Hash(Items::from_slice(alloc, words)?, to)),
-        Does::Get(array, index, to) => {
-            let same = memop(cell, STORED);
-            Ok(touch(array, index, same, same, Operand::Fixed(0), to))
-        }
-        Does::Count(array, field, to) => {
-            let sum = memop(cell, SUM);
-            Ok(touch(array, 0, sum, sum, Operand::Field(field), Some(to)))
-        }
-        Does::Swap(array, field, to) => Ok(touch(
+        ),
+        Does::Hash(words, to) => Act::Hash(operands(rt, alloc, words), to),
+        Does::Touch(array, index, (get, set), arg, to) => Act::Touch {
             array,
-            0,
-            memop(cell, STORED),
-            memop(cell, GIVEN),
-            Operand::Field(field),
-            Some(to),
-        )),
-        Does::Say(fields) => said(alloc, fields),
-        Does::Send(slot, args, delay, to) => sent(alloc, slot, args, delay, to),
+            index: Operand::Fixed(index),
+            get: memop(cell, get),
+            get_arg: arg,
+            set: memop(cell, set),
+            set_arg: arg,
+            to,
+        },
+        Does::Say(fields) => Act::Say {
+            slot: 0,
+            form: 0,
+            args: operands(rt, alloc, fields),
+        },
+        Does::Send(slot, fields, delay, to) => Act::Gen {
+            slot,
+            event: 0,
+            args: operands(rt, alloc, fields),
+            delay,
+            to,
+        },
     }
 }
 
-fn put(alloc: Global, ops: &mut Vec<Op>, line: Line, cell: Width) -> Result<(), Memory> {
+fn put(rt: &impl Abort, alloc: Global, ops: &mut Vec<Op>, line: Line, cell: Width) {
     let (guard, level, does) = line;
-    let guard = Guard::from_slice(alloc, guard)?;
-    let act = act(alloc, does, cell)?;
-    ops.push(Op { guard, level, act })?;
-    Ok(())
+    let guard = Guard::from_slice(alloc, guard).expect(rt, "memory");
+    let act = act(rt, alloc, does, cell);
+    ops.push(Op { guard, level, act }).expect(rt, "memory");
 }
 
-fn operations(alloc: Global, given: &Given) -> Result<Vec<Op>, Memory> {
+fn operations(rt: &impl Abort, alloc: Global, given: &Given) -> Vec<Op> {
     let mut ops = Vec::new(alloc);
     for line in given.ops {
-        put(alloc, &mut ops, *line, width(given.cell))?;
+        put(rt, alloc, &mut ops, *line, width(given.cell));
     }
-    Ok(ops)
+    ops
 }
 
-fn arrays(alloc: Global, count: u32, width: Width) -> Result<Vec<ArrayDef>, Memory> {
+/// Arrays of these sizes.
+pub(crate) fn arrays(rt: &impl Abort, alloc: Global, width: Width, sizes: &[u32]) -> Vec<ArrayDef> {
     let mut arrays = Vec::new(alloc);
-    for _array in 0..count {
-        arrays.push(ArrayDef {
-            name: Id::new(alloc, &[])?,
+    for size in sizes {
+        let name = Id::new(alloc, &[]).expect(rt, "memory");
+        let array = ArrayDef {
+            name,
             width,
-            size: 4,
-        })?;
+            size: *size,
+        };
+        arrays.push(array).expect(rt, "memory");
     }
-    Ok(arrays)
+    arrays
 }
 
-fn widths(alloc: Global, fields: &[u64]) -> Result<Vec<Width>, Memory> {
+fn widths(rt: &impl Abort, alloc: Global, fields: &[u64]) -> Vec<Width> {
     let mut widths = Vec::new(alloc);
     for bits in fields {
-        widths.push(width(*bits))?;
+        widths.push(width(*bits)).expect(rt, "memory");
     }
-    Ok(widths)
+    widths
 }
 
 /// Builds a code; None if it is not valid.
-pub(crate) fn code(alloc: Global, given: &Given) -> Result<Option<Code>, Memory> {
-    let fields = widths(alloc, given.fields)?;
-    let arrays = arrays(alloc, given.arrays, width(given.cell))?;
-    let ops = operations(alloc, given)?;
-    Code::new(alloc, fields, INPUTS, arrays, ops)
+pub(crate) fn code(rt: &impl Abort, alloc: Global, given: &Given) -> Option<Code> {
+    let fields = widths(rt, alloc, given.fields);
+    let arrays = arrays(rt, alloc, width(given.cell), given.arrays);
+    let ops = operations(rt, alloc, given);
+    Code::new(alloc, fields, INPUTS, arrays, ops).expect(rt, "memory")
 }
 
-fn moves(alloc: Global, count: u32) -> Result<Vec<Op>, Memory> {
+fn moves(rt: &impl Abort, alloc: Global, count: u32) -> Vec<Op> {
     let mut ops = Vec::new(alloc);
     for at in 0..count.min(5_000) {
         let moved = Does::Move(Operand::Fixed(1), 4 + at);
-        put(alloc, &mut ops, (&[], 0, moved), Width::int())?;
+        put(rt, alloc, &mut ops, (&[], 0, moved), Width::int());
     }
-    Ok(ops)
+    ops
 }
 
 /// Builds code of this many operations without a guard, each with a field of its own.
-pub(crate) fn many(alloc: Global, count: u32) -> Result<Option<Code>, Memory> {
-    let fields = vec![in alloc; Width::int(); 5_004]?;
-    let ops = moves(alloc, count)?;
-    Code::new(alloc, fields, INPUTS, Vec::new(alloc), ops)
+pub(crate) fn many(rt: &impl Abort, alloc: Global, count: u32) -> Option<Code> {
+    let fields = (vec![in alloc; Width::int(); 5_004]).expect(rt, "memory");
+    let ops = moves(rt, alloc, count);
+    Code::new(alloc, fields, INPUTS, Vec::new(alloc), ops).expect(rt, "memory")
 }

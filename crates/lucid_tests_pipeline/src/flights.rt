@@ -3,25 +3,25 @@
 ghost use Rattle.std.specs.Prelude.{◌≡◌, IfSome};
 ghost use Rattle.lucid_code.specs.Inputs.{IsInput};
 
-use crate::codes::{Does, Given, code};
-use lucid_base::{Args, Bits, Event, Memory, Out};
+use crate::codes::{COUNT, Does, Given, SWAP, code};
+use lucid_base::{Args, Bits, Event, Out};
 use lucid_code::{Code, Operand};
 use lucid_conf::Limits;
 use lucid_layout::place;
 use lucid_pipe::{MemWatch, NoWatch, Passed, Pipe, Stuck, Watch};
 use lucid_tables::Placed;
 use std::alloc::Global;
-use std::test::Fail;
+use std::process::Abort;
 
 /// Each packet adds its argument to the first array, stores the total in the second, and prints the total with its argument and the total
 /// before. Each operation has a stage of its own, since it reads what the one before it writes.
 const TOTALS: Given = Given {
     fields: &[32, 32, 32, 16, 16, 16],
-    arrays: 2,
+    arrays: &[4, 4],
     cell: 16,
     ops: &[
-        (&[], 0, Does::Count(0, 3, 4)),
-        (&[], 1, Does::Swap(1, 4, 5)),
+        (&[], 0, Does::Touch(0, 0, COUNT, Operand::Field(3), Some(4))),
+        (&[], 1, Does::Touch(1, 0, SWAP, Operand::Field(4), Some(5))),
         (&[], 2, Does::Say(&[Operand::Field(4), Operand::Field(5)])),
     ],
 };
@@ -37,14 +37,15 @@ const LIMITS: Limits = Limits {
     recirc: 0,
 };
 
-/// A step: an event of this argument enters, the packet of a slot moves, a look at the first cell of an array by an index past its size, or a
-/// count of the packets.
+/// A step: an event of this argument enters, the packet of a slot moves, a look at the first cell of an array by an index past its size, a
+/// count of the packets, or a sight for a watch that records and for one that does not.
 #[derive(Clone, Copy)]
 enum Step {
     Enter(u64),
     Go(usize),
     Look(u32),
     Count,
+    See,
 }
 
 /// The outcome of a step; of a packet that left, the two numbers that it printed.
@@ -55,6 +56,7 @@ enum Came {
     Empty,
     Ahead,
     On,
+    Seen,
     Out(u64, u64),
     Is(u64),
     Other,
@@ -94,17 +96,15 @@ fn enter(pipe: &mut Pipe, code: &Code, argument: u64) -> Came
 
 /// The two numbers printed by a packet that entered at tick 7 and switch 1.
 fn told(passed: &Passed) -> Came {
-    if passed.now != 7 || passed.me != 1 {
-        return Came::Other;
-    }
     match passed.outs.as_slice().first() {
-        Some(Out::Say { form: 0, args }) => match (
-            args.as_slice().first(),
-            args.as_slice().last(),
-        ) {
-            (Some(with), Some(before)) => Came::Out(*with, *before),
-            _ => Came::Other,
-        },
+        Some(Out::Say { form: 0, args }) => {
+            let numbers = args.as_slice();
+            if passed.now == 7 && passed.me == 1 && numbers.len() == 2 {
+                Came::Out(numbers[0], numbers[1])
+            } else {
+                Came::Other
+            }
+        }
         _ => Came::Other,
     }
 }
@@ -120,7 +120,7 @@ fn go(pipe: &mut Pipe, k: usize) -> Came
     }
 }
 
-fn does(pipe: &mut Pipe, code: &Code, step: Step) -> Came
+fn does(pipe: &mut Pipe, code: &Code, watch: &mut MemWatch, step: Step) -> Came
     requires { pipe.old.placed.code ≡ code.now }
     ensures { pipe.new.placed ≡ pipe.old.placed }
 {
@@ -129,17 +129,21 @@ fn does(pipe: &mut Pipe, code: &Code, step: Step) -> Came
         Step::Go(k) => go(pipe, k),
         Step::Look(array) => Came::Is(pipe.look(array, 4)),
         Step::Count => Came::Is(pipe.packets() as u64),
+        Step::See => {
+            watch.see(2, pipe);
+            NoWatch.see(2, pipe);
+            Came::Seen
+        }
     }
 }
 
 /// Returns whether all steps have their outcomes.
-fn all_come(pipe: &mut Pipe, code: &Code, steps: &[(Step, Came)]) -> bool
+fn all_come(pipe: &mut Pipe, code: &Code, watch: &mut MemWatch, steps: &[(Step, Came)]) -> bool
     requires { pipe.old.placed.code ≡ code.now }
-    ensures { pipe.new.placed ≡ pipe.old.placed }
 {
     for at in 0..steps.len() {
         let (step, expected) = steps[at];
-        if does(pipe, code, step) != expected {
+        if does(pipe, code, watch, step) != expected {
             return false;
         }
     }
@@ -171,18 +175,8 @@ const TWO: [(Step, Came); 21] = [
     (Step::Look(2), Came::Is(0)),
 ];
 
-/// Returns whether the steps of two packets have their outcomes, and the pipe has two arrays after them.
-fn two_fly(alloc: Global, placed: &Placed) -> Result<bool, Memory> {
-    let mut pipe = Pipe::new(alloc, placed)?;
-    if !all_come(&mut pipe, placed.code(), &TWO) {
-        return Ok(false);
-    }
-    let rows = pipe.rows(alloc)?;
-    Ok(rows.len() == 2)
-}
-
-/// Packets that fill all slots.
-const FILLS: [(Step, Came); 10] = [
+/// Packets that fill all slots, moves of the full pipe from its end, and the last packet leaves.
+const FULL: [(Step, Came); 25] = [
     (Step::Enter(1), Came::In),
     (Step::Go(0), Came::On),
     (Step::Go(1), Came::On),
@@ -193,10 +187,7 @@ const FILLS: [(Step, Came); 10] = [
     (Step::Enter(9), Came::Busy),
     (Step::Go(0), Came::Ahead),
     (Step::Go(1), Came::Ahead),
-];
-
-/// Moves of the full pipe, from its end.
-const TURNS: [(Step, Came); 8] = [
+    (Step::See, Came::Seen),
     (Step::Go(2), Came::Out(1, 0)),
     (Step::Go(1), Came::On),
     (Step::Go(0), Came::On),
@@ -205,10 +196,7 @@ const TURNS: [(Step, Came); 8] = [
     (Step::Go(1), Came::On),
     (Step::Go(2), Came::Out(6, 3)),
     (Step::Go(0), Came::On),
-];
-
-/// The last packet leaves.
-const ENDS: [(Step, Came); 5] = [
+    (Step::See, Came::Seen),
     (Step::Go(1), Came::On),
     (Step::Go(2), Came::Out(5, 6)),
     (Step::Go(2), Came::Empty),
@@ -227,69 +215,49 @@ const PLACES: [(usize, u32, bool); 7] = [
     (1, 2, false),
 ];
 
-/// Returns whether a packet was at place `k` in a specified sight.
-fn was_taken(watch: &MemWatch, sight: usize, k: u32) -> bool {
-    match watch.count() {
-        Some(count) => sight < count && watch.taken(sight, k),
-        None => false,
-    }
-}
-
-/// Returns whether the steps have their outcomes, with a sight after `FILLS` and one after `TURNS`.
-fn full_moves(pipe: &mut Pipe, code: &Code, watch: &mut MemWatch) -> bool
-    requires { pipe.old.placed.code ≡ code.now }
-{
-    if !all_come(pipe, code, &FILLS) {
+/// Returns whether there are so many sights, with packets in these places.
+fn are_seen(watch: &MemWatch, sights: usize, places: &[(usize, u32, bool)]) -> bool {
+    if watch.count() != Some(sights) {
         return false;
     }
-    watch.see(2, pipe);
-    if !all_come(pipe, code, &TURNS) {
-        return false;
-    }
-    watch.see(2, pipe);
-    NoWatch.see(2, pipe);
-    all_come(pipe, code, &ENDS)
-}
-
-/// Returns whether there are two sights, with packets in these places.
-fn both_are_seen(watch: &MemWatch) -> bool {
-    for (sight, k, taken) in PLACES {
-        if was_taken(watch, sight, k) != taken {
+    for at in 0..places.len() {
+        let (sight, k, taken) = places[at];
+        if sights <= sight || watch.taken(sight, k) != taken {
             return false;
         }
     }
-    watch.count() == Some(2)
+    true
 }
 
-/// Returns whether a full pipe moves from its end, and a watch sees it.
-fn full_flies(alloc: Global, placed: &Placed) -> Result<bool, Memory> {
-    let mut pipe = Pipe::new(alloc, placed)?;
+/// Returns whether the steps have their outcomes, a watch sees the packets in these places, and the pipe has two arrays after them.
+fn flies(
+    rt: &impl Abort,
+    alloc: Global,
+    placed: &Placed,
+    steps: &[(Step, Came)],
+    sights: usize,
+    places: &[(usize, u32, bool)],
+) -> bool {
+    let mut pipe = Pipe::new(alloc, placed).expect(rt, "memory");
     let mut watch = MemWatch::new(alloc);
-    Ok(full_moves(&mut pipe, placed.code(), &mut watch) && both_are_seen(&watch))
-}
-
-/// Places the code by first fit.
-fn totals(alloc: Global) -> Result<Option<Placed>, Memory> {
-    match code(alloc, &TOTALS)? {
-        None => Ok(None),
-        Some(code) => match place(alloc, &code, &LIMITS) {
-            Ok(placed) => Ok(Some(placed)),
-            Err(_) => Ok(None),
-        },
-    }
-}
-
-/// Returns whether two packets, and as many as there are stages, move as they should.
-fn fly(alloc: Global) -> Result<(bool, bool), Memory> {
-    match totals(alloc)? {
-        None => Ok((false, false)),
-        Some(placed) => Ok((two_fly(alloc, &placed)?, full_flies(alloc, &placed)?)),
-    }
+    let all_come = all_come(&mut pipe, placed.code(), &mut watch, steps);
+    let rows = pipe.rows(alloc).expect(rt, "memory");
+    let flies = all_come && rows.len() == 2 && are_seen(&watch, sights, places);
+    drop(rows);
+    drop(watch);
+    drop(pipe);
+    flies
 }
 
 #[test]
-fn packets_that_overlap_are_as_they_are_alone(rt: HostRuntime) -> Result<(), Fail> {
-    let (two, full) = fly(rt.alloc())?;
+fn packets_that_overlap_are_as_they_are_alone(rt: HostRuntime) {
+    let code = code(&rt, rt.alloc(), &TOTALS).expect(&rt, "valid code");
+    let placed = place(rt.alloc(), &code, &LIMITS)
+        .ok()
+        .expect(&rt, "placed code");
+    drop(code);
+    let two = flies(&rt, rt.alloc(), &placed, &TWO, 0, &[]);
+    let full = flies(&rt, rt.alloc(), &placed, &FULL, 2, &PLACES);
+    drop(placed);
     assert!(rt; two && full, "two packets: {two}, a full pipe: {full}");
-    Ok(())
 }

@@ -1,18 +1,21 @@
 // Layouts that are worked by hand: which nodes share a table or a stage, and each limit met and exceeded by one.
-use crate::codes::{BRANCHES, Does, EVENT, Given, code, many};
-use crate::layouts_shown::layout;
-use lucid_base::Memory;
+use crate::codes::{BRANCHES, Does, EVENT, GET, Given, code, many};
+use crate::layouts_shown::is_laid;
 use lucid_code::{Literal, Operand};
 use std::alloc::Global;
-use std::test::Fail;
+use std::process::Abort;
 
 /// `generate seen(Array.get(x, 0));`
 const READING: Given = Given {
     fields: &[32, 32, 32, 32, 32],
-    arrays: 1,
+    arrays: &[4],
     cell: 32,
     ops: &[
-        (&[EVENT], 0, Does::Get(0, 0, Some(4))),
+        (
+            &[EVENT],
+            0,
+            Does::Touch(0, 0, GET, Operand::Fixed(0), Some(4)),
+        ),
         (
             &[EVENT],
             1,
@@ -24,7 +27,7 @@ const READING: Given = Given {
 /// `((i + i) + (i + i)) + ((i + i) + (i + i))`, sent out.
 const TOWER: Given = Given {
     fields: &[32, 32, 32, 32, 32, 32, 32, 32, 32, 32, 32],
-    arrays: 0,
+    arrays: &[],
     cell: 32,
     ops: &[
         (
@@ -94,7 +97,7 @@ const TWO: Literal = Literal {
 /// Two operations that act for two values of the argument.
 const VALUES: Given = Given {
     fields: &[32, 32, 32, 32, 32, 32],
-    arrays: 0,
+    arrays: &[],
     cell: 32,
     ops: &[
         (&[ONE], 0, Does::Move(Operand::Fixed(1), 4)),
@@ -105,18 +108,18 @@ const VALUES: Given = Given {
 /// A call of each of two arrays.
 const ARRAYS: Given = Given {
     fields: &[32, 32, 32, 32],
-    arrays: 2,
+    arrays: &[4, 4],
     cell: 32,
     ops: &[
-        (&[], 1, Does::Get(1, 0, None)),
-        (&[], 0, Does::Get(0, 0, None)),
+        (&[], 1, Does::Touch(1, 0, GET, Operand::Fixed(0), None)),
+        (&[], 0, Does::Touch(0, 0, GET, Operand::Fixed(0), None)),
     ],
 };
 
 /// A row for the value that the first guard excludes, and none for the second operation, whose guard asks for two values.
 const ODD: Given = Given {
     fields: &[32, 32, 32, 32, 32, 32],
-    arrays: 0,
+    arrays: &[],
     cell: 32,
     ops: &[
         (&[NOT_ONE], 0, Does::Move(Operand::Fixed(1), 4)),
@@ -124,103 +127,118 @@ const ODD: Given = Given {
     ],
 };
 
-/// Codes, each with the limits of a target and its layout, or the cause why it has none.
-const ROWS: [(&Given, &str, &str); 19] = [
+/// The limits of a target, and the layout within them, or the cause why there is none.
+type LimitsRow = (&'static str, &'static str);
+
+/// Codes, each with its layouts.
+const ROWS: [(&Given, &[LimitsRow]); 6] = [
     // The calls of both branches are one node.
     (
         &BRANCHES,
-        "{}",
-        "0.0 [ 0 1 ]; 1.0 [ 2 ][ 4 ]; array 0; 2.0 [ 3 ][ 5 ]; 3.0 [ 6 ][ 7 ]; 4.0 [ 8 ]; ",
+        &[
+            (
+                "{}",
+                "0.0 [ 0 1 ]; 1.0 [ 2 ][ 4 ]; array 0; 2.0 [ 3 ][ 5 ]; 3.0 [ 6 ][ 7 ]; 4.0 [ 8 ]; ",
+            ),
+            (
+                r#"{"stages":5,"rows":2,"tables":1,"arrays":1,"arms":2,"bits":321}"#,
+                "0.0 [ 0 1 ]; 1.0 [ 2 ][ 4 ]; array 0; 2.0 [ 3 ][ 5 ]; 3.0 [ 6 ][ 7 ]; 4.0 [ 8 ]; ",
+            ),
+            (r#"{"rows":1}"#, "node 2"),
+            (r#"{"stages":4}"#, "node 7"),
+            (r#"{"arms":1}"#, "arms 0"),
+        ],
     ),
-    (
-        &BRANCHES,
-        r#"{"stages":5,"rows":2,"tables":1,"arrays":1,"arms":2,"bits":321}"#,
-        "0.0 [ 0 1 ]; 1.0 [ 2 ][ 4 ]; array 0; 2.0 [ 3 ][ 5 ]; 3.0 [ 6 ][ 7 ]; 4.0 [ 8 ]; ",
-    ),
-    (&BRANCHES, r#"{"rows":1}"#, "node 2"),
-    (&BRANCHES, r#"{"stages":4}"#, "node 7"),
-    (&BRANCHES, r#"{"arms":1}"#, "arms 0"),
     // A reader is in a stage after its writer.
     (
         &READING,
-        r#"{"stages":2}"#,
-        "0.0 [ 0 ]; array 0; 1.0 [ 1 ]; ",
+        &[
+            (r#"{"stages":2}"#, "0.0 [ 0 ]; array 0; 1.0 [ 1 ]; "),
+            (r#"{"stages":1}"#, "node 1"),
+            (r#"{"bits":160}"#, "0.0 [ 0 ]; array 0; 1.0 [ 1 ]; "),
+            (r#"{"bits":159,"stages":1}"#, "bits 160"),
+        ],
     ),
-    (&READING, r#"{"stages":1}"#, "node 1"),
-    (
-        &READING,
-        r#"{"bits":160}"#,
-        "0.0 [ 0 ]; array 0; 1.0 [ 1 ]; ",
-    ),
-    (&READING, r#"{"bits":159,"stages":1}"#, "bits 160"),
     // Sums of sums take a stage each.
     (
         &TOWER,
-        "{}",
-        "0.0 [ 0 1 3 4 ]; 1.0 [ 2 5 ]; 2.0 [ 6 ]; 3.0 [ 7 ]; ",
+        &[
+            ("{}", "0.0 [ 0 1 3 4 ]; 1.0 [ 2 5 ]; 2.0 [ 6 ]; 3.0 [ 7 ]; "),
+            (r#"{"stages":3}"#, "node 7"),
+        ],
     ),
-    (&TOWER, r#"{"stages":3}"#, "node 7"),
     // Rows, tables and stages are filled in turn.
     (
         &VALUES,
-        r#"{"rows":2,"tables":1,"stages":1}"#,
-        "0.0 [ 0 ][ 1 ]; ",
+        &[
+            (r#"{"rows":2,"tables":1,"stages":1}"#, "0.0 [ 0 ][ 1 ]; "),
+            (
+                r#"{"rows":1,"tables":2,"stages":1}"#,
+                "0.0 [ 0 ]; 0.1 [ 1 ]; ",
+            ),
+            (
+                r#"{"rows":1,"tables":1,"stages":2}"#,
+                "0.0 [ 0 ]; 1.0 [ 1 ]; ",
+            ),
+            (r#"{"rows":1,"tables":1,"stages":1}"#, "node 1"),
+        ],
     ),
-    (
-        &VALUES,
-        r#"{"rows":1,"tables":2,"stages":1}"#,
-        "0.0 [ 0 ]; 0.1 [ 1 ]; ",
-    ),
-    (
-        &VALUES,
-        r#"{"rows":1,"tables":1,"stages":2}"#,
-        "0.0 [ 0 ]; 1.0 [ 1 ]; ",
-    ),
-    (&VALUES, r#"{"rows":1,"tables":1,"stages":1}"#, "node 1"),
     // A stage has so many arrays.
     (
         &ARRAYS,
-        r#"{"arrays":2,"stages":1}"#,
-        "0.0 [ 1 0 ]; array 0; array 1; ",
+        &[
+            (
+                r#"{"arrays":2,"stages":1}"#,
+                "0.0 [ 1 0 ]; array 0; array 1; ",
+            ),
+            (
+                r#"{"arrays":1,"stages":2}"#,
+                "0.0 [ 1 ]; array 0; 1.0 [ 0 ]; array 1; ",
+            ),
+            (r#"{"arrays":1,"stages":1}"#, "node 1"),
+        ],
     ),
-    (
-        &ARRAYS,
-        r#"{"arrays":1,"stages":2}"#,
-        "0.0 [ 1 ]; array 0; 1.0 [ 0 ]; array 1; ",
-    ),
-    (&ARRAYS, r#"{"arrays":1,"stages":1}"#, "node 1"),
     // An operation that never acts takes no row.
-    (&ODD, "{}", "0.0 [ ][ 0 ]; "),
+    (&ODD, &[("{}", "0.0 [ ][ 0 ]; ")]),
 ];
 
-/// Returns whether the code has this layout, or none for this cause.
-fn is_laid_out(alloc: Global, given: &Given, limits: &str, expected: &str) -> Result<bool, Memory> {
-    let code = code(alloc, given)?;
-    let text = layout(alloc, &code, limits)?;
-    Ok(text.as_str() == expected)
+/// Returns the number of the first row by which the code is laid out otherwise.
+fn first_wrong(rt: &impl Abort, alloc: Global, given: &Given, rows: &[LimitsRow]) -> Option<usize> {
+    let code = code(rt, alloc, given).expect(rt, "valid code");
+    let mut wrong = None;
+    for at in 0..rows.len() {
+        let (limits, expected) = rows[at];
+        if !is_laid(rt, alloc, &code, limits, expected) {
+            wrong = Some(at);
+            break;
+        }
+    }
+    drop(code);
+    wrong
+}
+
+fn all_are_laid(rt: &impl Abort, alloc: Global, codes: &[(&Given, &[LimitsRow])]) {
+    for at in 0..codes.len() {
+        let (given, rows) = codes[at];
+        assert_eq!(rt; first_wrong(rt, alloc, given, rows), None, "code {at}");
+    }
 }
 
 #[test]
-fn each_code_has_its_layout(rt: HostRuntime) -> Result<(), Fail> {
-    for (given, limits, expected) in ROWS {
-        assert!(rt;
-            is_laid_out(rt.alloc(), given, limits, expected)?,
-            "{expected} within {limits}"
-        );
-    }
-    Ok(())
+fn each_code_has_its_layout(rt: HostRuntime) {
+    all_are_laid(&rt, rt.alloc(), &ROWS);
 }
 
 /// Returns whether code of this many operations is refused for this cause.
-fn is_refused(alloc: Global, count: u32, limits: &str, cause: &str) -> Result<bool, Memory> {
-    let code = many(alloc, count)?;
-    let text = layout(alloc, &code, limits)?;
-    Ok(text.as_str() == cause)
+fn is_refused(rt: &impl Abort, alloc: Global, count: u32, limits: &str, cause: &str) -> bool {
+    let code = many(rt, alloc, count).expect(rt, "valid code");
+    let is_refused = is_laid(rt, alloc, &code, limits, cause);
+    drop(code);
+    is_refused
 }
 
 #[test]
-fn operations_are_counted_first(rt: HostRuntime) -> Result<(), Fail> {
-    assert!(rt; is_refused(rt.alloc(), 4_097, r#"{"bits":1}"#, "ops 4097")?);
-    assert!(rt; is_refused(rt.alloc(), 4_096, r#"{"bits":131199}"#, "bits 131200")?);
-    Ok(())
+fn operations_are_counted_first(rt: HostRuntime) {
+    assert!(rt; is_refused(&rt, rt.alloc(), 4_097, r#"{"bits":1}"#, "ops 4097"));
+    assert!(rt; is_refused(&rt, rt.alloc(), 4_096, r#"{"bits":131199}"#, "bits 131200"));
 }

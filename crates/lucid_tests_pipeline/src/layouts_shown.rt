@@ -1,73 +1,93 @@
 // The result of `place` as a text: for each table its stage, its number and the operations of each row, and for each stage its arrays.
-use lucid_base::Memory;
 use lucid_code::Code;
 use lucid_conf::limits_of;
 use lucid_layout::{FitError, place};
 use lucid_tables::{Row, StageCode, Table};
 use std::alloc::Global;
+use std::process::Abort;
 
-fn put_row(text: &mut String, row: &Row) -> Result<(), Memory> {
-    write!(text, "[")?;
+fn put(rt: &impl Abort, text: &mut String, part: &str) {
+    text.push_str(part).expect(rt, "memory");
+}
+
+fn put_number(rt: &impl Abort, text: &mut String, number: u64) {
+    write!(text, "{number}").expect(rt, "memory");
+}
+
+fn put_row(rt: &impl Abort, text: &mut String, row: &Row) {
+    put(rt, text, "[");
     for op in row.ops.as_slice() {
-        write!(text, " {op}")?;
+        put(rt, text, " ");
+        put_number(rt, text, u64::from(*op));
     }
-    write!(text, " ]")?;
-    Ok(())
+    put(rt, text, " ]");
 }
 
-fn put_table(text: &mut String, stage: usize, number: usize, table: &Table) -> Result<(), Memory> {
-    write!(text, "{stage}.{number} ")?;
+fn put_table(rt: &impl Abort, text: &mut String, stage: usize, number: usize, table: &Table) {
+    put_number(rt, text, stage as u64);
+    put(rt, text, ".");
+    put_number(rt, text, number as u64);
+    put(rt, text, " ");
     for row in table.rows.as_slice() {
-        put_row(text, row)?;
+        put_row(rt, text, row);
     }
-    write!(text, "; ")?;
-    Ok(())
+    put(rt, text, "; ");
 }
 
-fn put_stage(text: &mut String, at: usize, stage: &StageCode) -> Result<(), Memory> {
-    for (number, table) in stage.tables.as_slice().iter().enumerate() {
-        put_table(text, at, number, table)?;
+fn put_stage(rt: &impl Abort, text: &mut String, at: usize, stage: &StageCode) {
+    let tables = stage.tables.as_slice();
+    for number in 0..tables.len() {
+        put_table(rt, text, at, number, &tables[number]);
     }
     for array in stage.arrays.as_slice() {
-        write!(text, "array {array}; ")?;
+        put(rt, text, "array ");
+        put_number(rt, text, u64::from(*array));
+        put(rt, text, "; ");
     }
-    Ok(())
 }
 
-fn put_stages(text: &mut String, stages: &[StageCode]) -> Result<(), Memory> {
-    for (at, stage) in stages.iter().enumerate() {
-        put_stage(text, at, stage)?;
+fn put_stages(rt: &impl Abort, text: &mut String, stages: &[StageCode]) {
+    for at in 0..stages.len() {
+        put_stage(rt, text, at, &stages[at]);
     }
-    Ok(())
 }
 
-fn put_cause(text: &mut String, error: FitError) -> Result<(), Memory> {
+fn put_cause(rt: &impl Abort, text: &mut String, error: FitError) {
     let (cause, number) = match error {
-        FitError::Ops(n) => ("ops", n),
-        FitError::Fields(n) => ("bits", n),
-        FitError::Arms(array) => ("arms", u64::from(array)),
-        FitError::Node(node) => ("node", u64::from(node)),
-        FitError::Memory => return Err(Memory),
+        FitError::Ops(n) => ("ops ", n),
+        FitError::Fields(n) => ("bits ", n),
+        FitError::Arms(array) => ("arms ", u64::from(array)),
+        FitError::Node(node) => ("node ", u64::from(node)),
+        FitError::Memory => ("memory ", 0),
     };
-    write!(text, "{cause} {number}")?;
-    Ok(())
+    put(rt, text, cause);
+    put_number(rt, text, number);
 }
 
-fn put_layout(alloc: Global, text: &mut String, code: &Code, limits: &str) -> Result<(), Memory> {
+fn put_layout(rt: &impl Abort, alloc: Global, text: &mut String, code: &Code, limits: &str) {
     match limits_of(alloc, limits.as_bytes()) {
-        Err(_) => Ok(()),
+        Err(_) => {}
         Ok(limits) => match place(alloc, code, &limits) {
-            Ok(placed) => put_stages(text, placed.stages()),
-            Err(error) => put_cause(text, error),
+            Err(error) => put_cause(rt, text, error),
+            Ok(placed) => {
+                put_stages(rt, text, placed.stages());
+                drop(placed);
+            }
         },
     }
 }
 
-/// The result of `place` for a code within the limits of a text; no text if one of them is not valid.
-pub(crate) fn layout(alloc: Global, code: &Option<Code>, limits: &str) -> Result<String, Memory> {
+/// Returns whether the result of `place` for code within the limits of a text is this; none is for limits that are not valid.
+pub(crate) fn is_laid(
+    rt: &impl Abort,
+    alloc: Global,
+    code: &Code,
+    limits: &str,
+    expected: &str,
+) -> bool {
     let mut text = String::new(alloc);
-    if let Some(code) = code {
-        put_layout(alloc, &mut text, code, limits)?;
-    }
-    Ok(text)
+    put_layout(rt, alloc, &mut text, code, limits);
+    let is_laid = text.as_str() == expected;
+    drop(text);
+    is_laid
 }

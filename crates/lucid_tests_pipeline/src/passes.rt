@@ -1,17 +1,16 @@
 // Passes on code that is worked by hand. A `Copies` that looks through a move to a narrower field, or a `Direct` that goes on with its own
 // result, fails here.
 use crate::codes::{APART, BRANCHES, Does, Given, Line, TOGETHER, YES, code};
-use lucid_base::Memory;
 use lucid_code::{Act, Code, Op, Operand};
 use lucid_pass::{Dead, Pass, run_passes_told};
 use lucid_pass_rewrites::{Copies, Direct, Fold};
-use std::alloc::{AllocError, Global};
-use std::test::Fail;
+use std::alloc::Global;
+use std::process::Abort;
 
 /// Each act that computes on 44, which is 300 in the 8 bits of field 4, with its outs and prints.
 const COMPUTED: Given = Given {
     fields: &[32, 32, 32, 32, 8, 32, 8, 32, 8],
-    arrays: 0,
+    arrays: &[],
     cell: 32,
     ops: &[
         (&[], 0, Does::Move(Operand::Fixed(300), 4)),
@@ -58,7 +57,7 @@ const MOVED: [Line; 2] = [
 /// A move from 8 to 16 bits.
 const WIDER: Given = Given {
     fields: &[32, 32, 32, 8, 16],
-    arrays: 0,
+    arrays: &[],
     cell: 32,
     ops: &MOVED,
 };
@@ -66,7 +65,7 @@ const WIDER: Given = Given {
 /// A move from 8 to 8 bits.
 const ALIKE: Given = Given {
     fields: &[32, 32, 32, 8, 8],
-    arrays: 0,
+    arrays: &[],
     cell: 32,
     ops: &MOVED,
 };
@@ -74,7 +73,7 @@ const ALIKE: Given = Given {
 /// A move from 16 to 8 bits.
 const NARROWER: Given = Given {
     fields: &[32, 32, 32, 16, 8],
-    arrays: 0,
+    arrays: &[],
     cell: 32,
     ops: &MOVED,
 };
@@ -82,7 +81,7 @@ const NARROWER: Given = Given {
 /// Field 4 is whether the argument is 3, and field 5 whether field 4 is 1. If so, event 0 is sent.
 const COMPARED: Given = Given {
     fields: &[32, 32, 32, 32, 1, 1],
-    arrays: 0,
+    arrays: &[],
     cell: 32,
     ops: &[
         (&[], 0, Does::IsEqual(32, 3, 3, 4)),
@@ -149,16 +148,19 @@ fn all_are_there(code: &Code, reads: &[Read]) -> bool {
 
 /// Returns whether the pass removes no operation of the code, and its result has these operands.
 fn makes<P: Pass>(
+    rt: &impl Abort,
     alloc: Global,
     pass: &mut P,
     given: &Given,
     reads: &[Read],
-) -> Result<bool, Memory> {
-    let Some(code) = code(alloc, given)? else {
-        return Ok(false);
-    };
-    let new = pass.run(alloc, &code)?;
-    Ok(pass.removed() == 0 && new.ops().len() == code.ops().len() && all_are_there(&new, reads))
+) -> bool {
+    let code = code(rt, alloc, given).expect(rt, "valid code");
+    let new = pass.run(alloc, &code).expect(rt, "memory");
+    let is_whole = pass.removed() == 0 && new.ops().len() == code.ops().len();
+    let makes = is_whole && all_are_there(&new, reads);
+    drop(new);
+    drop(code);
+    makes
 }
 
 /// Codes with moves, and what they read once `Copies` has run.
@@ -169,13 +171,21 @@ const MOVES: [(&Given, &[Read]); 4] = [
     (&NARROWER, &[(1, 0, Operand::Field(4))]),
 ];
 
-#[test]
-fn numbers_and_moved_fields_are_put_in(rt: HostRuntime) -> Result<(), Fail> {
-    assert!(rt; makes(rt.alloc(), &mut Fold::new(), &COMPUTED, &NUMBERS)?);
-    for (given, reads) in MOVES {
-        assert!(rt; makes(rt.alloc(), &mut Copies::new(), given, reads)?);
+/// Returns whether `Copies` makes these of the codes.
+fn all_are_copied(rt: &impl Abort, alloc: Global, rows: &[(&Given, &[Read])]) -> bool {
+    for at in 0..rows.len() {
+        let (given, reads) = rows[at];
+        if !makes(rt, alloc, &mut Copies::new(), given, reads) {
+            return false;
+        }
     }
-    Ok(())
+    true
+}
+
+#[test]
+fn numbers_and_moved_fields_are_put_in(rt: HostRuntime) {
+    assert!(rt; makes(&rt, rt.alloc(), &mut Fold::new(), &COMPUTED, &NUMBERS));
+    assert!(rt; all_are_copied(&rt, rt.alloc(), &MOVES));
 }
 
 /// Returns whether the code has this many operations, and the guard of this one asks first that a field has a value.
@@ -192,70 +202,74 @@ fn asks(code: &Code, count: usize, at: usize, field: u32, value: u64) -> bool {
 }
 
 /// Returns whether a literal that one run of `Direct` puts in is replaced by the next run alone.
-fn two_runs_ask(alloc: Global, code: &Code) -> Result<bool, Memory> {
+fn two_runs_ask(rt: &impl Abort, alloc: Global, code: &Code) -> bool {
     let mut direct = Direct::new();
-    let once = direct.run(alloc, code)?;
-    let twice = direct.run(alloc, &once)?;
-    Ok(asks(&once, 2, 1, 4, 1) && asks(&twice, 1, 0, 3, 3) && direct.removed() == 2)
-}
-
-fn direct_reads_once(alloc: Global) -> Result<bool, Memory> {
-    match code(alloc, &COMPARED)? {
-        None => Ok(false),
-        Some(code) => two_runs_ask(alloc, &code),
-    }
+    let once = direct.run(alloc, code).expect(rt, "memory");
+    let twice = direct.run(alloc, &once).expect(rt, "memory");
+    let ask = asks(&once, 2, 1, 4, 1) && asks(&twice, 1, 0, 3, 3) && direct.removed() == 2;
+    drop(twice);
+    drop(once);
+    ask
 }
 
 #[test]
-fn direct_reads_the_code_once(rt: HostRuntime) -> Result<(), Fail> {
-    assert!(rt; direct_reads_once(rt.alloc())?);
-    Ok(())
+fn direct_reads_the_code_once(rt: HostRuntime) {
+    let code = code(&rt, rt.alloc(), &COMPARED).expect(&rt, "valid code");
+    let ask = two_runs_ask(&rt, rt.alloc(), &code);
+    drop(code);
+    assert!(rt; ask);
 }
 
-fn is_valid(alloc: Global, given: &Given) -> Result<bool, Memory> {
-    Ok(code(alloc, given)?.is_some())
+fn is_valid(rt: &impl Abort, alloc: Global, given: &Given) -> bool {
+    let code = code(rt, alloc, given);
+    let is_valid = code.is_some();
+    drop(code);
+    is_valid
 }
 
 #[test]
-fn two_calls_of_an_array_have_contradicting_guards(rt: HostRuntime) -> Result<(), Fail> {
-    assert!(rt; is_valid(rt.alloc(), &APART)? && !is_valid(rt.alloc(), &TOGETHER)?);
-    Ok(())
+fn two_calls_of_an_array_have_contradicting_guards(rt: HostRuntime) {
+    assert!(rt; is_valid(&rt, rt.alloc(), &APART));
+    assert!(rt; !is_valid(&rt, rt.alloc(), &TOGETHER));
 }
 
 /// `Dead`, `Fold`, and `Dead` again.
-fn listed(alloc: Global) -> Result<Vec<Box<dyn Pass>>, AllocError> {
+fn listed(rt: &impl Abort, alloc: Global) -> Vec<Box<dyn Pass>> {
     let mut passes: Vec<Box<dyn Pass>> = Vec::new(alloc);
-    passes.push(Box::new(alloc, Dead::new())?)?;
-    passes.push(Box::new(alloc, Fold::new())?)?;
-    passes.push(Box::new(alloc, Dead::new())?)?;
-    Ok(passes)
+    let dead = Box::new(alloc, Dead::new()).expect(rt, "memory");
+    passes.push(dead).expect(rt, "memory");
+    let fold = Box::new(alloc, Fold::new()).expect(rt, "memory");
+    passes.push(fold).expect(rt, "memory");
+    let dead = Box::new(alloc, Dead::new()).expect(rt, "memory");
+    passes.push(dead).expect(rt, "memory");
+    passes
 }
 
 /// Returns whether the passes of the list remove these numbers of operations.
 fn remove(
+    rt: &impl Abort,
     alloc: Global,
     passes: &mut Vec<Box<dyn Pass>>,
     given: &Given,
     expected: &[u64],
-) -> Result<bool, Memory> {
-    match code(alloc, given)? {
-        None => Ok(false),
-        Some(code) => {
-            let (_, told) = run_passes_told(alloc, passes, code)?;
-            Ok(told.as_slice() == expected)
-        }
-    }
+) -> bool {
+    let code = code(rt, alloc, given).expect(rt, "valid code");
+    let (new, told) = run_passes_told(alloc, passes, code).expect(rt, "memory");
+    let remove = told.as_slice() == expected;
+    drop(told);
+    drop(new);
+    remove
 }
 
-/// Returns whether `Dead` removes one operation of the branches, and those that `Fold` made useless of what computes.
-fn order_tells(alloc: Global) -> Result<bool, Memory> {
-    let mut passes = listed(alloc)?;
-    let is_one = remove(alloc, &mut passes, &BRANCHES, &[1, 0, 0])?;
-    Ok(is_one && remove(alloc, &mut passes, &COMPUTED, &[0, 0, 5])?)
-}
-
+/// `Dead` removes one operation of the branches, and those that `Fold` made useless of what computes.
 #[test]
-fn the_order_of_passes_tells_what_goes(rt: HostRuntime) -> Result<(), Fail> {
-    assert!(rt; order_tells(rt.alloc())?);
-    Ok(())
+fn the_order_of_passes_tells_what_goes(rt: HostRuntime) {
+    let mut passes = listed(&rt, rt.alloc());
+    let one = remove(&rt, rt.alloc(), &mut passes, &BRANCHES, &[1, 0, 0]);
+    let five = remove(&rt, rt.alloc(), &mut passes, &COMPUTED, &[0, 0, 5]);
+    drop(passes);
+    assert!(rt;
+        one && five,
+        "one of the branches: {one}, five of what computes: {five}"
+    );
 }

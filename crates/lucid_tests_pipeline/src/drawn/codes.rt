@@ -1,10 +1,12 @@
 // Drawn code, group by group. The operations of a group write one field, call one array or have one slot, under guards that contradict;
 // each reads inputs and the fields of groups before it, written or not. So the code is valid, and much of it is as no program's is: guards
 // ask that a field is no value, contradict themselves or say a thing twice, and much is computed that no operation reads.
+use crate::codes::arrays;
 use crate::drawn::draws::Draws;
-use lucid_base::{ArrayDef, Bits, Id, Items, Memory, Width};
+use lucid_base::{Bits, Items, Width};
 use lucid_code::{Act, Code, Guard, Inputs, Literal, Op, Operand};
 use std::alloc::Global;
+use std::process::Abort;
 
 /// That the event is the first.
 const EVENT: Literal = Literal {
@@ -21,11 +23,150 @@ enum Target {
     Slot(u32),
 }
 
+fn field(draws: &mut Draws, fields: &[Width]) -> u32 {
+    let count = fields.len().max(1) as u64;
+    u32::try_from(draws.below(count)).unwrap_or(0)
+}
+
+fn width_of(fields: &[Width], k: u32) -> Width {
+    match fields.get(k as usize) {
+        None => Width::int(),
+        Some(width) => *width,
+    }
+}
+
+fn operand(draws: &mut Draws, fields: &[Width]) -> Operand {
+    if draws.below(4) == 0 {
+        Operand::Fixed(draws.number())
+    } else {
+        Operand::Field(field(draws, fields))
+    }
+}
+
+/// One to three.
+fn operands(rt: &impl Abort, alloc: Global, draws: &mut Draws, fields: &[Width]) -> Items<Operand> {
+    let mut operands = Items::new(alloc);
+    for _turn in 0..1 + draws.below(3) {
+        let operand = operand(draws, fields);
+        operands.push(operand).expect(rt, "memory");
+    }
+    operands
+}
+
+fn literal(draws: &mut Draws, fields: &[Width]) -> Literal {
+    let field = field(draws, fields);
+    Literal {
+        field,
+        equal: draws.below(3) != 0,
+        value: Bits::low(width_of(fields, field), draws.below(4)).value,
+    }
+}
+
+/// A literal that never holds together with this one: that the field is not this value, or another.
+fn opposed(draws: &mut Draws, literal: Literal) -> Literal {
+    let is_other = literal.equal && draws.below(2) == 0;
+    Literal {
+        field: literal.field,
+        equal: is_other || !literal.equal,
+        value: literal.value ^ u64::from(is_other),
+    }
+}
+
+/// A literal that a guard seldom has behind this one: the same, or one that contradicts it.
+fn second(draws: &mut Draws, literal: Literal) -> Option<Literal> {
+    match draws.below(12) {
+        0 => Some(opposed(draws, literal)),
+        1 => Some(literal),
+        _ => None,
+    }
+}
+
+/// A guard that has the literals of a list.
+fn guard(
+    rt: &impl Abort,
+    alloc: Global,
+    draws: &mut Draws,
+    fields: &[Width],
+    given: &[Literal],
+) -> Guard {
+    let mut literals = Items::from_slice(alloc, given).expect(rt, "memory");
+    if draws.below(2) == 1 {
+        let literal = literal(draws, fields);
+        literals.push(literal).expect(rt, "memory");
+        if let Some(second) = second(draws, literal) {
+            literals.push(second).expect(rt, "memory");
+        }
+    }
+    Guard::new(alloc, literals).expect(rt, "memory")
+}
+
+fn computed(
+    rt: &impl Abort,
+    alloc: Global,
+    draws: &mut Draws,
+    fields: &[Width],
+    width: Width,
+    to: u32,
+) -> Act {
+    let k = field(draws, fields);
+    let a = operand(draws, fields);
+    let b = Operand::Fixed(draws.number());
+    match draws.below(10) {
+        0 => Act::Un(draws.unary(), width, a, to),
+        1 => Act::Bin(draws.binary(), width, a, b, to),
+        2 => Act::Bin(draws.binary(), width, Operand::Field(k), a, to),
+        3 => Act::Cast(a, to),
+        4 => Act::Hash(operands(rt, alloc, draws, fields), to),
+        5 | 6 => Act::Move(b, to),
+        _ if width != Width::bool() => Act::Move(a, to),
+        7 => Act::Cmp(draws.comparison(), Width::int(), a, b, to),
+        _ => Act::Cmp(
+            draws.comparison(),
+            width_of(fields, k),
+            Operand::Field(k),
+            b,
+            to,
+        ),
+    }
+}
+
+fn touched(draws: &mut Draws, fields: &[Width], cell: Width, array: u32, to: u32) -> Act {
+    Act::Touch {
+        array,
+        index: operand(draws, fields),
+        get: draws.memop(cell),
+        get_arg: operand(draws, fields),
+        set: draws.memop(cell),
+        set_arg: operand(draws, fields),
+        to: if draws.below(4) == 0 { None } else { Some(to) },
+    }
+}
+
+fn sent(rt: &impl Abort, alloc: Global, draws: &mut Draws, fields: &[Width], slot: u32) -> Act {
+    let delay = operand(draws, fields);
+    let to = operand(draws, fields);
+    let event = draws.below(3) as u32;
+    let args = operands(rt, alloc, draws, fields);
+    match event {
+        0 => Act::Say {
+            slot,
+            form: 7,
+            args,
+        },
+        _ => Act::Gen {
+            slot,
+            event,
+            args,
+            delay,
+            to: if event == 1 { None } else { Some(to) },
+        },
+    }
+}
+
 /// Code that grows. Each group has a field of its own, which it may leave unwritten. Arrays from `level` on may still be called, all with
 /// cells of one width, and `slots` slots are taken.
 #[derive(Drop)]
-struct Draft<'a> {
-    draws: &'a mut Draws,
+struct Draft {
     fields: Vec<Width>,
     ops: Vec<Op>,
     cell: Width,
@@ -33,148 +174,34 @@ struct Draft<'a> {
     slots: u32,
 }
 
-impl<'a> Draft<'a> {
-    fn field(&mut self) -> u32 {
-        let count = self.fields.len().max(1) as u64;
-        u32::try_from(self.draws.below(count)).unwrap_or(0)
-    }
-
-    fn width_of(&self, k: u32) -> Width {
-        match self.fields.get(k as usize) {
-            None => Width::int(),
-            Some(width) => *width,
-        }
-    }
-
-    fn operand(&mut self) -> Operand {
-        if self.draws.below(4) == 0 {
-            Operand::Fixed(self.draws.number())
-        } else {
-            Operand::Field(self.field())
-        }
-    }
-
-    /// One to three.
-    fn operands(&mut self, alloc: Global) -> Result<Items<Operand>, Memory> {
-        let mut operands = Items::new(alloc);
-        for _turn in 0..1 + self.draws.below(3) {
-            operands.push(self.operand())?;
-        }
-        Ok(operands)
-    }
-
-    fn literal(&mut self) -> Literal {
-        let field = self.field();
-        Literal {
-            field,
-            equal: self.draws.below(3) != 0,
-            value: Bits::low(self.width_of(field), self.draws.below(4)).value,
-        }
-    }
-
-    /// A literal that never holds together with this one: that the field is not this value, or another.
-    fn opposed(&mut self, literal: Literal) -> Literal {
-        let is_other = literal.equal && self.draws.below(2) == 0;
-        Literal {
-            field: literal.field,
-            equal: is_other || !literal.equal,
-            value: literal.value ^ u64::from(is_other),
-        }
-    }
-
-    /// A guard that has the literals of a list.
-    fn guard(&mut self, alloc: Global, given: &[Literal]) -> Result<Guard, Memory> {
-        let mut literals = Items::from_slice(alloc, given)?;
-        for _turn in 0..self.draws.below(2) {
-            let literal = self.literal();
-            literals.push(literal)?;
-            match self.draws.below(12) {
-                0 => literals.push(self.opposed(literal))?,
-                1 => literals.push(literal)?,
-                _ => {}
-            }
-        }
-        Guard::new(alloc, literals)
-    }
-
-    fn act(&mut self, alloc: Global, target: Target) -> Result<Act, Memory> {
-        let to = u32::try_from(self.fields.len()).unwrap_or(0);
+impl Draft {
+    fn act(&self, rt: &impl Abort, alloc: Global, draws: &mut Draws, target: &Target) -> Act {
+        let fields = self.fields.as_slice();
+        let to = u32::try_from(fields.len()).unwrap_or(0);
         match target {
-            Target::Field(width) => self.computed(alloc, width, to),
-            Target::Slot(slot) => self.sent(alloc, slot),
-            Target::Array(array) => Ok(Act::Touch {
-                array,
-                index: self.operand(),
-                get: self.draws.memop(self.cell),
-                get_arg: self.operand(),
-                set: self.draws.memop(self.cell),
-                set_arg: self.operand(),
-                to: if self.draws.below(4) == 0 {
-                    None
-                } else {
-                    Some(to)
-                },
-            }),
+            Target::Field(width) => computed(rt, alloc, draws, fields, *width, to),
+            Target::Slot(slot) => sent(rt, alloc, draws, fields, *slot),
+            Target::Array(array) => touched(draws, fields, self.cell, *array, to),
         }
-    }
-
-    fn computed(&mut self, alloc: Global, width: Width, to: u32) -> Result<Act, Memory> {
-        let k = self.field();
-        let a = self.operand();
-        let b = Operand::Fixed(self.draws.number());
-        match self.draws.below(10) {
-            0 => Ok(Act::Un(self.draws.unary(), width, a, to)),
-            1 => Ok(Act::Bin(self.draws.binary(), width, a, b, to)),
-            2 => Ok(Act::Bin(self.draws.binary(), width, Operand::Field(k), a, to)),
-            3 => Ok(Act::Cast(a, to)),
-            4 => Ok(Act::Hash(self.operands(alloc)?, to)),
-            5 | 6 => Ok(Act::Move(b, to)),
-            _ if width != Width::bool() => Ok(Act::Move(a, to)),
-            7 => Ok(Act::Cmp(self.draws.comparison(), Width::int(), a, b, to)),
-            _ => {
-                let width = self.width_of(k);
-                Ok(Act::Cmp(self.draws.comparison(), width, Operand::Field(k), b, to))
-            }
-        }
-    }
-
-    fn sent(&mut self, alloc: Global, slot: u32) -> Result<Act, Memory> {
-        let delay = self.operand();
-        let to = self.operand();
-        let event = self.draws.below(3) as u32;
-        let args = self.operands(alloc)?;
-        if event == 0 {
-            return Ok(Act::Say {
-                slot,
-                form: 7,
-                args,
-            });
-        }
-        Ok(Act::Gen {
-            slot,
-            event,
-            args,
-            delay,
-            to: if event == 1 { None } else { Some(to) },
-        })
     }
 
     fn put(
         &mut self,
+        rt: &impl Abort,
         alloc: Global,
+        draws: &mut Draws,
         given: &[Literal],
         level: u32,
-        target: Target,
-    ) -> Result<(), Memory> {
-        let guard = self.guard(alloc, given)?;
-        let act = self.act(alloc, target)?;
-        self.ops.push(Op { guard, level, act })?;
-        Ok(())
+        target: &Target,
+    ) {
+        let guard = guard(rt, alloc, draws, self.fields.as_slice(), given);
+        let act = self.act(rt, alloc, draws, target);
+        self.ops.push(Op { guard, level, act }).expect(rt, "memory");
     }
 
-    fn target(&mut self) -> Target {
-        let array = self.level.saturating_add(self.draws.below(2) as u32);
-        match self.draws.below(6) {
+    fn target(&mut self, draws: &mut Draws) -> Target {
+        let array = self.level.saturating_add(draws.below(2) as u32);
+        match draws.below(6) {
             0 if array < 3 => {
                 self.level = array + 1;
                 Target::Array(array)
@@ -183,54 +210,52 @@ impl<'a> Draft<'a> {
                 self.slots += 1;
                 Target::Slot(8 - self.slots)
             }
-            _ => Target::Field(self.draws.width()),
+            _ => Target::Field(draws.width()),
         }
     }
 
     /// A group of one operation, or of two.
-    fn grow(&mut self, alloc: Global) -> Result<(), Memory> {
+    fn grow(&mut self, rt: &impl Abort, alloc: Global, draws: &mut Draws) {
         let level = self.level;
-        let target = self.target();
-        let one = self.literal();
-        let other = self.opposed(one);
-        match self.draws.below(5) {
-            0 | 1 => self.put(alloc, &[], level, target)?,
-            2 => self.put(alloc, &[EVENT], level, target)?,
+        let target = self.target(draws);
+        let one = literal(draws, self.fields.as_slice());
+        let other = opposed(draws, one);
+        match draws.below(5) {
+            0 | 1 => self.put(rt, alloc, draws, &[], level, &target),
+            2 => self.put(rt, alloc, draws, &[EVENT], level, &target),
             _ => {
-                self.put(alloc, &[EVENT, one], level, target)?;
-                self.put(alloc, &[other], level, target)?;
+                self.put(rt, alloc, draws, &[EVENT, one], level, &target);
+                self.put(rt, alloc, draws, &[other], level, &target);
             }
         }
-        self.fields.push(match target {
-            Target::Field(width) => width,
+        let width = self.width(&target);
+        self.fields.push(width).expect(rt, "memory");
+    }
+
+    /// The width of the field of a group.
+    fn width(&self, target: &Target) -> Width {
+        match target {
+            Target::Field(width) => *width,
             _ => self.cell,
-        })?;
-        Ok(())
+        }
     }
 }
 
-fn arrays(alloc: Global, width: Width) -> Result<Vec<ArrayDef>, Memory> {
-    let mut arrays = Vec::new(alloc);
-    for size in 1..4 {
-        arrays.push(ArrayDef {
-            name: Id::new(alloc, &[])?,
-            width,
-            size,
-        })?;
-    }
-    Ok(arrays)
-}
+const INPUTS: Inputs = Inputs {
+    event: 0,
+    now: 1,
+    me: 2,
+    args: 2,
+};
 
 /// Code of two arguments and three arrays.
-pub(crate) fn code(alloc: Global, draws: &mut Draws) -> Result<Option<Code>, Memory> {
-    let int = Width::int();
+pub(crate) fn code(rt: &impl Abort, alloc: Global, draws: &mut Draws) -> Option<Code> {
     let cell = draws.width();
-    let arrays = arrays(alloc, cell)?;
-    let mut fields = Vec::new(alloc);
-    fields.extend_from_slice(&[int, int, int, draws.width(), draws.width()])?;
+    let mut fields = vec![in alloc; Width::int(); 3].expect(rt, "memory");
+    fields.push(draws.width()).expect(rt, "memory");
+    fields.push(draws.width()).expect(rt, "memory");
     let groups = 4 + draws.below(8);
     let mut draft = Draft {
-        draws,
         fields,
         ops: Vec::new(alloc),
         cell,
@@ -238,14 +263,9 @@ pub(crate) fn code(alloc: Global, draws: &mut Draws) -> Result<Option<Code>, Mem
         slots: 0,
     };
     for _group in 0..groups {
-        draft.grow(alloc)?;
+        draft.grow(rt, alloc, draws);
     }
+    let arrays = arrays(rt, alloc, cell, &[1, 2, 3]);
     let Draft { fields, ops, .. } = draft;
-    let inputs = Inputs {
-        event: 0,
-        now: 1,
-        me: 2,
-        args: 2,
-    };
-    Code::new(alloc, fields, inputs, arrays, ops)
+    Code::new(alloc, fields, INPUTS, arrays, ops).expect(rt, "memory")
 }

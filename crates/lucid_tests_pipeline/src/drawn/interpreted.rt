@@ -1,10 +1,11 @@
 // An interpreter of code, which runs the operations in the order of the list, each on the fields that the ones before it wrote. It has no
 // table, stage or register.
 use crate::drawn::whole::Input;
-use lucid_base::{Args, Bits, Cells, Event, Memory, Out, Outs, Target};
+use lucid_base::{Args, Bits, Cells, Event, Out, Outs, Target};
 use lucid_code::{Act, Code, Literal, Operand};
 use lucid_pipe::Passed;
 use std::alloc::Global;
+use std::process::Abort;
 
 fn value(fields: &[u64], operand: Operand) -> u64 {
     match operand {
@@ -44,14 +45,8 @@ fn store(code: &Code, fields: &mut Vec<u64>, k: u32, value: u64) {
     }
 }
 
-/// Does what an act does. `sent` has each out behind its slot.
-fn act(
-    code: &Code,
-    act: &Act,
-    fields: &mut Vec<u64>,
-    cells: &mut Cells,
-    sent: &mut Vec<(u32, Out)>,
-) -> Result<(), Memory> {
+/// The out of an act that sends or says.
+fn out(fields: &[u64], act: &Act) -> Option<(u32, Out)> {
     match act {
         Act::Gen {
             slot,
@@ -62,19 +57,26 @@ fn act(
         } => {
             let event = Event {
                 id: *event,
-                args: arguments(fields.as_slice(), args.as_slice()),
+                args: arguments(fields, args.as_slice()),
             };
-            let delay = value(fields.as_slice(), *delay);
+            let delay = value(fields, *delay);
             let to = match to {
                 None => Target::Here,
-                Some(switch) => Target::At(value(fields.as_slice(), *switch)),
+                Some(switch) => Target::At(value(fields, *switch)),
             };
-            sent.push((*slot, Out::Gen { event, delay, to }))?;
+            Some((*slot, Out::Gen { event, delay, to }))
         }
         Act::Say { slot, form, args } => {
-            let args = arguments(fields.as_slice(), args.as_slice());
-            sent.push((*slot, Out::Say { form: *form, args }))?;
+            let args = arguments(fields, args.as_slice());
+            Some((*slot, Out::Say { form: *form, args }))
         }
+        _ => None,
+    }
+}
+
+/// The number that an act computes, or that it gets from a cell. It calls the cell.
+fn made(fields: &[u64], act: &Act, cells: &mut Cells) -> u64 {
+    match act {
         Act::Touch {
             array,
             index,
@@ -82,29 +84,21 @@ fn act(
             get_arg,
             set,
             set_arg,
-            to,
+            ..
         } => {
-            let cell = value(fields.as_slice(), *index);
-            let get_arg = value(fields.as_slice(), *get_arg);
-            let set_arg = value(fields.as_slice(), *set_arg);
+            let cell = value(fields, *index);
+            let get_arg = value(fields, *get_arg);
+            let set_arg = value(fields, *set_arg);
             let touched = cells.touch(*array, cell, get, get_arg, set, set_arg);
-            if let Some(k) = to {
-                store(code, fields, *k, touched.answer.value);
-            }
+            touched.answer.value
         }
-        _ => {
-            if let Some(k) = act.written() {
-                let made = act.result(fields.as_slice(), cells);
-                store(code, fields, k, made);
-            }
-        }
+        _ => act.result(fields, cells),
     }
-    Ok(())
 }
 
 /// The fields of a packet before its first operation.
-fn loaded(alloc: Global, code: &Code, input: &Input) -> Result<Vec<u64>, Memory> {
-    let mut fields = vec![in alloc; 0u64; code.fields().len()]?;
+fn loaded(rt: &impl Abort, alloc: Global, code: &Code, input: &Input) -> Vec<u64> {
+    let mut fields = (vec![in alloc; 0u64; code.fields().len()]).expect(rt, "memory");
     store(code, &mut fields, 0, u64::from(input.event.id));
     store(code, &mut fields, 1, input.now);
     store(code, &mut fields, 2, u64::from(input.me));
@@ -113,7 +107,7 @@ fn loaded(alloc: Global, code: &Code, input: &Input) -> Result<Vec<u64>, Memory>
         store(code, &mut fields, field, *arg);
         field = field.saturating_add(1);
     }
-    Ok(fields)
+    fields
 }
 
 /// The outs in the order of their slots.
@@ -131,22 +125,32 @@ fn outs_of(sent: &[(u32, Out)]) -> Outs {
 
 /// Runs the operations on an input, one after another.
 pub(crate) fn interpret(
+    rt: &impl Abort,
     alloc: Global,
     code: &Code,
     input: &Input,
     cells: &mut Cells,
-) -> Result<Passed, Memory> {
-    let mut fields = loaded(alloc, code, input)?;
+) -> Passed {
+    let mut fields = loaded(rt, alloc, code, input);
     let mut sent = Vec::new(alloc);
     for op in code.ops() {
         if all_hold(fields.as_slice(), op.guard.as_slice()) {
-            act(code, &op.act, &mut fields, cells, &mut sent)?;
+            if let Some(out) = out(fields.as_slice(), &op.act) {
+                sent.push(out).expect(rt, "memory");
+            }
+            let made = made(fields.as_slice(), &op.act, cells);
+            if let Some(k) = op.act.written() {
+                store(code, &mut fields, k, made);
+            }
         }
     }
-    Ok(Passed {
+    let outs = outs_of(sent.as_slice());
+    drop(sent);
+    drop(fields);
+    Passed {
         event: input.event,
         now: input.now,
         me: input.me,
-        outs: outs_of(sent.as_slice()),
-    })
+        outs,
+    }
 }

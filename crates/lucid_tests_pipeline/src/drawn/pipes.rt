@@ -7,13 +7,13 @@ use crate::drawn::codes::code;
 use crate::drawn::draws::Draws;
 use crate::drawn::interpreted::interpret;
 use crate::drawn::whole::{drawn_input, placed, same_rows};
-use lucid_base::{Cells, Memory};
+use lucid_base::Cells;
 use lucid_code::Code;
 use lucid_pipe::{Passed, Pipe, Stuck};
 use lucid_tables::Placed;
 use std::alloc::Global;
 use std::collections::VecDeque;
-use std::test::Fail;
+use std::process::Abort;
 
 /// The outcomes of moves.
 #[derive(Drop)]
@@ -32,25 +32,26 @@ fn add_one(count: &mut u32) {
 
 /// Enters a drawn event, if it can, and interprets it; returns the output of that run.
 fn enter(
+    rt: &impl Abort,
     alloc: Global,
     draws: &mut Draws,
     code: &Code,
     pipe: &mut Pipe,
     cells: &mut Cells,
     tally: &mut Tally,
-) -> Result<Option<Passed>, Memory>
+) -> Option<Passed>
     requires { pipe.old.placed.code ≡ code.now }
     ensures { pipe.new.placed ≡ pipe.old.placed }
 {
     let Some(input) = drawn_input(draws, code) else {
-        return Ok(None);
+        return None;
     };
     if pipe.enter(input.event, input.now, input.me).is_err() {
         add_one(&mut tally.busy);
-        return Ok(None);
+        return None;
     }
     add_one(&mut tally.entered);
-    Ok(Some(interpret(alloc, code, &input, cells)?))
+    Some(interpret(rt, alloc, code, &input, cells))
 }
 
 /// Moves the packet of a slot, if it can. A leaving packet must have the output of the next run in the list, which is removed.
@@ -79,6 +80,7 @@ fn drain(pipe: &mut Pipe, told: &mut VecDeque<Passed>, tally: &mut Tally) {
 
 /// Does two hundred drawn moves. Each packet that entered and did not leave has its output in the list.
 fn fly(
+    rt: &impl Abort,
     alloc: Global,
     draws: &mut Draws,
     code: &Placed,
@@ -86,56 +88,57 @@ fn fly(
     cells: &mut Cells,
     told: &mut VecDeque<Passed>,
     tally: &mut Tally,
-) -> Result<(), Memory>
+)
     requires { pipe.old.placed ≡ code.now }
 {
     let places = (code.stages().len() as u64).saturating_add(1);
     for _turn in 0..200 {
         if draws.below(4) != 0 {
             go(pipe, draws.below(places) as usize, told, tally);
-        } else if let Some(passed) = enter(alloc, draws, code.code(), pipe, cells, tally)? {
-            told.push_back(passed)?;
+        } else if let Some(passed) = enter(rt, alloc, draws, code.code(), pipe, cells, tally) {
+            told.push_back(passed).expect(rt, "memory");
         }
     }
-    Ok(())
 }
 
 /// Returns whether the arrays have the same cells.
-fn are_equal(alloc: Global, pipe: &Pipe, cells: &Cells) -> Result<bool, Memory> {
-    let rows = pipe.rows(alloc)?;
-    let held = cells.rows(alloc)?;
-    Ok(same_rows(rows.as_slice(), held.as_slice()))
+fn are_equal(rt: &impl Abort, alloc: Global, pipe: &Pipe, cells: &Cells) -> bool {
+    let rows = pipe.rows(alloc).expect(rt, "memory");
+    let held = cells.rows(alloc).expect(rt, "memory");
+    let are_equal = same_rows(rows.as_slice(), held.as_slice());
+    drop(held);
+    drop(rows);
+    are_equal
 }
 
-/// Flies until no packet is left. All that entered must have come out, and the cells must be those of the interpreter.
-fn land_in(
-    alloc: Global,
-    draws: &mut Draws,
-    code: &Placed,
-    pipe: &mut Pipe,
-    cells: &mut Cells,
-    tally: &mut Tally,
-) -> Result<(), Memory>
-    requires { pipe.old.placed ≡ code.now }
-{
+/// Flies in a new pipe until no packet is left. All that entered must have come out, and the cells must be those of the interpreter.
+fn land(rt: &impl Abort, alloc: Global, draws: &mut Draws, code: &Placed, tally: &mut Tally) {
+    let mut cells = Cells::zeros(alloc, code.code().arrays()).expect(rt, "memory");
+    let mut pipe = Pipe::new(alloc, code).expect(rt, "memory");
     let mut told = VecDeque::new(alloc);
-    fly(alloc, draws, code, pipe, cells, &mut told, tally)?;
-    drain(pipe, &mut told, tally);
-    if !told.is_empty() || !are_equal(alloc, pipe, cells)? {
+    fly(
+        rt, alloc, draws, code, &mut pipe, &mut cells, &mut told, tally,
+    );
+    drain(&mut pipe, &mut told, tally);
+    if !told.is_empty() || !are_equal(rt, alloc, &pipe, &cells) {
         add_one(&mut tally.wrong);
     }
-    Ok(())
+    drop(told);
+    drop(pipe);
+    drop(cells);
 }
 
-/// Flies in a new pipe.
-fn land(alloc: Global, draws: &mut Draws, code: &Placed, tally: &mut Tally) -> Result<(), Memory> {
-    let mut cells = Cells::zeros(alloc, code.code().arrays())?;
-    let mut pipe = Pipe::new(alloc, code)?;
-    land_in(alloc, draws, code, &mut pipe, &mut cells, tally)
+/// Flies through a drawn code.
+fn land_next(rt: &impl Abort, alloc: Global, draws: &mut Draws, tally: &mut Tally) {
+    let code = code(rt, alloc, draws).expect(rt, "valid code");
+    let placed = placed(alloc, &code).expect(rt, "placed code");
+    drop(code);
+    land(rt, alloc, draws, &placed, tally);
+    drop(placed);
 }
 
 /// Flies through this many drawn codes.
-fn land_all(alloc: Global, codes: u32) -> Result<Tally, Memory> {
+fn land_all(rt: &impl Abort, alloc: Global, codes: u32) -> Tally {
     let mut draws = Draws { state: 29 };
     let mut tally = Tally {
         entered: 0,
@@ -146,20 +149,14 @@ fn land_all(alloc: Global, codes: u32) -> Result<Tally, Memory> {
         wrong: 0,
     };
     for _turn in 0..codes {
-        let Some(code) = code(alloc, &mut draws)? else {
-            return Err(Memory);
-        };
-        match placed(alloc, &code) {
-            None => add_one(&mut tally.wrong),
-            Some(placed) => land(alloc, &mut draws, &placed, &mut tally)?,
-        }
+        land_next(rt, alloc, &mut draws, &mut tally);
     }
-    Ok(tally)
+    tally
 }
 
 #[test]
-fn moves_in_any_order_are_whole_passes(rt: HostRuntime) -> Result<(), Fail> {
-    let tally = land_all(rt.alloc(), 200)?;
+fn moves_in_any_order_are_whole_passes(rt: HostRuntime) {
+    let tally = land_all(&rt, rt.alloc(), 200);
     assert_eq!(rt; tally.wrong, 0);
     for count in [
         tally.entered,
@@ -170,5 +167,4 @@ fn moves_in_any_order_are_whole_passes(rt: HostRuntime) -> Result<(), Fail> {
     ] {
         assert!(rt; 1_000 <= count, "{count}");
     }
-    Ok(())
 }

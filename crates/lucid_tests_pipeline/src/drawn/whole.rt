@@ -92,5 +92,13 @@ pub(crate) fn pass(pipe: &mut Pipe, input: &Input) -> Option<Passed>
 
 /// Whether arrays have the same cells.
 pub(crate) fn same_rows(a: &[Items<u64>], b: &[Items<u64>]) -> bool {
-    a.len() == b.len() && a.iter().zip(b).all(|(x, y)| x.as_slice() == y.as_slice())
+    if a.len() != b.len() {
+        return false;
+    }
+    for at in 0..a.len() {
+        if a[at].as_slice() != b[at].as_slice() {
+            return false;
+        }
+    }
+    true
 }

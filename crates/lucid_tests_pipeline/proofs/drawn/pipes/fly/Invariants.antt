@@ -2,4 +2,4 @@ use Rattle.std.proofs.Common.{◌≡◌}
 use Rattle.lucid_tests_pipeline.proofs.drawn.pipes.fly.Given as goal
 
 abbrev pub invariant-loop-turn : goal.invariant-loop-turn
-invariant-loop-turn l = l.pipe.placed ≡ l.code
+invariant-loop-turn g l = l.pipe.placed ≡ l.code
