@@ -3,12 +3,13 @@ ghost use Rattle.lucid_parse_spec.specs.Reader as reader;
 ghost use Rattle.lucid_parse_expression.specs.Reads.{Reads};
 ghost use Rattle.lucid_parse_expression.specs.Tokens.{said};
 ghost use Rattle.lucid_parse_spec.specs.ReadDeclaration as spec;
+ghost use Rattle.lucid_parse.specs.Parts as parts;
 
 use crate::statement::body;
 use lucid_base::{Id, Items};
 use lucid_lex::{Sign, Word};
 use lucid_parse_expression::{
-    Lexeme, Stop, Tokens, after, array_type, expect, expect_name, expect_word, name, number,
+    Lexeme, Stop, Tokens, after, array_type, ended, expect, expect_name, expect_word, name, number,
     separated, ty, typed_name,
 };
 use lucid_parse_tree::{DeclKind, P, Size, Ty};
@@ -62,11 +63,7 @@ fn parameters(alloc: Global, tokens: Tokens) -> Result<(Items<P>, Tokens), Stop>
     let rest = expect(Sign::OpenParen, tokens)?;
     match after(Sign::CloseParen, rest) {
         Some(rest) => Ok((Items::new(alloc), rest)),
-        None => {
-            let (all, rest) = some_parameters(alloc, rest)?;
-            let rest = expect(Sign::CloseParen, rest)?;
-            Ok((all, rest))
-        }
+        None => { ended(Sign::CloseParen, some_parameters(alloc, rest)?) }
     }
 }
 
@@ -74,11 +71,17 @@ fn parameters(alloc: Global, tokens: Tokens) -> Result<(Items<P>, Tokens), Stop>
 fn constant(alloc: Global, tokens: Tokens) -> Result<(DeclKind, Tokens), Stop>
     ensures { Reads result (spec.constant (said tokens.entry)) }
 {
-    let ((ty, name), rest) = typed_name(alloc, tokens)?;
-    let rest = expect(Sign::Equal, rest)?;
-    let (value, rest) = number(rest)?;
-    let rest = expect(Sign::Semicolon, rest)?;
-    Ok((DeclKind::Const(ty, name, value), rest))
+    let ((ty, name), rest) = ended(Sign::Equal, typed_name(alloc, tokens)?)?;
+    match number(rest) {
+        Ok((value, rest)) => {
+            let (name, rest) = ended(Sign::Semicolon, (name, rest))?;
+            Ok((DeclKind::Const(ty, name, value), rest))
+        }
+        Err(stop) => {
+            drop(name);
+            Err(stop)
+        }
+    }
 }
 
 #[tactic(auto, unfolding(lucid_parse_spec::specs::ReadDeclaration::size))]
@@ -101,10 +104,8 @@ fn created(alloc: Global, tokens: Tokens) -> Result<(Size, Tokens), Stop>
     let rest = expect(Sign::Dot, rest)?;
     let rest = expect_name(b"create", rest)?;
     let rest = expect(Sign::OpenParen, rest)?;
-    let (size, rest) = array_size(alloc, rest)?;
-    let rest = expect(Sign::CloseParen, rest)?;
-    let rest = expect(Sign::Semicolon, rest)?;
-    Ok((size, rest))
+    let size = ended(Sign::CloseParen, array_size(alloc, rest)?)?;
+    ended(Sign::Semicolon, size)
 }
 
 #[tactic(auto, unfolding(lucid_parse_spec::specs::ReadDeclaration::global_array))]
@@ -113,18 +114,22 @@ fn global_array(alloc: Global, tokens: Tokens) -> Result<(DeclKind, Tokens), Sto
 {
     let rest = expect_word(Word::ArrayCalls, tokens)?;
     let ((short, width), rest) = array_type(rest)?;
-    let (name, rest) = name(alloc, rest)?;
-    let rest = expect(Sign::Equal, rest)?;
-    let (size, rest) = created(alloc, rest)?;
-    Ok((
-        DeclKind::Global {
-            short,
-            width,
-            name,
-            size,
-        },
-        rest,
-    ))
+    let (name, rest) = ended(Sign::Equal, name(alloc, rest)?)?;
+    match created(alloc, rest) {
+        Ok((size, rest)) => Ok((
+            DeclKind::Global {
+                short,
+                width,
+                name,
+                size,
+            },
+            rest,
+        )),
+        Err(stop) => {
+            drop(name);
+            Err(stop)
+        }
+    }
 }
 
 /// The two parameters of a memop, in parentheses.
@@ -133,11 +138,14 @@ fn two_parameters(alloc: Global, tokens: Tokens) -> Result<(((Ty, Id), (Ty, Id))
     ensures { Reads result (spec.two_parameters (said tokens.entry)) }
 {
     let rest = expect(Sign::OpenParen, tokens)?;
-    let (first, rest) = typed_name(alloc, rest)?;
-    let rest = expect(Sign::Comma, rest)?;
-    let (second, rest) = typed_name(alloc, rest)?;
-    let rest = expect(Sign::CloseParen, rest)?;
-    Ok(((first, second), rest))
+    let (first, rest) = ended(Sign::Comma, typed_name(alloc, rest)?)?;
+    match typed_name(alloc, rest) {
+        Ok((second, rest)) => ended(Sign::CloseParen, ((first, second), rest)),
+        Err(stop) => {
+            drop(first);
+            Err(stop)
+        }
+    }
 }
 
 #[tactic(auto, unfolding(lucid_parse_spec::specs::ReadDeclaration::memop))]
@@ -145,26 +153,50 @@ fn memop(alloc: Global, tokens: Tokens) -> Result<(DeclKind, Tokens), Stop>
     ensures { Reads result (spec.memop (said tokens.entry)) }
 {
     let (name, rest) = name(alloc, tokens)?;
-    let ((first, second), rest) = two_parameters(alloc, rest)?;
-    let (body, rest) = body(alloc, rest)?;
-    Ok((
-        DeclKind::Memop {
-            name,
-            first,
-            second,
-            body,
+    match two_parameters(alloc, rest) {
+        Ok(((first, second), rest)) => match body(alloc, rest) {
+            Ok((body, rest)) => Ok((
+                DeclKind::Memop {
+                    name,
+                    first,
+                    second,
+                    body,
+                },
+                rest,
+            )),
+            Err(stop) => {
+                drop(name);
+                drop(first);
+                drop(second);
+                Err(stop)
+            }
         },
-        rest,
-    ))
+        Err(stop) => {
+            drop(name);
+            Err(stop)
+        }
+    }
+}
+
+/// A name, and the parameters after it.
+fn signature(alloc: Global, tokens: Tokens) -> Result<((Id, Items<P>), Tokens), Stop>
+    ensures { Reads result (parts.signature (said tokens.entry)) }
+{
+    let (name, rest) = name(alloc, tokens)?;
+    match parameters(alloc, rest) {
+        Ok((params, rest)) => Ok(((name, params), rest)),
+        Err(stop) => {
+            drop(name);
+            Err(stop)
+        }
+    }
 }
 
 #[tactic(auto, unfolding(lucid_parse_spec::specs::ReadDeclaration::event_declared))]
 fn event_declared(alloc: Global, tokens: Tokens) -> Result<(DeclKind, Tokens), Stop>
     ensures { Reads result (spec.event_declared (said tokens.entry)) }
 {
-    let (name, rest) = name(alloc, tokens)?;
-    let (params, rest) = parameters(alloc, rest)?;
-    let rest = expect(Sign::Semicolon, rest)?;
+    let ((name, params), rest) = ended(Sign::Semicolon, signature(alloc, tokens)?)?;
     Ok((DeclKind::Event { name, params }, rest))
 }
 
@@ -172,10 +204,15 @@ fn event_declared(alloc: Global, tokens: Tokens) -> Result<(DeclKind, Tokens), S
 fn handler(alloc: Global, tokens: Tokens) -> Result<(DeclKind, Tokens), Stop>
     ensures { Reads result (spec.handler (said tokens.entry)) }
 {
-    let (name, rest) = name(alloc, tokens)?;
-    let (params, rest) = parameters(alloc, rest)?;
-    let (body, rest) = body(alloc, rest)?;
-    Ok((DeclKind::Handle { name, params, body }, rest))
+    let ((name, params), rest) = signature(alloc, tokens)?;
+    match body(alloc, rest) {
+        Ok((body, rest)) => Ok((DeclKind::Handle { name, params, body }, rest)),
+        Err(stop) => {
+            drop(name);
+            drop(params);
+            Err(stop)
+        }
+    }
 }
 
 /// The type of a function's answer, or `void`.
@@ -197,18 +234,23 @@ fn function(alloc: Global, tokens: Tokens) -> Result<(DeclKind, Tokens), Stop>
     ensures { Reads result (spec.function (said tokens.entry)) }
 {
     let (answer, rest) = answer(tokens)?;
-    let (name, rest) = name(alloc, rest)?;
-    let (params, rest) = parameters(alloc, rest)?;
-    let (body, rest) = body(alloc, rest)?;
-    Ok((
-        DeclKind::Fun {
-            answer,
-            name,
-            params,
-            body,
-        },
-        rest,
-    ))
+    let ((name, params), rest) = signature(alloc, rest)?;
+    match body(alloc, rest) {
+        Ok((body, rest)) => Ok((
+            DeclKind::Fun {
+                answer,
+                name,
+                params,
+                body,
+            },
+            rest,
+        )),
+        Err(stop) => {
+            drop(name);
+            drop(params);
+            Err(stop)
+        }
+    }
 }
 
 /// Numbers with commas between them.
@@ -222,11 +264,17 @@ fn numbers<'a>(alloc: Global, tokens: Tokens<'a>) -> Result<(Items<u64>, Tokens<
 fn group(alloc: Global, tokens: Tokens) -> Result<(DeclKind, Tokens), Stop>
     ensures { Reads result (spec.group (said tokens.entry)) }
 {
-    let (name, rest) = name(alloc, tokens)?;
-    let rest = expect(Sign::Equal, rest)?;
-    let rest = expect(Sign::OpenBrace, rest)?;
-    let (members, rest) = numbers(alloc, rest)?;
-    let rest = expect(Sign::CloseBrace, rest)?;
-    let rest = expect(Sign::Semicolon, rest)?;
-    Ok((DeclKind::Group(name, members), rest))
+    let read = ended(Sign::Equal, name(alloc, tokens)?)?;
+    let (name, rest) = ended(Sign::OpenBrace, read)?;
+    match numbers(alloc, rest) {
+        Ok((members, rest)) => {
+            let read = ended(Sign::CloseBrace, ((name, members), rest))?;
+            let ((name, members), rest) = ended(Sign::Semicolon, read)?;
+            Ok((DeclKind::Group(name, members), rest))
+        }
+        Err(stop) => {
+            drop(name);
+            Err(stop)
+        }
+    }
 }

@@ -1,13 +1,15 @@
 // The event of a `generate`.
 ghost use Rattle.std.specs.Prelude.{Some};
-ghost use Rattle.lucid_parse_expression.specs.Reads.{Reads, Gives};
+ghost use Rattle.lucid_parse_expression.specs.Reads.{Reads};
 ghost use Rattle.lucid_parse_tree.specs.declared.tree.V.TheVariants as v;
 ghost use Rattle.lucid_parse_expression.specs.Tokens.{said};
 ghost use Rattle.lucid_parse_spec.specs.ReadStatement as spec;
+ghost use Rattle.lucid_parse.specs.Parts as parts;
 
-use lucid_base::{Boxed, Id, Items};
+use crate::parts::{with_name, with_value};
+use lucid_base::Boxed;
 use lucid_lex::{Sign, Word};
-use lucid_parse_expression::{Ascii, Lexeme, Stop, Tokens, call_arguments, expect, expression};
+use lucid_parse_expression::{Ascii, Lexeme, Stop, Tokens, call_arguments, ended, expect};
 use lucid_parse_tree::{E, V};
 use std::alloc::Global;
 
@@ -37,15 +39,9 @@ fn event_within(alloc: Global, depth: usize, tokens: Tokens) -> Result<(Boxed<V>
 {
     match tokens.split() {
         Some((Lexeme::Sign(Sign::OpenParen), rest)) => {
-            let (inner, rest) = event_at(alloc, depth, rest)?;
-            let rest = expect(Sign::CloseParen, rest)?;
-            Ok((in_parentheses(alloc, inner)?, rest))
+            in_parentheses(alloc, event_at(alloc, depth, rest)?)
         }
-        Some((Lexeme::Name(name), rest)) => {
-            let rest = expect(Sign::OpenParen, rest)?;
-            let (arguments, rest) = call_arguments(alloc, rest)?;
-            Ok((called(alloc, name, arguments)?, rest))
-        }
+        Some((Lexeme::Name(name), rest)) => called(alloc, name, rest),
         Some((Lexeme::Word(Word::EventCalls), rest)) => {
             let rest = expect(Sign::Dot, rest)?;
             match rest.split() {
@@ -69,11 +65,9 @@ fn event_by<'a>(
     ensures { Reads result (spec.event_by (spec.event_at depth) name.entry.bytes.now (said tokens.entry)) }
 {
     if name.bytes == b"delay".as_slice() {
-        let ((event, by), rest) = event_pair(alloc, depth, tokens)?;
-        Ok((delayed(alloc, event, by)?, rest))
+        delayed(alloc, event_pair(alloc, depth, tokens)?)
     } else if name.bytes == b"locate".as_slice() {
-        let ((event, at), rest) = event_pair(alloc, depth, tokens)?;
-        Ok((located(alloc, event, at)?, rest))
+        located(alloc, event_pair(alloc, depth, tokens)?)
     } else {
         Err(Stop::NoTree)
     }
@@ -86,36 +80,50 @@ fn event_pair(alloc: Global, depth: usize, tokens: Tokens) -> Result<((Boxed<V>,
     ensures { Reads result (spec.event_pair (spec.event_at depth) (said tokens.entry)) }
 {
     let rest = expect(Sign::OpenParen, tokens)?;
-    let (event, rest) = event_at(alloc, depth, rest)?;
-    let rest = expect(Sign::Comma, rest)?;
-    let (second, rest) = expression(alloc, rest)?;
-    let rest = expect(Sign::CloseParen, rest)?;
-    Ok(((event, second), rest))
+    let event = ended(Sign::Comma, event_at(alloc, depth, rest)?)?;
+    with_value(alloc, event)
 }
 
-// Events made of parsed parts, each boxed at once: an event by value is expensive to drop.
+// Events made of the parts that were read, with the rest after them. Each is boxed at once: an event by value is expensive to drop.
 
-fn in_parentheses(alloc: Global, inner: Boxed<V>) -> Result<Boxed<V>, Stop>
-    ensures { Gives result (Some (v.Paren inner)) }
+fn in_parentheses<'a>(
+    alloc: Global,
+    inner: (Boxed<V>, Tokens<'a>),
+) -> Result<(Boxed<V>, Tokens<'a>), Stop>
+    ensures { Reads result (parts.event_in_parentheses (inner.entry.0, said inner.entry.1)) }
 {
-    Ok(Boxed::new(alloc, V::Paren(inner))?)
+    let (inner, rest) = ended(Sign::CloseParen, inner)?;
+    Ok((Boxed::new(alloc, V::Paren(inner))?, rest))
 }
 
-fn called<'a>(alloc: Global, name: Ascii<'a>, arguments: Items<E>) -> Result<Boxed<V>, Stop>
-    ensures { Gives result (Some (v.Call name.entry.bytes.now arguments)) }
+fn called<'a>(
+    alloc: Global,
+    name: Ascii<'a>,
+    tokens: Tokens<'a>,
+) -> Result<(Boxed<V>, Tokens<'a>), Stop>
+    ensures { Reads result (parts.event_called name.entry.bytes.now (said tokens.entry)) }
 {
-    let name = Id::new(alloc, name.bytes)?;
-    Ok(Boxed::new(alloc, V::Call(name, arguments))?)
+    let rest = expect(Sign::OpenParen, tokens)?;
+    let ((name, arguments), rest) = with_name(alloc, name, call_arguments(alloc, rest)?)?;
+    Ok((Boxed::new(alloc, V::Call(name, arguments))?, rest))
 }
 
-fn delayed(alloc: Global, event: Boxed<V>, by: E) -> Result<Boxed<V>, Stop>
-    ensures { Gives result (Some (v.Delay event by)) }
+fn delayed<'a>(
+    alloc: Global,
+    pair: ((Boxed<V>, E), Tokens<'a>),
+) -> Result<(Boxed<V>, Tokens<'a>), Stop>
+    ensures { Reads result (Some (v.Delay pair.entry.0.0 pair.entry.0.1, said pair.entry.1)) }
 {
-    Ok(Boxed::new(alloc, V::Delay(event, by))?)
+    let ((event, by), rest) = pair;
+    Ok((Boxed::new(alloc, V::Delay(event, by))?, rest))
 }
 
-fn located(alloc: Global, event: Boxed<V>, at: E) -> Result<Boxed<V>, Stop>
-    ensures { Gives result (Some (v.Locate event at)) }
+fn located<'a>(
+    alloc: Global,
+    pair: ((Boxed<V>, E), Tokens<'a>),
+) -> Result<(Boxed<V>, Tokens<'a>), Stop>
+    ensures { Reads result (Some (v.Locate pair.entry.0.0 pair.entry.0.1, said pair.entry.1)) }
 {
-    Ok(Boxed::new(alloc, V::Locate(event, at))?)
+    let ((event, at), rest) = pair;
+    Ok((Boxed::new(alloc, V::Locate(event, at))?, rest))
 }

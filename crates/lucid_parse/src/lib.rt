@@ -11,6 +11,7 @@ mod declaration;
 mod error;
 mod event;
 mod nesting;
+mod parts;
 mod program;
 mod simple;
 mod statement;

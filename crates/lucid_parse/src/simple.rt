@@ -4,15 +4,17 @@ ghost use Rattle.lucid_parse_expression.specs.Tokens.{said};
 ghost use Rattle.lucid_parse_spec.specs.ReadStatement as spec;
 
 use crate::event::event;
+use crate::parts::with_name;
 use lucid_base::{Id, Items};
 use lucid_lex::{Sign, Word};
 use lucid_parse_expression::{
-    Ascii, Lexeme, Stop, Tokens, after, array_call, call_arguments, expect, expression, operands,
-    typed_name,
+    Ascii, Lexeme, Stop, Tokens, after, array_call, call_arguments, ended, expect, expression,
+    operands, typed_name,
 };
 use lucid_parse_tree::{E, S};
 use std::alloc::Global;
 
+#[inline(never)]
 #[tactic(auto, unfolding(lucid_parse_spec::specs::ReadStatement::simple))]
 pub(crate) fn simple(alloc: Global, tokens: Tokens) -> Result<(S, Tokens), Stop>
     ensures { Reads result (spec.simple (said tokens.entry)) }
@@ -32,9 +34,7 @@ pub(crate) fn simple(alloc: Global, tokens: Tokens) -> Result<(S, Tokens), Stop>
 fn ended_value(alloc: Global, tokens: Tokens) -> Result<(E, Tokens), Stop>
     ensures { Reads result (spec.ended_value (said tokens.entry)) }
 {
-    let (value, rest) = expression(alloc, tokens)?;
-    let rest = expect(Sign::Semicolon, rest)?;
-    Ok((value, rest))
+    ended(Sign::Semicolon, expression(alloc, tokens)?)
 }
 
 /// The arguments of a call, after its open parenthesis, up to the `;`.
@@ -42,9 +42,7 @@ fn ended_value(alloc: Global, tokens: Tokens) -> Result<(E, Tokens), Stop>
 fn ended_arguments(alloc: Global, tokens: Tokens) -> Result<(Items<E>, Tokens), Stop>
     ensures { Reads result (spec.ended_arguments (said tokens.entry)) }
 {
-    let (arguments, rest) = call_arguments(alloc, tokens)?;
-    let rest = expect(Sign::Semicolon, rest)?;
-    Ok((arguments, rest))
+    ended(Sign::Semicolon, call_arguments(alloc, tokens)?)
 }
 
 /// Reads a statement after the name that it begins with.
@@ -58,12 +56,12 @@ fn after_its_name<'a>(
 {
     match tokens.split() {
         Some((Lexeme::Sign(Sign::Equal), rest)) => {
-            let (value, rest) = ended_value(alloc, rest)?;
-            Ok((S::Assign(Id::new(alloc, name.bytes)?, value), rest))
+            let ((name, value), rest) = with_name(alloc, name, ended_value(alloc, rest)?)?;
+            Ok((S::Assign(name, value), rest))
         }
         Some((Lexeme::Sign(Sign::OpenParen), rest)) => {
-            let (arguments, rest) = ended_arguments(alloc, rest)?;
-            Ok((S::Call(Id::new(alloc, name.bytes)?, arguments), rest))
+            let ((name, arguments), rest) = with_name(alloc, name, ended_arguments(alloc, rest)?)?;
+            Ok((S::Call(name, arguments), rest))
         }
         _ => Err(Stop::NoTree),
     }
@@ -73,10 +71,14 @@ fn after_its_name<'a>(
 fn declared_local(alloc: Global, tokens: Tokens) -> Result<(S, Tokens), Stop>
     ensures { Reads result (spec.declared (said tokens.entry)) }
 {
-    let ((ty, name), rest) = typed_name(alloc, tokens)?;
-    let rest = expect(Sign::Equal, rest)?;
-    let (value, rest) = ended_value(alloc, rest)?;
-    Ok((S::Declare(ty, name, value), rest))
+    let ((ty, name), rest) = ended(Sign::Equal, typed_name(alloc, tokens)?)?;
+    match ended_value(alloc, rest) {
+        Ok((value, rest)) => Ok((S::Declare(ty, name, value), rest)),
+        Err(stop) => {
+            drop(name);
+            Err(stop)
+        }
+    }
 }
 
 /// Reads a call on an array, after `Array`.
@@ -84,8 +86,7 @@ fn declared_local(alloc: Global, tokens: Tokens) -> Result<(S, Tokens), Stop>
 fn array_statement(alloc: Global, tokens: Tokens) -> Result<(S, Tokens), Stop>
     ensures { Reads result (spec.array_statement (said tokens.entry)) }
 {
-    let (call, rest) = array_call(alloc, tokens)?;
-    let rest = expect(Sign::Semicolon, rest)?;
+    let (call, rest) = ended(Sign::Semicolon, array_call(alloc, tokens)?)?;
     Ok((S::Array(call), rest))
 }
 
@@ -108,8 +109,7 @@ fn returned(alloc: Global, tokens: Tokens) -> Result<(S, Tokens), Stop>
 fn generated(alloc: Global, tokens: Tokens) -> Result<(S, Tokens), Stop>
     ensures { Reads result (spec.generated (said tokens.entry)) }
 {
-    let (event, rest) = event(alloc, tokens)?;
-    let rest = expect(Sign::Semicolon, rest)?;
+    let (event, rest) = ended(Sign::Semicolon, event(alloc, tokens)?)?;
     Ok((S::Generate(event.into_inner()), rest))
 }
 
@@ -129,8 +129,15 @@ fn printed(alloc: Global, tokens: Tokens) -> Result<(S, Tokens), Stop>
 {
     let rest = expect(Sign::OpenParen, tokens)?;
     let (text, rest) = quoted(alloc, rest)?;
-    let (operands, rest) = operands(alloc, rest)?;
-    let rest = expect(Sign::CloseParen, rest)?;
-    let rest = expect(Sign::Semicolon, rest)?;
-    Ok((S::Printf(text, operands), rest))
+    match operands(alloc, rest) {
+        Ok((operands, rest)) => {
+            let read = ended(Sign::CloseParen, ((text, operands), rest))?;
+            let ((text, operands), rest) = ended(Sign::Semicolon, read)?;
+            Ok((S::Printf(text, operands), rest))
+        }
+        Err(stop) => {
+            drop(text);
+            Err(stop)
+        }
+    }
 }

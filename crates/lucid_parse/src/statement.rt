@@ -4,12 +4,13 @@ ghost use Rattle.std.specs.Prelude.{◌≡◌, Some, option_map};
 ghost use Rattle.lucid_parse_expression.specs.Reads.{Reads, Gives};
 ghost use Rattle.lucid_parse_expression.specs.Tokens.{said};
 ghost use Rattle.lucid_parse_spec.specs.ReadStatement as spec;
+ghost use Rattle.lucid_parse_tree.specs.declared.tree.S.TheVariants as s;
 
 use crate::simple::simple;
 use lucid_base::{Boxed, Items};
 use lucid_lex::{Sign, Word};
 use lucid_parse_expression::{
-    Lexeme, Stop, Tokens, after, after_name, expect, expect_word, expression, some,
+    Lexeme, Stop, Tokens, added, after, after_name, ended, expect, expect_word, expression, some,
 };
 use lucid_parse_tree::{C, E, No, S};
 use std::alloc::Global;
@@ -28,9 +29,7 @@ fn block(alloc: Global, depth: usize, tokens: Tokens) -> Result<(Items<S>, Token
     ensures { Reads result (spec.block (spec.inner_at depth).statement (said tokens.entry)) }
 {
     let rest = expect(Sign::OpenBrace, tokens)?;
-    let (all, rest) = statements(alloc, depth, rest)?;
-    let rest = expect(Sign::CloseBrace, rest)?;
-    Ok((all, rest))
+    ended(Sign::CloseBrace, statements(alloc, depth, rest)?)
 }
 
 /// The statements up to a `}`.
@@ -44,11 +43,17 @@ fn statements(alloc: Global, depth: usize, tokens: Tokens) -> Result<(Items<S>, 
     for _turn in 0..tokens.len() {
         match after(Sign::CloseBrace, rest) {
             Some(_) => return Ok((all, rest)),
-            None => {
-                let (next, after) = statement(alloc, depth, rest)?;
-                all.push(next)?;
-                rest = after;
-            }
+            None => match statement(alloc, depth, rest) {
+                Ok(next) => {
+                    let (longer, after) = added(all, next)?;
+                    all = longer;
+                    rest = after;
+                }
+                Err(stop) => {
+                    drop(all);
+                    return Err(stop);
+                }
+            },
         }
     }
     Ok((all, rest))
@@ -72,24 +77,28 @@ fn statement_within(alloc: Global, depth: usize, tokens: Tokens) -> Result<(S, T
     ensures { Reads result (spec.statement_within (spec.inner_at depth) (said tokens.entry)) }
 {
     match tokens.split() {
-        Some((Lexeme::Word(Word::If), rest)) => {
-            let (choice, rest) = choice(alloc, depth, rest)?;
-            Ok((S::Cond(Boxed::new(alloc, choice)?), rest))
-        }
+        Some((Lexeme::Word(Word::If), rest)) => { conditional(alloc, choice(alloc, depth, rest)?) }
         Some((Lexeme::Word(Word::Match), rest)) => matched(alloc, depth, rest),
         _ => simple(alloc, tokens),
     }
 }
 
+/// The statement of a choice.
+fn conditional<'a>(alloc: Global, choice: (C, Tokens<'a>)) -> Result<(S, Tokens<'a>), Stop>
+    ensures { Reads result (Some (s.Cond choice.entry.0, said choice.entry.1)) }
+{
+    let (choice, rest) = choice;
+    Ok((S::Cond(Boxed::new(alloc, choice)?), rest))
+}
+
 /// The condition, in parentheses.
+#[inline(never)]
 #[tactic(auto, unfolding(lucid_parse_spec::specs::ReadStatement::condition))]
 fn condition(alloc: Global, tokens: Tokens) -> Result<(E, Tokens), Stop>
     ensures { Reads result (spec.condition (said tokens.entry)) }
 {
     let rest = expect(Sign::OpenParen, tokens)?;
-    let (test, rest) = expression(alloc, rest)?;
-    let rest = expect(Sign::CloseParen, rest)?;
-    Ok((test, rest))
+    ended(Sign::CloseParen, expression(alloc, rest)?)
 }
 
 /// Reads a statement after `if`.
@@ -114,10 +123,7 @@ fn alternative(alloc: Global, depth: usize, tokens: Tokens) -> Result<(No, Token
 {
     match tokens.split() {
         Some((Lexeme::Word(Word::Else), behind)) => match behind.split() {
-            Some((Lexeme::Word(Word::If), rest)) => {
-                let (choice, rest) = choice(alloc, depth, rest)?;
-                Ok((else_if(alloc, choice)?, rest))
-            }
+            Some((Lexeme::Word(Word::If), rest)) => else_if(alloc, choice(alloc, depth, rest)?),
             _ => {
                 let (block, rest) = block(alloc, depth, behind)?;
                 Ok((No::Block(block), rest))
@@ -128,10 +134,11 @@ fn alternative(alloc: Global, depth: usize, tokens: Tokens) -> Result<(No, Token
 }
 
 /// Returns an `else` that is followed by this choice.
-fn else_if(alloc: Global, choice: C) -> Result<No, Stop>
-    ensures { Gives result (Some (No.Cond choice)) }
+fn else_if<'a>(alloc: Global, choice: (C, Tokens<'a>)) -> Result<(No, Tokens<'a>), Stop>
+    ensures { Reads result (Some (No.Cond choice.entry.0, said choice.entry.1)) }
 {
-    Ok(No::Cond(Boxed::new(alloc, choice)?))
+    let (choice, rest) = choice;
+    Ok((No::Cond(Boxed::new(alloc, choice)?), rest))
 }
 
 /// The beginning of a case, up to its block.
@@ -165,11 +172,17 @@ fn cases(
     for _turn in 0..tokens.len() {
         match case_head(rest) {
             None => return Ok((all, rest)),
-            Some((n, more)) => {
-                let (block, after) = block(alloc, depth, more)?;
-                all.push((n, block))?;
-                rest = after;
-            }
+            Some((n, more)) => match block(alloc, depth, more) {
+                Ok((block, after)) => {
+                    let (longer, after) = added(all, ((n, block), after))?;
+                    all = longer;
+                    rest = after;
+                }
+                Err(stop) => {
+                    drop(all);
+                    return Err(stop);
+                }
+            },
         }
     }
     Ok((all, rest))
@@ -209,16 +222,27 @@ fn match_head(alloc: Global, tokens: Tokens) -> Result<(E, Tokens), Stop>
     ensures { Reads result (spec.match_head (said tokens.entry)) }
 {
     let (test, rest) = expression(alloc, tokens)?;
-    let rest = expect_word(Word::With, rest)?;
-    Ok((test, rest))
+    match expect_word(Word::With, rest) {
+        Ok(rest) => Ok((test, rest)),
+        Err(stop) => {
+            drop(test);
+            Err(stop)
+        }
+    }
 }
 
 /// A match has a case at least.
 fn match_of(test: E, cases: Items<(u64, Items<S>)>, last: Option<Items<S>>) -> Result<S, Stop>
     ensures { Gives result (spec.match_of test cases last) }
 {
-    let cases = some(cases)?;
-    Ok(S::Match { test, cases, last })
+    match some(cases) {
+        Ok(cases) => Ok(S::Match { test, cases, last }),
+        Err(stop) => {
+            drop(test);
+            drop(last);
+            Err(stop)
+        }
+    }
 }
 
 /// Reads a statement after `match`.
@@ -228,7 +252,18 @@ fn matched(alloc: Global, depth: usize, tokens: Tokens) -> Result<(S, Tokens), S
     ensures { Reads result (spec.matched (spec.inner_at depth).statement (said tokens.entry)) }
 {
     let (test, rest) = match_head(alloc, tokens)?;
-    let (cases, rest) = cases(alloc, depth, rest)?;
-    let (last, rest) = last_arm(alloc, depth, rest)?;
-    Ok((match_of(test, cases, last)?, rest))
+    match cases(alloc, depth, rest) {
+        Ok((cases, rest)) => match last_arm(alloc, depth, rest) {
+            Ok((last, rest)) => Ok((match_of(test, cases, last)?, rest)),
+            Err(stop) => {
+                drop(test);
+                drop(cases);
+                Err(stop)
+            }
+        },
+        Err(stop) => {
+            drop(test);
+            Err(stop)
+        }
+    }
 }

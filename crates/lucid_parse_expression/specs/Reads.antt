@@ -5,7 +5,7 @@ use Rattle.lucid_parse_expression.specs.declared.error.Stop.TheVariants as stops
 use Rattle.lucid_parse_expression.specs.declared.tokens.Tokens.{Tokens}
 use Rattle.lucid_parse_expression.specs.Tokens.{said}
 use Rattle.lucid_lex.specs.declared.sign.Sign.{Sign}
-use Rattle.lucid_parse_spec.specs.Reader.{Text, Outcome, Parser, after, ◌>>=◌}
+use Rattle.lucid_parse_spec.specs.Reader.{Text, Outcome, Parser, after}
 
 abbrev pub Fails : {X : Type 0} → Stop → Option X → Type 0
 Fails stops.NoTree o = o ≡ None
@@ -30,8 +30,7 @@ Leaves (Err e) o = Fails e o
 abbrev pub ReadsAll : {A : Type 0} → (Tokens → Result (A × Tokens) Stop → Type 0) → Parser A → Type 0
 ReadsAll {A} returns reads = (tokens : Tokens) (answer : Result (A × Tokens) Stop) → returns tokens answer → Reads answer (reads (said tokens))
 
--- a part that is read, if the sign follows it
-abbrev pub ended : {A : Type 0} → Sign → A × Text → Outcome A
-ended sign x = do
-  rest ← after sign x.1
-  Some (x.0, rest)
+-- the part that was read, if the sign follows it
+abbrev pub Ends : {A : Type 0} → Sign → A × Tokens → Result (A × Tokens) Stop → Type 0
+Ends sign x (Ok y) = (y.0 ≡ x.0) × (after sign (said x.1) ≡ Some (said y.1))
+Ends sign x (Err e) = Fails e (after sign (said x.1))

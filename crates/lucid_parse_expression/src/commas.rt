@@ -26,12 +26,17 @@ pub fn separated<'a, T: Drop, F: Fn(Tokens<'a>) -> Result<(T, Tokens<'a>), Stop>
     for _turn in 0..rest.len() {
         match after(Sign::Comma, rest) {
             None => return Ok((all, rest)),
-            Some(more) => {
-                let next = part(more)?;
-                let (longer, after) = added(all, next)?;
-                all = longer;
-                rest = after;
-            }
+            Some(more) => match part(more) {
+                Ok(next) => {
+                    let (longer, after) = added(all, next)?;
+                    all = longer;
+                    rest = after;
+                }
+                Err(stop) => {
+                    drop(all);
+                    return Err(stop);
+                }
+            },
         }
     }
     Ok((all, rest))
@@ -48,7 +53,7 @@ pub(crate) fn one<'a, T: Drop>(
 }
 
 /// The list with the part that was read behind it.
-pub(crate) fn added<'a, T: Drop>(
+pub fn added<'a, T: Drop>(
     all: Items<T>,
     read: (T, Tokens<'a>),
 ) -> Result<(Items<T>, Tokens<'a>), AllocError>

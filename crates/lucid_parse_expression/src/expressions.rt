@@ -2,7 +2,7 @@
 // the limits on nesting, which are tried before, bound the recursion by far less.
 ghost use Rattle.std.specs.Prelude.{length};
 ghost use Rattle.lucid_parse_spec.specs.Reader.{separated};
-ghost use Rattle.lucid_parse_expression.specs.Nodes.{array_value};
+ghost use Rattle.lucid_parse_expression.specs.Nodes.{array_value, cast_head, time};
 ghost use Rattle.lucid_parse_expression.specs.Reads.{Reads, Leaves};
 ghost use Rattle.lucid_parse_expression.specs.Tokens.{said};
 ghost use Rattle.lucid_parse_spec.specs.Operators.{disjunction, tightest};
@@ -143,10 +143,7 @@ fn operand(alloc: Global, depth: usize, tokens: Tokens) -> Result<(E, Tokens), S
         Some((Lexeme::Word(Word::True), rest)) => Ok((E::Truth(true), rest)),
         Some((Lexeme::Word(Word::False), rest)) => Ok((E::Truth(false), rest)),
         Some((Lexeme::Word(Word::Me), rest)) => Ok((E::Me, rest)),
-        Some((Lexeme::Word(Word::SysCalls), rest)) => {
-            let rest = expect_time(rest)?;
-            Ok((E::Time, rest))
-        }
+        Some((Lexeme::Word(Word::SysCalls), rest)) => time(rest),
         Some((Lexeme::Word(Word::Hash), rest)) => hash_value(alloc, depth, rest),
         Some((Lexeme::Word(Word::ArrayCalls), rest)) => array_value(alloc, depth, rest),
         Some((Lexeme::Sign(Sign::OpenParen), rest)) => in_parens(alloc, depth, rest),
@@ -233,15 +230,28 @@ fn expressions(alloc: Global, depth: usize, tokens: Tokens) -> Result<(Items<E>,
     for _turn in 0..rest.len() {
         match after(Sign::Comma, rest) {
             None => return Ok((all, rest)),
-            Some(more) => {
-                let next = expression_at(alloc, depth, DISJUNCTION, more)?;
-                let (longer, after) = added(all, next)?;
-                all = longer;
-                rest = after;
-            }
+            Some(more) => match expression_at(alloc, depth, DISJUNCTION, more) {
+                Ok(next) => {
+                    let (longer, after) = added(all, next)?;
+                    all = longer;
+                    rest = after;
+                }
+                Err(stop) => {
+                    drop(all);
+                    return Err(stop);
+                }
+            },
         }
     }
     Ok((all, rest))
+}
+
+/// The time, behind `Sys`.
+fn time(tokens: Tokens) -> Result<(E, Tokens), Stop>
+    ensures { Reads result (time (said tokens.entry)) }
+{
+    let rest = expect_time(tokens)?;
+    Ok((E::Time, rest))
 }
 
 /// Passes over `.time()`.
@@ -263,6 +273,13 @@ fn hash_head(tokens: Tokens) -> Result<(u64, Tokens), Stop>
     ended(Sign::OpenParen, width(tokens)?)
 }
 
+/// The width of a cast, up to the close parenthesis.
+fn cast_head(tokens: Tokens) -> Result<(Option<u64>, Tokens), Stop>
+    ensures { Reads result (cast_head (said tokens.entry)) }
+{
+    ended(Sign::CloseParen, width_if(tokens)?)
+}
+
 /// Behind an open parenthesis: the type of a cast and its operand, or an expression.
 #[cycle(expression)]
 #[tactic(auto, unfolding(lucid_parse_spec::specs::ReadExpression::in_parens))]
@@ -272,16 +289,13 @@ fn in_parens(alloc: Global, depth: usize, tokens: Tokens) -> Result<(E, Tokens),
 {
     match tokens.split() {
         Some((Lexeme::Word(Word::Int), rest)) => {
-            let (width, rest) = ended(Sign::CloseParen, width_if(rest)?)?;
+            let (width, rest) = cast_head(rest)?;
             cast(
                 alloc,
                 width,
                 expression_at(alloc, depth, unary_level(), rest)?,
             )
         }
-        _ => {
-            let inner = expression_at(alloc, depth, DISJUNCTION, tokens)?;
-            in_parentheses(alloc, ended(Sign::CloseParen, inner)?)
-        }
+        _ => in_parentheses(alloc, expression_at(alloc, depth, DISJUNCTION, tokens)?),
     }
 }

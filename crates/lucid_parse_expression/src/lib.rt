@@ -16,7 +16,7 @@ mod parts;
 mod tokens;
 
 pub use ascii::Ascii;
-pub use commas::separated;
+pub use commas::{added, separated};
 pub use error::Stop;
 pub use expressions::{array_call, call_arguments, expression, operands};
 pub use lexeme::Lexeme;

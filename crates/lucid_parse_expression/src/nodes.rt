@@ -9,9 +9,10 @@ ghost use Rattle.lucid_parse_tree.specs.declared.tree.E.TheVariants as e;
 use crate::array::array_of;
 use crate::ascii::Ascii;
 use crate::error::Stop;
-use crate::parts::some;
+use crate::parts::{ended, some};
 use crate::tokens::Tokens;
 use lucid_base::{Boxed, Id, Items};
+use lucid_lex::Sign;
 use lucid_parse_spec::Method;
 use lucid_parse_tree::{E, Infix, Pre};
 use std::alloc::Global;
@@ -68,14 +69,15 @@ pub(crate) fn cast<'a>(
     Ok((E::Cast(width, Boxed::new(alloc, operand)?), rest))
 }
 
+/// The expression that was read, up to the close parenthesis after it.
 #[inline(never)]
 pub(crate) fn in_parentheses<'a>(
     alloc: Global,
     inner: (E, Tokens<'a>),
 ) -> Result<(E, Tokens<'a>), Stop>
-    ensures { Reads result (Some (e.Paren inner.entry.0, said inner.entry.1)) }
+    ensures { Reads result (spec.in_parentheses (inner.entry.0, said inner.entry.1)) }
 {
-    let (inner, rest) = inner;
+    let (inner, rest) = ended(Sign::CloseParen, inner)?;
     Ok((E::Paren(Boxed::new(alloc, inner)?), rest))
 }
 

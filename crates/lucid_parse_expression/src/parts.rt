@@ -2,7 +2,7 @@
 // and gives the rest with it, or says that there is no such part: `NoTree`, or None if the part may be left out.
 ghost use Rattle.std.specs.Prelude.{◌≡◌, option_map};
 ghost use Rattle.lucid_parse_spec.specs.Reader as spec;
-ghost use Rattle.lucid_parse_expression.specs.Reads.{Reads, Gives, Leaves, ended};
+ghost use Rattle.lucid_parse_expression.specs.Reads.{Ends, Reads, Gives, Leaves};
 ghost use Rattle.lucid_parse_expression.specs.Tokens.{said};
 
 use crate::error::Stop;
@@ -35,7 +35,7 @@ pub fn expect(sign: Sign, tokens: Tokens) -> Result<Tokens, Stop>
 
 /// The part that was read, if the sign follows it.
 pub fn ended<'a, T: Drop>(sign: Sign, read: (T, Tokens<'a>)) -> Result<(T, Tokens<'a>), Stop>
-    ensures { Reads result (ended sign (read.entry.0, said read.entry.1)) }
+    ensures { Ends sign read.entry result }
 {
     let (part, rest) = read;
     let rest = expect(sign, rest)?;

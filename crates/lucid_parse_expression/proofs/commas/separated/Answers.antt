@@ -11,9 +11,9 @@ returns-in-None g c = λ reads are.
     let turn = one_more (λ n. repeat (after_comma reads) n c.loop-turn.all (said c.loop-turn.rest)) _ c.loop-turn._turn c.loop-turn-test.true (c.loop-turn.invariant reads are) in
     first_of (search rules, grind (arith, common_steps))
 
-pub returns-in_err-next-in-Some : goal.returns-in_err-next-in-Some
+pub returns-in-Err : goal.returns-in-Err
 unfolding repeat
-returns-in_err-next-in-Some g c = λ reads are.
+returns-in-Err g c = λ reads are.
     let turn = one_more (λ n. repeat (after_comma reads) n c.loop-turn.all (said c.loop-turn.rest)) _ c.loop-turn._turn c.loop-turn-test.true (c.loop-turn.invariant reads are) in
     let read = are c.in-Some.more c.part-in-Some.result c.part-in-Some.ensures in
     first_of (search rules, grind (arith, common_steps))

@@ -1,4 +1,4 @@
-use Rattle.std.proofs.Common.{◌<◌, ◌-◌, arith, rules}
+use Rattle.std.proofs.Common.{arith, rules}
 use Rattle.std.proofs.lemmas.Grind.{common_steps}
 use Rattle.lucid_parse_expression.specs.Tokens.{said}
 use Rattle.lucid_parse_spec.specs.Reader.{after_comma, repeat}
@@ -22,9 +22,9 @@ expressions-loop-turn-preserved t c =
     _ c.loop-turn._turn c.loop-turn-test.true c.loop-turn.invariant in
     first_of (search rules, grind (arith, common_steps))
 
-pub expressions-returns-in_err-next-in-Some : goal.expressions-returns-in_err-next-in-Some
+pub expressions-returns-in-Err : goal.expressions-returns-in-Err
 unfolding repeat
-expressions-returns-in_err-next-in-Some t c =
+expressions-returns-in-Err t c =
     let turn = one_more
     (λ n. repeat (after_comma (expression_at c.args.depth 1)) n c.loop-turn.all (said c.loop-turn.rest))
     _ c.loop-turn._turn c.loop-turn-test.true c.loop-turn.invariant in
