@@ -1,5 +1,6 @@
-use Rattle.std.proofs.Common.{◌≡◌, ◌++◌, List, map, rules, refl, sym, ap}
+use Rattle.std.proofs.Common.{◌≡◌, ◌++◌, List, map, rules, refl, sym, ap, arith}
 use Rattle.std.proofs.lemmas.Result.{on_err_weaker, on_ok_weaker}
+use Rattle.std.proofs.lemmas.Grind.{common_steps}
 use Rattle.lucid_io.proofs.Leaves.{Leaves-after, Leaves-whole, PutsAll-last, PutsPart-at, PutsPart-last, on_err}
 use Rattle.lucid_log.specs.Ending.{ending_text}
 use Rattle.lucid_net_spec.specs.Log.{all_cells}
@@ -45,3 +46,6 @@ returns-clause-part g c =
     (ap (λ (l : List PipeParts). all_cells c.args.world.now.core.now 0 (map held l) ++ ending_text c.drain_ticks.new.now.counts.entered c.drain_ticks.new.now.counts.lost c.in_ok-waiting.waiting) (sym same)))
     cut refl)
     c.put_ending.ensures.part
+
+pub put_all_pipes-requires : goal.put_all_pipes-requires
+put_all_pipes-requires g c = grind (arith, common_steps)

@@ -1,4 +1,5 @@
 use Rattle.std.proofs.Common.{◌≡◌, ◌+◌, ◌-◌, ◌<◌, ℕ, refl, ◌∙◌, subst, arith}
+use Rattle.std.proofs.lemmas.Grind.{moves}
 use Rattle.lucid_io.proofs.Leaves.{Leaves-after}
 use Rattle.lucid_net_laws.specs.Runs.{late_text, left_text}
 use Rattle.lucid_net_spec.proofs.Telling.{pieces-next}
@@ -39,3 +40,6 @@ returns-clause-piped g c =
     let done : c.loop-switch.switch ≡ c.args.world.now.scene.now.switches = omega (arith, c.loop-switch-test.false, c.loop-switch.auto.switch-end) in
     piped_next net c.args.now.now.placed.now c.args.tick (piped_of c.loop-switch.now)
     (subst (λ (n : ℕ). IsPiped net c.args.now.now.placed.now c.args.tick n (piped_of c.loop-switch.now)) done c.loop-switch.invariant.piped)
+
+pub turn-requires-clause-ready : goal.turn-requires-clause-ready
+turn-requires-clause-ready g c = grind (arith, moves)

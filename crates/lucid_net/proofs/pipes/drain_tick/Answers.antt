@@ -1,4 +1,5 @@
 use Rattle.std.proofs.Common.{◌≡◌, ◌+◌, ◌-◌, ℕ, refl, ◌∙◌, subst, arith}
+use Rattle.std.proofs.lemmas.Grind.{moves}
 use Rattle.lucid_io.proofs.Leaves.{Leaves-after, PutsPart-at, on_err}
 use Rattle.lucid_net_laws.specs.Runs.{left_text}
 use Rattle.lucid_net_spec.proofs.Telling.{pieces-next}
@@ -43,3 +44,6 @@ returns-clause-all g c = tick_text_all (net_of c.args.world.now) c.args.tick c.l
 
 pub returns-in_err-count-clause-same : goal.returns-in_err-count-clause-same
 returns-in_err-count-clause-same g c = c.drain_turn.ensures.same ∙ c.loop-switch.invariant.same
+
+pub drain_turn-requires-clause-ready : goal.drain_turn-requires-clause-ready
+drain_turn-requires-clause-ready g c = grind (arith, moves)

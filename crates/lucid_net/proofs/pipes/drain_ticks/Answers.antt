@@ -1,4 +1,5 @@
 use Rattle.std.proofs.Common.{◌≡◌, ◌+◌, ◌-◌, ◌≤◌, ℕ, refl, sym, ◌∙◌, subst, arith}
+use Rattle.std.proofs.lemmas.Grind.{moves}
 use Rattle.lucid_io.proofs.Leaves.{Leaves-after, Leaves-nothing, PutsPart-at, on_err}
 use Rattle.lucid_net_laws.specs.Runs.{late_text}
 use Rattle.lucid_net_spec.proofs.Telling.{pieces-next, pieces-none}
@@ -56,3 +57,6 @@ returns-clause-all g c =
 
 pub returns-in_err-waiting-clause-same : goal.returns-in_err-waiting-clause-same
 returns-in_err-waiting-clause-same g c = c.drain_tick.ensures.same ∙ c.loop-tick.invariant.same
+
+pub drain_tick-requires-clause-ready : goal.drain_tick-requires-clause-ready
+drain_tick-requires-clause-ready g c = grind (arith, moves)

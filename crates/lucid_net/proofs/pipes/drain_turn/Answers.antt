@@ -1,4 +1,5 @@
 use Rattle.std.proofs.Common.{◌+◌, ◌^◌, ◌<◌, ℕ, Option, length, set, sym, subst, arith}
+use Rattle.std.proofs.lemmas.Grind.{elements}
 use Rattle.lucid_io.proofs.Leaves.{on_err}
 use Rattle.lucid_io.specs.Puts.{PutsAll, PutsPart}
 use Rattle.lucid_net_laws.specs.Runs.{made_by, text_by}
@@ -60,3 +61,6 @@ pub drain_pipe-requires-clause-same : goal.drain_pipe-requires-clause-same
 drain_pipe-requires-clause-same g c =
     (drains (net_of c.args.world.now) c.args.now.now.placed.now c.args._tick c.args.switch c.args.waiting (piped_of c.args.now.now) c.index_mut.result.now c.requires.ready c.requires.within c.requires.late c.requires.soon
     c.requires.drained c.index_mut.ensures.value).own
+
+pub index_mut-requires : goal.index_mut-requires
+index_mut-requires g c = grind (arith, elements)

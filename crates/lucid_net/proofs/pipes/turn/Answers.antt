@@ -1,4 +1,5 @@
-use Rattle.std.proofs.Common.{Option, ◌∙◌, ap, subst}
+use Rattle.std.proofs.Common.{Option, ◌∙◌, ap, subst, arith}
+use Rattle.std.proofs.lemmas.Grind.{elements}
 use Rattle.lucid_net_laws.specs.Runs.{made_by, text_by}
 use Rattle.lucid_net_spec.specs.Ways.{Run}
 use Rattle.lucid_net_laws.specs.Rows.{rows_in}
@@ -70,3 +71,6 @@ returns-clause-memory g c = λ is none.
 pub pipe_turn-requires-clause-same : goal.pipe_turn-requires-clause-same
 pipe_turn-requires-clause-same g c =
     (with_own (net_of c.args.world.now) c.args.now.now.placed.now c.args.tick c.args.switch (piped_of c.args.now.now) c.index_mut.result.now c.requires.ready c.requires.within c.requires.piped c.index_mut.ensures.value).own
+
+pub index_mut-requires : goal.index_mut-requires
+index_mut-requires g c = grind (arith, elements)

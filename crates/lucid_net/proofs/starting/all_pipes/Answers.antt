@@ -1,5 +1,6 @@
-use Rattle.std.proofs.Common.{[], ◌∷◌, ◌++◌, ◌∙◌, ap, replicate}
+use Rattle.std.proofs.Common.{[], ◌∷◌, ◌++◌, ◌∙◌, ap, replicate, arith}
 use Rattle.std.proofs.lemmas.List.{replicate_more}
+use Rattle.std.proofs.lemmas.Grind.{common_steps}
 use Rattle.lucid_pipe.specs.Pipe.{empty_pipe}
 use Rattle.lucid_net.proofs.starting.all_pipes.Goals as goal
 
@@ -10,3 +11,6 @@ loop-index-preserved c =
     ∙ ap (λ all. all ++ c.in_ok-pipe.pipe ∷ []) l.invariant
     ∙ ap (λ p. replicate l._index (empty_pipe c.args.placed.now) ++ p ∷ []) c.in_ok-pipe.ensures
     ∙ replicate_more l._index (empty_pipe c.args.placed.now)
+
+pub returns : goal.returns
+returns c = grind (arith, common_steps)

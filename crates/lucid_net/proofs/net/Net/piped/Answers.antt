@@ -1,4 +1,5 @@
 use Rattle.std.proofs.Common.{◌≡◌, ◌≤◌, ◌^◌, length, List, [], rules, refl, ap, ◌∙◌, arith}
+use Rattle.std.proofs.lemmas.Grind.{elements}
 use Rattle.lucid_conf.specs.declared.scene.FileEvent.{FileEvent}
 use Rattle.lucid_core.specs.declared.defs.EventDef.{EventDef}
 use Rattle.lucid_net_spec.specs.Log.{file_events, put_all, whole}
@@ -24,3 +25,6 @@ invariant_of-result-2 c =
 
 pub returns : goal.returns
 returns c = record { parts = refl; scene = refl; limits = refl; placed = refl; at = refl; failed = refl }
+
+pub all_events-requires : goal.all_events-requires
+all_events-requires c = grind (arith, elements)

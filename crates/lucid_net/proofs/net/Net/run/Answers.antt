@@ -1,4 +1,4 @@
-use Rattle.std.proofs.Common.{refl, subst, List, ℕ}
+use Rattle.std.proofs.Common.{refl, subst, List, ℕ, rules}
 use Rattle.lucid_io.proofs.Leaves.{Leaves-whole, Leaves-after}
 use Rattle.lucid_net_laws.specs.Runs.{late_text}
 use Rattle.lucid_net_spec.specs.Log.{log}
@@ -24,3 +24,6 @@ returns-in-Ok-clause-log g c =
     (Leaves-after Leaves-whole c.in-Ok.ensures.writes (log_is net late))
     (subst (λ (l : List ℕ). Writes g.S.Sink.written g.S.Sink.faults c.all_ticks.new.sink c.drain.new.sink l c.drain.result)
     (same_last c.args.self c.all_ticks.new.net c.all_ticks.ensures.same) c.drain.ensures.writes)
+
+pub returns-in-Err-clause-memory : goal.returns-in-Err-clause-memory
+returns-in-Err-clause-memory g c = search rules

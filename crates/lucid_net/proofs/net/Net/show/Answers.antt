@@ -1,4 +1,5 @@
-use Rattle.std.proofs.Common.{◌≡◌, ◌∙◌, ap, subst}
+use Rattle.std.proofs.Common.{◌≡◌, ◌∙◌, ap, subst, arith}
+use Rattle.std.proofs.lemmas.Grind.{elements}
 use Rattle.lucid_net.specs.Seen.{Seen, network, seen}
 use Rattle.lucid_net.specs.Sights.{sights}
 use Rattle.lucid_pipe.specs.Sights.{ShowsAll}
@@ -15,3 +16,6 @@ returns-clause-shows g c =
 
 pub returns-clause-still : goal.returns-clause-still
 returns-clause-still g c none = c.show.ensures.still (ap (λ (s : Seen). s.placed) c.self.view_is ∙ none)
+
+pub show-requires : goal.show-requires
+show-requires g c = grind (arith, elements)
