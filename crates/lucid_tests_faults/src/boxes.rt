@@ -2,12 +2,11 @@
 // twice, or writes before all passes have run fails here.
 use crate::lists::{Listed, PROGRAM, list};
 use crate::running::{NONE, Ran, run};
-use lucid_base::Memory;
 use lucid_pass::Pass;
 use lucid_pipe::NoWatch;
 use lucid_top::Status;
 use std::alloc::Global;
-use std::test::Fail;
+use std::process::Abort;
 
 /// The passes of a list, how many calls it serves, how each of them ends, its output and its line of errors, and then the name of each pass
 /// and how many operations it has removed.
@@ -67,71 +66,69 @@ stage 2 table 0 rows 1 ops 1
     ),
 ];
 
-/// Returns whether the pass at this index of the list has this name, and has removed this number of operations.
-fn is_at(passes: &[Box<dyn Pass>], at: usize, name: &str, removed: u64) -> bool {
-    match passes.get(at) {
-        Some(pass) => pass.name().bytes() == name.as_bytes() && pass.removed() == removed,
-        None => false,
-    }
-}
-
 /// Returns whether these are the passes, and each has removed its number of operations.
 fn have_removed(passes: &[Box<dyn Pass>], removed: &[(&str, u64)]) -> bool {
-    for (at, (name, count)) in removed.iter().enumerate() {
-        if !is_at(passes, at, name, *count) {
+    for at in 0..passes.len() {
+        if removed.len() <= at {
+            return false;
+        }
+        let (name, count) = removed[at];
+        let pass = &passes[at];
+        if pass.name().bytes() != name.as_bytes() || pass.removed() != count {
             return false;
         }
     }
     passes.len() == removed.len()
 }
 
-fn ends_so(ran: &Ran, status: Status, out: &str, err: &str) -> bool {
-    ran.status == status && ran.out.bytes() == out.as_bytes() && ran.err.bytes() == err.as_bytes()
-}
-
 /// Makes a call with this list, and returns whether it ends as the row says.
-fn serves(alloc: Global, row: ListRow, passes: &mut Vec<Box<dyn Pass>>) -> Result<bool, Memory> {
+fn serves(rt: &impl Abort, alloc: Global, row: ListRow, passes: &mut Vec<Box<dyn Pass>>) -> bool {
     let (_, _, status, out, err, _) = row;
-    let ran = run(alloc, "layout branches default", NONE, passes, &mut NoWatch)?;
-    let is_so = ends_so(&ran, status, out, err);
+    let ran = run(
+        rt,
+        alloc,
+        "layout branches default",
+        NONE,
+        passes,
+        &mut NoWatch,
+    );
+    let serves = ran.status == status
+        && ran.out.bytes() == out.as_bytes()
+        && ran.err.bytes() == err.as_bytes();
     drop(ran);
-    Ok(is_so)
+    serves
 }
 
 /// Returns whether this list serves all calls of the row.
 fn serves_all(
+    rt: &impl Abort,
     alloc: Global,
     row: ListRow,
     passes: &mut Vec<Box<dyn Pass>>,
-) -> Result<bool, Memory> {
+) -> bool {
     for _call in 0..row.1 {
-        if !serves(alloc, row, passes)? {
-            return Ok(false);
+        if !serves(rt, alloc, row, passes) {
+            return false;
         }
     }
-    Ok(have_removed(passes.as_slice(), row.5))
+    have_removed(passes.as_slice(), row.5)
 }
 
 /// Returns whether the list of the row serves its calls.
-fn is_served(alloc: Global, row: ListRow) -> Result<bool, Memory> {
-    let mut passes = list(alloc, row.0)?;
-    let is_served = serves_all(alloc, row, &mut passes);
+fn is_served(rt: &impl Abort, alloc: Global, row: ListRow) -> bool {
+    let mut passes = list(rt, alloc, row.0);
+    let is_served = serves_all(rt, alloc, row, &mut passes);
     drop(passes);
     is_served
 }
 
-/// Returns the output that the first row wants whose list does not serve its calls.
-fn first_wrong(alloc: Global, rows: &[ListRow]) -> Result<Option<&'static str>, Memory> {
+fn all_are_served(rt: &impl Abort, alloc: Global, rows: &[ListRow]) {
     for row in rows {
-        if !is_served(alloc, *row)? {
-            return Ok(Some(row.3));
-        }
+        assert!(rt; is_served(rt, alloc, *row), "{}", row.3);
     }
-    Ok(None)
 }
 
 #[test]
-fn lists_of_the_caller_serve_their_calls(rt: HostRuntime) -> Result<(), Fail> {
-    assert_eq!(rt; first_wrong(rt.alloc(), &ROWS)?, None);
-    Ok(())
+fn lists_of_the_caller_serve_their_calls(rt: HostRuntime) {
+    all_are_served(&rt, rt.alloc(), &ROWS);
 }

@@ -1,11 +1,11 @@
 // The table: each form of words, how often it opens or reads a file and writes without failures, and its output and status if one of
 // these fails.
 use crate::files::is_file;
-use crate::running::{Faults, NEVER, NONE, Ran, run_alone};
-use lucid_base::Memory;
+use crate::running::{Faults, NEVER, NONE, Ran, run_watched};
+use lucid_pipe::NoWatch;
 use lucid_top::Status;
 use std::alloc::Global;
-use std::test::Fail;
+use std::process::Abort;
 
 /// The words of a call, how it ends, how often it opens and reads each file, and in how many writes it writes its answer and the cause of
 /// its refusal.
@@ -51,6 +51,14 @@ enum Fails {
     /// The first writes, with and without the first opening. The fault can not be told.
     Untold,
 }
+
+const KINDS: [Fails; 5] = [
+    Fails::Read,
+    Fails::Write,
+    Fails::Tell,
+    Fails::Behind,
+    Fails::Untold,
+];
 
 /// The number of openings and reads of all files that the words name.
 fn reads_of(row: FaultRow) -> u64 {
@@ -182,41 +190,42 @@ fn is_right(
 
 /// Makes the call of this number, and returns the length of its output if it ends as it should.
 fn ends_at(
+    rt: &impl Abort,
     alloc: Global,
     row: FaultRow,
     kind: Fails,
     number: u64,
     before: usize,
     whole: &Ran,
-) -> Result<Option<usize>, Memory> {
-    let ran = run_alone(alloc, row.0, faults(row, kind, number))?;
+) -> Option<usize> {
+    let faults = faults(row, kind, number);
+    let ran = run_watched(rt, alloc, row.0, faults, &mut NoWatch);
     let is_right = is_right(row, kind, number, before, &ran, whole);
     let length = ran.out.bytes().len();
     drop(ran);
-    Ok(if is_right { Some(length) } else { None })
+    if is_right { Some(length) } else { None }
 }
 
 /// Returns whether each call of this kind ends as it should.
-fn each_ends(alloc: Global, row: FaultRow, kind: Fails, whole: &Ran) -> Result<bool, Memory> {
+fn each_ends(rt: &impl Abort, alloc: Global, row: FaultRow, kind: Fails, whole: &Ran) -> bool {
     let mut before = 0usize;
     for number in 0..count(row, kind) {
-        match ends_at(alloc, row, kind, number, before, whole)? {
+        match ends_at(rt, alloc, row, kind, number, before, whole) {
             Some(length) => before = length,
-            None => return Ok(false),
+            None => return false,
         }
     }
-    Ok(true)
+    true
 }
 
-/// Returns whether all failing calls end as they should.
-fn all_end(alloc: Global, row: FaultRow, whole: &Ran) -> Result<bool, Memory> {
-    Ok(
-        each_ends(alloc, row, Fails::Read, whole)?
-            && each_ends(alloc, row, Fails::Write, whole)?
-            && each_ends(alloc, row, Fails::Tell, whole)?
-            && each_ends(alloc, row, Fails::Behind, whole)?
-            && each_ends(alloc, row, Fails::Untold, whole)?,
-    )
+/// Returns whether all failing calls of these kinds end as they should.
+fn all_end(rt: &impl Abort, alloc: Global, row: FaultRow, kinds: &[Fails], whole: &Ran) -> bool {
+    for kind in kinds {
+        if !each_ends(rt, alloc, row, *kind, whole) {
+            return false;
+        }
+    }
+    true
 }
 
 /// Returns whether a call in which nothing fails ends as its row says, with an answer or a line of errors.
@@ -228,26 +237,20 @@ fn is_whole(row: FaultRow, whole: &Ran) -> bool {
 }
 
 /// Returns whether the call of a row ends as it should, and so does each of its failing calls.
-fn fails_so(alloc: Global, row: FaultRow) -> Result<bool, Memory> {
-    let whole = run_alone(alloc, row.0, NONE)?;
-    let is_whole = is_whole(row, &whole);
-    let all_end = all_end(alloc, row, &whole);
+fn fails_so(rt: &impl Abort, alloc: Global, row: FaultRow) -> bool {
+    let whole = run_watched(rt, alloc, row.0, NONE, &mut NoWatch);
+    let fails_so = is_whole(row, &whole) && all_end(rt, alloc, row, &KINDS, &whole);
     drop(whole);
-    Ok(is_whole && all_end?)
+    fails_so
 }
 
-/// Returns the words of the first row of which a call ends otherwise.
-fn first_wrong(alloc: Global, rows: &[FaultRow]) -> Result<Option<&'static str>, Memory> {
+fn all_fail_so(rt: &impl Abort, alloc: Global, rows: &[FaultRow]) {
     for row in rows {
-        if !fails_so(alloc, *row)? {
-            return Ok(Some(row.0));
-        }
+        assert!(rt; fails_so(rt, alloc, *row), "{}", row.0);
     }
-    Ok(None)
 }
 
 #[test]
-fn each_failing_call_ends_as_it_should(rt: HostRuntime) -> Result<(), Fail> {
-    assert_eq!(rt; first_wrong(rt.alloc(), &ROWS)?, None);
-    Ok(())
+fn each_failing_call_ends_as_it_should(rt: HostRuntime) {
+    all_fail_so(&rt, rt.alloc(), &ROWS);
 }

@@ -1,7 +1,7 @@
 // The files that the rows of the table name.
-use lucid_base::Memory;
 use lucid_io::{MemFile, MemFiles};
-use std::alloc::{AllocError, Global};
+use std::alloc::Global;
+use std::process::Abort;
 
 /// The name of a file, its text, and how often the text is repeated in it.
 type TestFile = (&'static str, &'static str, usize);
@@ -131,31 +131,29 @@ fn is_among(files: &[TestFile], word: &str) -> bool {
 }
 
 /// All of them, in memory. The opening or the read of this number fails.
-pub(crate) fn files(alloc: Global, fault: u64) -> Result<MemFiles, Memory> {
-    let held = held(alloc, &FILES)?;
-    let fails = vec![in alloc; fault]?;
-    MemFiles::new(alloc, held, fails)
+pub(crate) fn files(rt: &impl Abort, alloc: Global, fault: u64) -> MemFiles {
+    let held = held(rt, alloc, &FILES);
+    let fails = vec![in alloc; fault].expect(rt, "memory");
+    MemFiles::new(alloc, held, fails).expect(rt, "memory")
 }
 
-fn held(alloc: Global, files: &[TestFile]) -> Result<Vec<MemFile>, AllocError> {
+fn held(rt: &impl Abort, alloc: Global, files: &[TestFile]) -> Vec<MemFile> {
     let mut held = Vec::new(alloc);
     for file in files {
-        held.push(made(alloc, *file)?)?;
+        let file = made(rt, alloc, *file);
+        held.push(file).expect(rt, "memory");
     }
-    Ok(held)
+    held
 }
 
-fn made(alloc: Global, file: TestFile) -> Result<MemFile, AllocError> {
+fn made(rt: &impl Abort, alloc: Global, file: TestFile) -> MemFile {
     let (name, text, count) = file;
-    let bytes = repeated(alloc, text, count)?;
-    let name = String::from_str(alloc, name)?;
-    Ok(MemFile { name, bytes })
-}
-
-fn repeated(alloc: Global, text: &str, count: usize) -> Result<Vec<u8>, AllocError> {
     let mut bytes = Vec::new(alloc);
     for _ in 0..count {
-        bytes.extend_from_slice(text.as_bytes())?;
+        bytes
+            .extend_from_slice(text.as_bytes())
+            .expect(rt, "memory");
     }
-    Ok(bytes)
+    let name = String::from_str(alloc, name).expect(rt, "memory");
+    MemFile { name, bytes }
 }

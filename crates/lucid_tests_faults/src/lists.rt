@@ -3,7 +3,8 @@ use lucid_base::Memory;
 use lucid_code::Code;
 use lucid_pass::{Dead, Name, Pass};
 use lucid_pass_rewrites::{Copies, Direct, Fold};
-use std::alloc::{AllocError, Global};
+use std::alloc::Global;
+use std::process::Abort;
 
 /// A pass of a list: one of the program, `Same`, or a `Same` that runs out of memory.
 #[derive(Clone, Copy)]
@@ -65,22 +66,23 @@ impl Pass for Same {
     }
 }
 
-fn boxed(alloc: Global, kind: Listed) -> Result<Box<dyn Pass>, AllocError> {
+fn boxed(rt: &impl Abort, alloc: Global, kind: Listed) -> Box<dyn Pass> {
     match kind {
-        Listed::Fold => Ok(Box::new(alloc, Fold::new())?),
-        Listed::Copies => Ok(Box::new(alloc, Copies::new())?),
-        Listed::Dead => Ok(Box::new(alloc, Dead::new())?),
-        Listed::Direct => Ok(Box::new(alloc, Direct::new())?),
-        Listed::Same => Ok(Box::new(alloc, Same::new(false))?),
-        Listed::Failing => Ok(Box::new(alloc, Same::new(true))?),
+        Listed::Fold => Box::new(alloc, Fold::new()).expect(rt, "memory"),
+        Listed::Copies => Box::new(alloc, Copies::new()).expect(rt, "memory"),
+        Listed::Dead => Box::new(alloc, Dead::new()).expect(rt, "memory"),
+        Listed::Direct => Box::new(alloc, Direct::new()).expect(rt, "memory"),
+        Listed::Same => Box::new(alloc, Same::new(false)).expect(rt, "memory"),
+        Listed::Failing => Box::new(alloc, Same::new(true)).expect(rt, "memory"),
     }
 }
 
 /// The list of these passes.
-pub(crate) fn list(alloc: Global, kinds: &[Listed]) -> Result<Vec<Box<dyn Pass>>, AllocError> {
+pub(crate) fn list(rt: &impl Abort, alloc: Global, kinds: &[Listed]) -> Vec<Box<dyn Pass>> {
     let mut passes = Vec::new(alloc);
     for kind in kinds {
-        passes.push(boxed(alloc, *kind)?)?;
+        let pass = boxed(rt, alloc, *kind);
+        passes.push(pass).expect(rt, "memory");
     }
-    Ok(passes)
+    passes
 }

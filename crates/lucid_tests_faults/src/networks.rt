@@ -10,7 +10,7 @@ use lucid_io::MemSink;
 use lucid_net::Net;
 use lucid_pipe::{MemWatch, Watch};
 use std::alloc::Global;
-use std::test::Fail;
+use std::process::Abort;
 
 const HITS: &str =
     "global Array.t<<32>> hits = Array.create(4); memop plus(int stored, int x) { return stored + x; } \
@@ -54,28 +54,45 @@ fn packets_after(
 
 /// Returns whether just the first slots of 12 are taken in this sight.
 fn first_are_taken(watch: &MemWatch, sight: usize, slots: u32) -> bool {
-    (0..12u32).all(|k| was_taken(watch, sight, k) == (k < slots))
+    for k in 0..12u32 {
+        if was_taken(watch, sight, k) != (k < slots) {
+            return false;
+        }
+    }
+    true
+}
+
+/// Returns whether the packets of each tick are in flight.
+fn ticks_fly(net: &mut Net<'_>, scene: &Scene, sink: &mut MemSink, watch: &mut MemWatch) -> bool
+    requires { net.old.scene ≡ scene.now }
+{
+    for tick in 0..30u64 {
+        if packets_after(net, scene, sink, watch) != Some(in_flight(tick)) {
+            return false;
+        }
+    }
+    true
 }
 
 /// Returns whether the packets of each tick are in flight, and take the first slots after the first two.
-fn flies(alloc: Global, s: &Setup) -> Result<bool, Fail>
+fn flies(rt: &impl Abort, alloc: Global, s: &Setup) -> bool
     requires { Runs s.now.core s.now.placed s.now.limits s.now.scene }
 {
-    let mut sink = MemSink::new(alloc, 8192, Vec::new(alloc))?;
+    let mut sink = MemSink::new(alloc, 8192, Vec::new(alloc)).expect(rt, "memory");
     let mut watch = MemWatch::new(alloc);
-    let mut net = Net::piped(alloc, &s.core, &s.placed, &s.scene, &s.limits)?;
-    for tick in 0..30u64 {
-        let packets = packets_after(&mut net, &s.scene, &mut sink, &mut watch);
-        if packets != Some(in_flight(tick)) {
-            return Ok(false);
-        }
-    }
-    Ok(first_are_taken(&watch, 0, 1) && first_are_taken(&watch, 1, 2))
+    let mut net = Net::piped(alloc, &s.core, &s.placed, &s.scene, &s.limits).expect(rt, "memory");
+    let ticks_fly = ticks_fly(&mut net, &s.scene, &mut sink, &mut watch);
+    drop(net);
+    let flies = ticks_fly && first_are_taken(&watch, 0, 1) && first_are_taken(&watch, 1, 2);
+    drop(watch);
+    drop(sink);
+    flies
 }
 
 #[test]
-fn packets_are_in_flight_for_as_many_ticks_as_stages(rt: HostRuntime) -> Result<(), Fail> {
-    let s = set_up(rt.alloc(), HITS, "{}", TWICE)?;
-    assert!(rt; flies(rt.alloc(), &s)?);
-    Ok(())
+fn packets_are_in_flight_for_as_many_ticks_as_stages(rt: HostRuntime) {
+    let s = set_up(&rt, rt.alloc(), HITS, "{}", TWICE);
+    let flies = flies(&rt, rt.alloc(), &s);
+    drop(s);
+    assert!(rt; flies);
 }

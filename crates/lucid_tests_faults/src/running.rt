@@ -1,12 +1,12 @@
 // Calls of the program over files and sinks in memory, of which chosen calls and writes fail.
 use crate::files::files;
 use crate::lists::{PROGRAM, list};
-use lucid_base::Memory;
 use lucid_io::MemSink;
 use lucid_pass::Pass;
-use lucid_pipe::{NoWatch, Watch};
+use lucid_pipe::Watch;
 use lucid_top::{Status, lucid};
-use std::alloc::{AllocError, Global};
+use std::alloc::Global;
+use std::process::Abort;
 
 /// The number of a call that nothing makes.
 pub(crate) const NEVER: u64 = u64::MAX;
@@ -39,81 +39,58 @@ const ROOM: usize = 8192;
 
 /// Runs the call of these words, with these faults and these passes, over a watch.
 pub(crate) fn run<V: Watch>(
+    rt: &impl Abort,
     alloc: Global,
     line: &str,
     faults: Faults,
     passes: &mut Vec<Box<dyn Pass>>,
     watch: &mut V,
-) -> Result<Ran, Memory> {
-    let mut ran = Ran {
-        status: Status::Ok,
-        out: sink(alloc, faults.write)?,
-        err: sink(alloc, faults.tell)?,
-    };
-    match run_into(alloc, line, faults.read, passes, watch, &mut ran) {
-        Ok(()) => Ok(ran),
-        Err(memory) => {
-            drop(ran);
-            Err(memory)
-        }
-    }
-}
-
-fn run_into<V: Watch>(
-    alloc: Global,
-    line: &str,
-    fault: u64,
-    passes: &mut Vec<Box<dyn Pass>>,
-    watch: &mut V,
-    ran: &mut Ran,
-) -> Result<(), Memory> {
-    let words = words(alloc, line)?;
-    let mut files = files(alloc, fault)?;
-    ran.status = lucid(
+) -> Ran {
+    let words = words(rt, alloc, line);
+    let mut files = files(rt, alloc, faults.read);
+    let mut out = sink(rt, alloc, faults.write);
+    let mut err = sink(rt, alloc, faults.tell);
+    let status = lucid(
         alloc,
         words.as_slice(),
         &mut files,
-        &mut ran.out,
-        &mut ran.err,
+        &mut out,
+        &mut err,
         passes,
         watch,
     );
     drop(files);
     drop(words);
-    Ok(())
+    Ran { status, out, err }
 }
 
 /// Like `run`, with the passes of the program.
 pub(crate) fn run_watched<V: Watch>(
+    rt: &impl Abort,
     alloc: Global,
     line: &str,
     faults: Faults,
     watch: &mut V,
-) -> Result<Ran, Memory> {
-    let mut passes = list(alloc, &PROGRAM)?;
-    let ran = run(alloc, line, faults, &mut passes, watch);
+) -> Ran {
+    let mut passes = list(rt, alloc, &PROGRAM);
+    let ran = run(rt, alloc, line, faults, &mut passes, watch);
     drop(passes);
     ran
 }
 
-/// Like `run_watched`, over no watch.
-pub(crate) fn run_alone(alloc: Global, line: &str, faults: Faults) -> Result<Ran, Memory> {
-    run_watched(alloc, line, faults, &mut NoWatch)
-}
-
 /// A sink whose write of this number fails.
-fn sink(alloc: Global, fault: u64) -> Result<MemSink, Memory> {
-    let fails = vec![in alloc; fault]?;
-    MemSink::new(alloc, ROOM, fails)
+fn sink(rt: &impl Abort, alloc: Global, fault: u64) -> MemSink {
+    let fails = vec![in alloc; fault].expect(rt, "memory");
+    MemSink::new(alloc, ROOM, fails).expect(rt, "memory")
 }
 
-fn words(alloc: Global, line: &str) -> Result<Vec<String>, AllocError> {
+fn words(rt: &impl Abort, alloc: Global, line: &str) -> Vec<String> {
     let mut words = Vec::new(alloc);
     for word in line.split(' ') {
         if !word.is_empty() {
-            let word = String::from_str(alloc, word)?;
-            words.push(word)?;
+            let word = String::from_str(alloc, word).expect(rt, "memory");
+            words.push(word).expect(rt, "memory");
         }
     }
-    Ok(words)
+    words
 }

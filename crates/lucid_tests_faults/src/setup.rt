@@ -1,5 +1,5 @@
 // A program from text, placed by first fit without passes, with the limits of its target and a scenario.
-ghost use Rattle.std.specs.Prelude.{IfOk};
+ghost use Rattle.lucid_conf.specs.Kept.{AreLimits, IsScene};
 ghost use Rattle.lucid_effects_spec.specs.Order.{IsAccepted};
 ghost use Rattle.lucid_tests_faults.specs.Setup.{Runs};
 
@@ -9,9 +9,8 @@ use lucid_pass::Pass;
 use lucid_tables::Placed;
 use lucid_top_fit::fitted;
 use lucid_top_program::{accepted, limits, scenario};
-use lucid_top_words::Refusal;
 use std::alloc::Global;
-use std::test::Fail;
+use std::process::Abort;
 
 /// All that a run on pipelines needs.
 #[derive(Drop)]
@@ -22,48 +21,56 @@ pub(crate) struct Setup {
     pub(crate) scene: Scene,
 }
 
-/// A text of a test was refused.
-#[derive(Clone, Copy, Debug)]
-struct Refused;
-
-/// Reads a program.
-fn core_of(alloc: Global, program: &str) -> Result<Core, Fail>
-    ensures { IfOk result IsAccepted }
-{
-    match accepted(alloc, program.as_bytes()) {
-        Ok(core) => Ok(core),
-        Err(_) => Err(Fail::from(Refused)),
-    }
-}
-
 /// Reads and places a program, and reads its scenario.
 pub(crate) fn set_up(
+    rt: &impl Abort,
     alloc: Global,
     program: &str,
     target: &str,
     events: &str,
-) -> Result<Setup, Fail>
-    ensures { IfOk result (λ s. Runs s.core s.placed s.limits s.scene) }
+) -> Setup
+    ensures { Runs result.core result.placed result.limits result.scene }
 {
-    let core = core_of(alloc, program)?;
-    match place(alloc, core, target, events) {
-        Ok(setup) => Ok(setup),
-        Err(_) => Err(Fail::from(Refused)),
+    match accepted(alloc, program.as_bytes()) {
+        Ok(core) => place(rt, alloc, core, target, events),
+        Err(_) => panic!(rt; "refused"),
     }
 }
 
-fn place(alloc: Global, core: Core, target: &str, events: &str) -> Result<Setup, Refusal>
+fn limits_of(rt: &impl Abort, alloc: Global, target: &str) -> Limits
+    ensures { AreLimits result }
+{
+    match limits(alloc, target.as_bytes()) {
+        Ok(limits) => limits,
+        Err(_) => panic!(rt; "limits"),
+    }
+}
+
+fn scene_of(rt: &impl Abort, alloc: Global, events: &str, core: &Core) -> Scene
+    ensures { IsScene core.now result }
+{
+    match scenario(alloc, events.as_bytes(), core) {
+        Ok(scene) => scene,
+        Err(_) => panic!(rt; "scenario"),
+    }
+}
+
+fn place(rt: &impl Abort, alloc: Global, core: Core, target: &str, events: &str) -> Setup
     requires { IsAccepted core }
-    ensures { IfOk result (λ s. Runs s.core s.placed s.limits s.scene) }
+    ensures { Runs result.core result.placed result.limits result.scene }
 {
     let mut passes: Vec<Box<dyn Pass>> = Vec::new(alloc);
-    let limits = limits(alloc, target.as_bytes())?;
-    let scene = scenario(alloc, events.as_bytes(), &core)?;
-    let fitting = fitted(alloc, &core, &limits, &mut passes)?;
-    Ok(Setup {
-        core,
-        placed: fitting.placed,
-        limits,
-        scene,
-    })
+    let limits = limits_of(rt, alloc, target);
+    let scene = scene_of(rt, alloc, events, &core);
+    let fitted = fitted(alloc, &core, &limits, &mut passes);
+    drop(passes);
+    match fitted {
+        Ok(fitting) => Setup {
+            core,
+            placed: fitting.placed,
+            limits,
+            scene,
+        },
+        Err(_) => panic!(rt; "no layout"),
+    }
 }

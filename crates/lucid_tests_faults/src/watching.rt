@@ -1,11 +1,10 @@
 // Calls of the program over a watch that records all sights. A command that shows nothing fails here, so does a `run pipe` that runs handlers
 // whole, and so does a watch that records nothing, or a tick with another count of packets.
 use crate::running::{Faults, NEVER, NONE, run_watched};
-use lucid_base::Memory;
 use lucid_pipe::MemWatch;
 use lucid_top::Status;
 use std::alloc::Global;
-use std::test::Fail;
+use std::process::Abort;
 
 /// The words of a call that moves packets, the write of it that fails, how it ends, how many sights it shows, and places in one of them: the
 /// number of the sight, the place, and whether it is taken.
@@ -65,47 +64,46 @@ pub(crate) fn was_taken(watch: &MemWatch, sight: usize, k: u32) -> bool {
 
 /// Makes a call over a watch, and returns how it ends.
 fn watched(
+    rt: &impl Abort,
     alloc: Global,
     line: &str,
     faults: Faults,
     watch: &mut MemWatch,
-) -> Result<Status, Memory> {
-    let ran = run_watched(alloc, line, faults, watch)?;
+) -> Status {
+    let ran = run_watched(rt, alloc, line, faults, watch);
     let status = ran.status;
     drop(ran);
-    Ok(status)
+    status
 }
 
 fn are_places(watch: &MemWatch, places: &[(usize, u32, bool)]) -> bool {
-    places
-        .iter()
-        .all(|(sight, k, taken)| was_taken(watch, *sight, *k) == *taken)
+    for (sight, k, taken) in places {
+        if was_taken(watch, *sight, *k) != *taken {
+            return false;
+        }
+    }
+    true
 }
 
 /// Returns whether the call of a row shows its sights.
-fn shows(alloc: Global, row: WatchRow) -> Result<bool, Memory> {
+fn shows(rt: &impl Abort, alloc: Global, row: WatchRow) -> bool {
     let (line, write, status, count, places) = row;
     let mut watch = MemWatch::new(alloc);
-    let ended = watched(alloc, line, Faults { write, ..NONE }, &mut watch);
-    let is_shown = watch.count() == Some(count) && are_places(&watch, places);
+    let ended = watched(rt, alloc, line, Faults { write, ..NONE }, &mut watch);
+    let shows = ended == status && watch.count() == Some(count) && are_places(&watch, places);
     drop(watch);
-    Ok(ended? == status && is_shown)
+    shows
 }
 
-/// Returns the number of the first row whose call shows other sights.
-fn first_wrong(alloc: Global, rows: &[WatchRow]) -> Result<Option<usize>, Memory> {
-    for (at, row) in rows.iter().enumerate() {
-        if !shows(alloc, *row)? {
-            return Ok(Some(at));
-        }
+fn all_show(rt: &impl Abort, alloc: Global, rows: &[WatchRow]) {
+    for row in rows {
+        assert!(rt; shows(rt, alloc, *row), "{} {}", row.0, row.1);
     }
-    Ok(None)
 }
 
 #[test]
-fn each_command_that_moves_packets_shows_them(rt: HostRuntime) -> Result<(), Fail> {
-    assert_eq!(rt; first_wrong(rt.alloc(), &ROWS)?, None);
-    Ok(())
+fn each_command_that_moves_packets_shows_them(rt: HostRuntime) {
+    all_show(&rt, rt.alloc(), &ROWS);
 }
 
 /// Returns whether the counter holds 0, 1 and 2 in sights 0, 1 and 2: its array is in stage 0, which a packet has run one tick after it
@@ -134,28 +132,37 @@ fn in_flight(tick: usize) -> usize {
 
 /// Returns whether this many of the 12 places are taken in a sight.
 fn are_taken(watch: &MemWatch, sight: usize, packets: usize) -> bool {
-    (0..12u32).filter(|k| was_taken(watch, sight, *k)).count() == packets
+    let mut taken = 0usize;
+    for k in 0..12u32 {
+        if was_taken(watch, sight, k) {
+            taken = taken.saturating_add(1);
+        }
+    }
+    taken == packets
 }
 
 /// Returns whether the packets of each tick are in flight, for as many ticks as there are stages, and the first two take the first slots.
 fn flights_are_seen(watch: &MemWatch) -> bool {
-    was_taken(watch, 0, 0)
-        && was_taken(watch, 1, 0)
-        && was_taken(watch, 1, 1)
-        && (0..30usize).all(|tick| are_taken(watch, tick, in_flight(tick)))
+    for tick in 0..30usize {
+        if !are_taken(watch, tick, in_flight(tick)) {
+            return false;
+        }
+    }
+    was_taken(watch, 0, 0) && was_taken(watch, 1, 0) && was_taken(watch, 1, 1)
 }
 
-/// Returns whether a watch sees the packets and the counter of a network on pipelines at each tick.
-fn ticks_are_seen(alloc: Global) -> Result<bool, Memory> {
-    let mut watch = MemWatch::new(alloc);
-    let ended = watched(alloc, "run pipe hits default twice", NONE, &mut watch);
+/// A watch sees the packets and the counter of a network on pipelines at each tick.
+#[test]
+fn a_sight_has_the_packets_and_the_cells_of_each_tick(rt: HostRuntime) {
+    let mut watch = MemWatch::new(rt.alloc());
+    let ended = watched(
+        &rt,
+        rt.alloc(),
+        "run pipe hits default twice",
+        NONE,
+        &mut watch,
+    );
     let are_seen = counts_are_seen(&watch) && flights_are_seen(&watch);
     drop(watch);
-    Ok(ended? == Status::Ok && are_seen)
-}
-
-#[test]
-fn a_sight_has_the_packets_and_the_cells_of_each_tick(rt: HostRuntime) -> Result<(), Fail> {
-    assert!(rt; ticks_are_seen(rt.alloc())?);
-    Ok(())
+    assert!(rt; ended == Status::Ok && are_seen);
 }
