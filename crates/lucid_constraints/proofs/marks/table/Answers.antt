@@ -1,3 +1,4 @@
+use Rattle.std.proofs.lemmas.Grind.{common_steps}
 use Rattle.std.proofs.Common.{rules, ◌≡◌, ◌+◌, suc, sym, subst, ap, ◌∙◌, take, length, arith}
 use Rattle.std.proofs.Math.Seq.{take-length, take-suc}
 use Rattle.lucid_constraints.specs.Marks.{Marked}
@@ -15,3 +16,6 @@ pub returns-clause-marked : goal.returns-clause-marked
 returns-clause-marked c =
     let end : c.loop-pair.pair-index ≡ length c.args.pairs.now = search rules in
     subst (λ ps. Marked c.loop-pair.marks.items ps) (ap (λ k. take k c.args.pairs.now) end ∙ take-length c.args.pairs.now) c.loop-pair.invariant.0
+
+pub loop-pair-init : goal.loop-pair-init
+loop-pair-init c = grind (arith, common_steps)
