@@ -1,4 +1,5 @@
-use Rattle.std.proofs.Common.{rules, ◌≡◌, ◌+◌, ◌++◌, ◌∷◌, [], Some, sym, ap, ◌∙◌}
+use Rattle.std.proofs.lemmas.Grind.{common_steps}
+use Rattle.std.proofs.Common.{rules, ◌≡◌, ◌+◌, ◌++◌, ◌∷◌, [], Some, sym, ap, ◌∙◌, arith}
 use Rattle.std.specs.Prelude.{slice_get}
 use Rattle.std.proofs.lemmas.Option.{slice_get-get_or}
 use Rattle.lucid_effects_spec.specs.SchemeLaws.{steps_a_node}
@@ -37,3 +38,12 @@ returns-in_err-push-clause-most g c = λ parts sound own counted.
     funs_spent (steps_a_node c.args.arrays) c.args.steps.now c.judge.new.steps (c.loop-f.f-index + 1) c.args.funs.now
     (fun_spent parts sound c.args.arrays c.args.steps.now c.loop-f.steps c.judge.new.steps c.loop-f.judged.schemes.items c.loop-f.f-index counted c.args.funs.now own f is c.as_slice.result.now c.loop-f.invariant.schemes (search rules) (search rules)
     (c.loop-f.invariant.most parts sound own counted))
+
+pub returns-clause-schemes : goal.returns-clause-schemes
+returns-clause-schemes g c = grind (arith, common_steps)
+
+pub returns-clause-first : goal.returns-clause-first
+returns-clause-first g c = grind (arith, common_steps)
+
+pub returns-clause-most : goal.returns-clause-most
+returns-clause-most g c = grind (arith, common_steps)

@@ -1,4 +1,5 @@
-use Rattle.std.proofs.Common.{rules, ◌≡◌, ◌+◌, ◌++◌, ◌∷◌, [], List, Some, refl, sym, subst, ap, ◌∙◌, length, take}
+use Rattle.std.proofs.lemmas.Grind.{common_steps}
+use Rattle.std.proofs.Common.{rules, ◌≡◌, ◌+◌, ◌++◌, ◌∷◌, [], List, Some, refl, sym, subst, ap, ◌∙◌, length, take, arith}
 use Rattle.std.specs.Prelude.{slice_get}
 use Rattle.std.proofs.Math.Seq.{take-append_seam, take-length}
 use Rattle.std.proofs.lemmas.Option.{slice_get-get_or}
@@ -57,3 +58,12 @@ returns-in_err-push-clause-most g c = λ parts sound known own counted.
     handlers_spent (steps_a_node c.args.arrays) c.args.steps.now c.judge.new.steps (c.loop-h.h-index + 1) c.args.handlers.now
     (handler_spent parts sound c.args.arrays c.args.steps.now c.loop-h.steps c.judge.new.steps c.front-before.result.now c.loop-h.h-index counted c.args.handlers.now own h is c.as_slice.result.now (front_is ∙ known) (search rules) (search rules)
     (c.loop-h.invariant.most parts sound known own counted))
+
+pub front-before-requires : goal.front-before-requires
+front-before-requires g c = grind (arith, common_steps)
+
+pub returns-clause-schemes : goal.returns-clause-schemes
+returns-clause-schemes g c = grind (arith, common_steps)
+
+pub returns-clause-most : goal.returns-clause-most
+returns-clause-most g c = grind (arith, common_steps)

@@ -1,4 +1,5 @@
-use Rattle.std.proofs.Common.{rules, ◌≡◌, ◌++◌, ℕ, [], List, length, subst}
+use Rattle.std.proofs.lemmas.Grind.{common_steps}
+use Rattle.std.proofs.Common.{rules, ◌≡◌, ◌++◌, ℕ, [], List, length, subst, arith}
 use Rattle.std.proofs.lemmas.Result.{on_ok_weaker}
 use Rattle.lucid_core.specs.declared.defs.HandlerDef.{HandlerDef}
 use Rattle.lucid_effects_spec.specs.Order.{bodies, fun_bodies, handler_bodies}
@@ -36,3 +37,18 @@ returns-clause-most g c =
     let known : c.check_funs.new.judged.schemes.items ≡ schemes_of core.funs = search rules in
     let second = c.check_handlers.ensures.most core c.funs.ensures.valid.sound known handlers arrays in
     of_all core c.args.steps.now c.check_funs.new.steps c.funs.result.now own c.array_count-arrays.result arrays (c.check_funs.ensures.most core c.funs.ensures.valid.sound own arrays) c.check_handlers.new.steps c.handlers.result.now handlers second
+
+pub check_funs-requires-clause-none : goal.check_funs-requires-clause-none
+check_funs-requires-clause-none g c = grind (arith, common_steps)
+
+pub check_funs-requires-clause-fine : goal.check_funs-requires-clause-fine
+check_funs-requires-clause-fine g c = grind (arith, common_steps)
+
+pub returns-in_err-check_funs-clause-schemes : goal.returns-in_err-check_funs-clause-schemes
+returns-in_err-check_funs-clause-schemes g c = grind (arith, common_steps)
+
+pub returns-in_err-check_funs-clause-first : goal.returns-in_err-check_funs-clause-first
+returns-in_err-check_funs-clause-first g c = grind (arith, common_steps)
+
+pub returns-clause-schemes : goal.returns-clause-schemes
+returns-clause-schemes g c = grind (arith, common_steps)

@@ -1,4 +1,5 @@
-use Rattle.std.proofs.Common.{◌∙◌, ap, sym}
+use Rattle.std.proofs.lemmas.Grind.{common_steps}
+use Rattle.std.proofs.Common.{◌∙◌, ap, sym, arith}
 use Rattle.lucid_size.specs.Search.{with_all}
 use Rattle.lucid_size.specs.Used.{uses}
 use Rattle.lucid_size.proofs.InText.{past}
@@ -14,3 +15,6 @@ pub returns-clause-added : goal.returns-clause-added
 returns-clause-added c =
     ap (λ l. with_all c.loop-step.self.found.items (uses c.args.width l)) (sym (past c.args.steps.now c.loop-step.step-index c.loop-step-test.false))
     ∙ c.loop-step.invariant.left
+
+pub loop-step-preserved : goal.loop-step-preserved
+loop-step-preserved c = grind (arith, common_steps)
