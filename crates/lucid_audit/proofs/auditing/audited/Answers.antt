@@ -1,4 +1,5 @@
-use Rattle.std.proofs.Common.{rules}
+use Rattle.std.proofs.lemmas.Grind.{elements}
+use Rattle.std.proofs.Common.{rules, arith}
 use Rattle.lucid_audit.specs.Refused.{AreThere, AreBehind, FirstFull}
 use Rattle.lucid_audit.proofs.Widths.{all_few, all_crowds, told}
 use Rattle.lucid_audit.proofs.auditing.audited.Goals as goal
@@ -22,3 +23,6 @@ returns-clause-rules c =
       rows = all_few c.args.code.now.ops c.args.limits.now c.args.seats.now there c.in_ok-stages.ensures.few;
       arrays = all_crowds c.args.limits.now c.args.seats.now there (c.first_full.ensures.none (search rules));
     }
+
+pub first_early-requires-clause-writes : goal.first_early-requires-clause-writes
+first_early-requires-clause-writes c = grind (arith, elements)

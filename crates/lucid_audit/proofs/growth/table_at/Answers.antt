@@ -1,4 +1,5 @@
-use Rattle.std.proofs.Common.{◌≡◌, inl, inr, ap, ap₂, ◌∙◌, ◌&&◌, nat_eq, Bool, true}
+use Rattle.std.proofs.lemmas.Grind.{common_steps}
+use Rattle.std.proofs.Common.{◌≡◌, inl, inr, ap, ap₂, ◌∙◌, ◌&&◌, nat_eq, Bool, true, arith}
 use Rattle.std.proofs.lemmas.Bool.{and_from, eq-eqb, ne_eqb}
 use Rattle.lucid_tables.specs.Rows.{table}
 use Rattle.lucid_audit.specs.Audit.{takes, with_work}
@@ -24,3 +25,15 @@ loop-seat-preserved c = turn c.args.code.now.ops c.args.rows c.args.k c.args.t c
       )
     ])
     c.loop-seat.invariant
+
+pub with_node-requires : goal.with_node-requires
+with_node-requires c = grind (arith, common_steps)
+
+pub returns-in-None-clause-none : goal.returns-in-None-clause-none
+returns-in-None-clause-none c = grind (arith, common_steps)
+
+pub returns-clause-few : goal.returns-clause-few
+returns-clause-few c = grind (arith, common_steps)
+
+pub returns-clause-made : goal.returns-clause-made
+returns-clause-made c = grind (arith, common_steps)

@@ -1,4 +1,5 @@
-use Rattle.std.proofs.Common.{rules, refl}
+use Rattle.std.proofs.lemmas.Grind.{common_steps}
+use Rattle.std.proofs.Common.{rules, refl, arith}
 use Rattle.std.proofs.lemmas.Result.{on_err_weaker}
 use Rattle.lucid_io.proofs.Leaves.{Leaves-whole, Leaves-after, PutsPart-at, PutsPart-last, on_err}
 use Rattle.lucid_layout_text.proofs.Puts.{arrays_some}
@@ -13,3 +14,6 @@ returns-clause-part g c =
     on_err_weaker c.put_names.result
     (λ cut. PutsPart-last (Leaves-after Leaves-whole c.in_ok-put_pieces.ensures.all (arrays_some c.args.arrays.now c.args.numbers.now (search rules))) cut refl)
     c.put_names.ensures.part
+
+pub returns-clause-all : goal.returns-clause-all
+returns-clause-all g c = grind (arith, common_steps)

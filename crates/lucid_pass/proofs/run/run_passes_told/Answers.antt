@@ -1,4 +1,5 @@
-use Rattle.std.proofs.Common.{◌≡◌, ◌-◌, ◌∷◌, ◌++◌, [], length, sym, ap, ap₂, ◌∙◌, rules, List}
+use Rattle.std.proofs.lemmas.Grind.{common_steps}
+use Rattle.std.proofs.Common.{◌≡◌, ◌-◌, ◌∷◌, ◌++◌, [], length, sym, ap, ap₂, ◌∙◌, rules, List, arith}
 use Rattle.std.proofs.lemmas.List.{length-set}
 use Rattle.lucid_code.specs.declared.op.Op.{Op}
 use Rattle.lucid_code.specs.Parts.{CodeParts}
@@ -49,3 +50,15 @@ loop-i-preserved g c =
       long = c.loop-i.invariant.long ∙ sym (length-set c.loop-i.passes.items c.loop-i.i c.run_one.new.pass);
       ran = told_as _ _ _ _ _ _ _ _ _ _ (c.in_ok-push.ensures.items ∙ ap (λ k. c.loop-i.told.items ++ k ∷ []) n) ran;
     }
+
+pub same-code-in-loop-i : goal.same-code-in-loop-i
+same-code-in-loop-i g c = grind (arith, common_steps)
+
+pub returns-clause-gives : goal.returns-clause-gives
+returns-clause-gives g c = grind (arith, common_steps)
+
+pub returns-clause-told : goal.returns-clause-told
+returns-clause-told g c = grind (arith, common_steps)
+
+pub returns-clause-counts : goal.returns-clause-counts
+returns-clause-counts g c = grind (arith, common_steps)

@@ -1,4 +1,5 @@
-use Rattle.std.proofs.Common.{◌≡◌, ℕ, ◌<◌, ◌+◌, List, [], ◌++◌, length, get_or, slice_get, drop, ap, sym, ◌∙◌}
+use Rattle.std.proofs.lemmas.Grind.{common_steps}
+use Rattle.std.proofs.Common.{◌≡◌, ℕ, ◌<◌, ◌+◌, List, [], ◌++◌, length, get_or, slice_get, drop, ap, sym, ◌∙◌, arith}
 use Rattle.std.specs.List.{flat_map}
 use Rattle.std.specs.Option.{option_map_or, option_to_list}
 use Rattle.std.proofs.lemmas.List.{append-nil, append_assoc, drop_more}
@@ -21,3 +22,6 @@ loop-place-preserved c =
       flat_more (λ i. option_map_or read_by (slice_get ops i) []) places l.place-index l.reads.items c.put_uses.new.reads.items c.loop-place-test.true c.in_ok-put_uses.ensures.reads ∙ l.invariant.0,
       flat_more (λ i. option_map_or (λ (o : Op). option_to_list (written_by o.act)) (slice_get ops i) []) places l.place-index l.writes.items c.put_uses.new.writes.items c.loop-place-test.true c.in_ok-put_uses.ensures.writes ∙ l.invariant.1,
     )
+
+pub returns : goal.returns
+returns c = grind (arith, common_steps)

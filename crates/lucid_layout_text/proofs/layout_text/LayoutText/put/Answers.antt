@@ -1,4 +1,5 @@
-use Rattle.std.proofs.Common.{refl}
+use Rattle.std.proofs.lemmas.Grind.{common_steps}
+use Rattle.std.proofs.Common.{refl, arith}
 use Rattle.std.proofs.lemmas.Result.{on_err_weaker}
 use Rattle.lucid_io.proofs.Leaves.{Leaves-whole, Leaves-after, PutsPart-at, PutsPart-last, on_err}
 use Rattle.lucid_layout_text.proofs.Puts.{whole}
@@ -17,3 +18,6 @@ returns-clause-part g c =
     (whole c.self.inside.code.now c.self.inside.bits c.self.inside.nodes c.self.inside.lines.items c.ops.result.now c.arrays.result.now c.as_slice.result.now c.self.view_is c.ops.ensures.value c.arrays.ensures.value c.as_slice.ensures.value))
     cut refl)
     c.put_lines.ensures.part
+
+pub returns-clause-all : goal.returns-clause-all
+returns-clause-all g c = grind (arith, common_steps)

@@ -1,0 +1,12 @@
+use Rattle.std.proofs.Common.{arith}
+use Rattle.std.proofs.lemmas.Grind.{common_steps}
+use Rattle.lucid_stages.proofs.marks.raise.Goals as goal
+
+pub index_mut-found-requires : goal.index_mut-found-requires
+index_mut-found-requires c = grind (arith, common_steps)
+
+pub loop-field-preserved : goal.loop-field-preserved
+loop-field-preserved c = grind (arith, common_steps)
+
+pub returns : goal.returns
+returns c = grind (arith, common_steps)
