@@ -1,4 +1,5 @@
-use Rattle.std.proofs.Common.{ℕ, ◌-◌, List, ◌++◌, OnErr, OnOk, ◌∙◌, ap, subst}
+use Rattle.std.proofs.lemmas.Grind.{common_steps}
+use Rattle.std.proofs.Common.{ℕ, ◌-◌, List, ◌++◌, OnErr, OnOk, ◌∙◌, ap, subst, arith}
 use Rattle.lucid_core.specs.Step as core
 use Rattle.lucid_io.specs.Puts.{PutsAll, PutsPart}
 use Rattle.lucid_log.specs.Cells.{cells_text}
@@ -30,3 +31,6 @@ pub returns-clause-cells : goal.returns-clause-cells
 returns-clause-cells g c =
     last_cells c.args.core.now c.args.scene.now c.args.state.now c.requires.at.moves c.args.pipe.now c.cells_stay_fit.ensures
     (record { rows = c.keeps_laws.ensures.rows; pass = c.keeps_laws.ensures.pass; idle = c.keeps_laws.ensures.idle; sized = c.keeps_laws.ensures.sized }) c.requires.at.after c.requires.empty
+
+pub overflow_sub-events : goal.overflow_sub-events
+overflow_sub-events g c = grind (arith, common_steps)

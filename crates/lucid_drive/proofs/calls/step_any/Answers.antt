@@ -1,4 +1,5 @@
-use Rattle.std.proofs.Common.{ℕ, List, sym, ◌∙◌, ap, subst}
+use Rattle.std.proofs.lemmas.Grind.{elements}
+use Rattle.std.proofs.Common.{ℕ, List, sym, ◌∙◌, ap, subst, arith}
 use Rattle.lucid_io.specs.Puts.{PutsPart}
 use Rattle.lucid_drive.specs.Drive.{Done}
 use Rattle.lucid_drive.specs.Standing.{drive_of}
@@ -25,3 +26,6 @@ returns-in-Err-clause-part g c =
 
 pub returns-in-Ok-clause-changes : goal.returns-in-Ok-clause-changes
 returns-in-Ok-clause-changes g c = changed c.args.pipe.now c.step-happened.new.pipe _ c.slot_of.result (sym c.slot_of.ensures) c.step-happened.ensures.changes
+
+pub step-happened-requires-clause-step : goal.step-happened-requires-clause-step
+step-happened-requires-clause-step g c = grind (arith, elements)

@@ -1,4 +1,5 @@
-use Rattle.std.proofs.Common.{◌≡◌, ◌+◌, ℕ, List, Option, Err, ap, ap₂, sym, ◌∙◌, subst, IfSome}
+use Rattle.std.proofs.lemmas.Grind.{common_steps}
+use Rattle.std.proofs.Common.{◌≡◌, ◌+◌, ℕ, List, Option, Err, ap, ap₂, sym, ◌∙◌, subst, IfSome, arith}
 use Rattle.std.specs.List.{find}
 use Rattle.lucid_code.specs.Inputs.{IsInput}
 use Rattle.lucid_io.specs.Puts.{PutsAll}
@@ -85,3 +86,27 @@ let_in-requires-clause-input g c =
     c.in-Ok.ensures.queue ∙ ap (λ (o : Option Run). put_all (made_by (net_of c.args.world.now) o) c.args.queue.now) c.move_on.ensures.left in
     subst (λ (p : PlacedParts). IfSome (find (is_ready c.args.switch c.args.tick) c.leave_any.new.queue) (λ q. IsInput p.code c.args.switch q.event)) (sym c.move_on.ensures.placed)
     (subst (λ (q : List Pending). IfSome (find (is_ready c.args.switch c.args.tick) q) (λ p. IsInput c.args.pipe.now.placed.code c.args.switch p.event)) (sym same) c.requires.input)
+
+pub move_on-requires-clause-same : goal.move_on-requires-clause-same
+move_on-requires-clause-same g c = grind (arith, common_steps)
+
+pub move_on-requires-clause-some : goal.move_on-requires-clause-some
+move_on-requires-clause-some g c = grind (arith, common_steps)
+
+pub leave_any-requires-clause-room : goal.leave_any-requires-clause-room
+leave_any-requires-clause-room g c = grind (arith, common_steps)
+
+pub let_in-requires-clause-long : goal.let_in-requires-clause-long
+let_in-requires-clause-long g c = grind (arith, common_steps)
+
+pub let_in-requires-clause-room : goal.let_in-requires-clause-room
+let_in-requires-clause-room g c = grind (arith, common_steps)
+
+pub is_of-requires : goal.is_of-requires
+is_of-requires g c = grind (arith, common_steps)
+
+pub returns-in-Ok-clause-of : goal.returns-in-Ok-clause-of
+returns-in-Ok-clause-of g c = grind (arith, common_steps)
+
+pub returns-in-Ok-clause-memory : goal.returns-in-Ok-clause-memory
+returns-in-Ok-clause-memory g c = grind (arith, common_steps)

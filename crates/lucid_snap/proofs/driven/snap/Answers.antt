@@ -1,4 +1,5 @@
-use Rattle.std.proofs.Common.{rules, Ok, refl, ◌∙◌}
+use Rattle.std.proofs.lemmas.Grind.{common_steps}
+use Rattle.std.proofs.Common.{rules, Ok, refl, ◌∙◌, arith}
 use Rattle.lucid_drive.specs.Standing.{drive_of}
 use Rattle.lucid_drive.proofs.Joining.{fresh_stands}
 use Rattle.lucid_drive.proofs.Running.{drive_same}
@@ -51,3 +52,21 @@ returns g c =
     (c.in_ok-drive_steps.ensures.done ∙ c.first_steps-count.ensures) c.entered-entered.ensures (c.in_ok-follow.ensures.copies _ c.in_ok-snap.ensures) in
     writes_all g.S.Sink.written g.S.Sink.faults d d_follow c.args.after count c.drive_steps.new.state.done same c.in_ok-drive_steps.ensures.done c.args.sink.now c.drive_steps.new.sink c.follow.new.sink c.put_snap.new.sink (Ok tt)
     c.in_ok-drive_steps.ensures.all c.in_ok-follow.ensures.all _ shown c.in_ok-put_snap.ensures.all
+
+pub drive_steps-requires-clause-begins : goal.drive_steps-requires-clause-begins
+drive_steps-requires-clause-begins g c = grind (arith, common_steps)
+
+pub drive_steps-requires-clause-within : goal.drive_steps-requires-clause-within
+drive_steps-requires-clause-within g c = grind (arith, common_steps)
+
+pub begin-requires-clause-placed : goal.begin-requires-clause-placed
+begin-requires-clause-placed g c = grind (arith, common_steps)
+
+pub begin-requires-clause-at : goal.begin-requires-clause-at
+begin-requires-clause-at g c = grind (arith, common_steps)
+
+pub follow-requires-clause-at : goal.follow-requires-clause-at
+follow-requires-clause-at g c = grind (arith, common_steps)
+
+pub follow-requires-clause-follows : goal.follow-requires-clause-follows
+follow-requires-clause-follows g c = grind (arith, common_steps)

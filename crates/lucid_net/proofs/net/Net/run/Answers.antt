@@ -1,4 +1,5 @@
-use Rattle.std.proofs.Common.{refl, subst, List, ℕ, rules}
+use Rattle.std.proofs.lemmas.Grind.{common_steps}
+use Rattle.std.proofs.Common.{refl, subst, List, ℕ, rules, arith}
 use Rattle.lucid_io.proofs.Leaves.{Leaves-whole, Leaves-after}
 use Rattle.lucid_net_laws.specs.Runs.{late_text}
 use Rattle.lucid_net_spec.specs.Log.{log}
@@ -27,3 +28,30 @@ returns-in-Ok-clause-log g c =
 
 pub returns-in-Err-clause-memory : goal.returns-in-Err-clause-memory
 returns-in-Err-clause-memory g c = search rules
+
+pub all_ticks-requires-clause-begins : goal.all_ticks-requires-clause-begins
+all_ticks-requires-clause-begins g c = grind (arith, common_steps)
+
+pub all_ticks-requires-clause-sound : goal.all_ticks-requires-clause-sound
+all_ticks-requires-clause-sound g c = grind (arith, common_steps)
+
+pub drain-requires-clause-done : goal.drain-requires-clause-done
+drain-requires-clause-done g c = grind (arith, common_steps)
+
+pub drain-requires-clause-sound : goal.drain-requires-clause-sound
+drain-requires-clause-sound g c = grind (arith, common_steps)
+
+pub returns-in-Ok-clause-sights : goal.returns-in-Ok-clause-sights
+returns-in-Ok-clause-sights g c = grind (arith, common_steps)
+
+pub returns-in-Ok-clause-still : goal.returns-in-Ok-clause-still
+returns-in-Ok-clause-still g c = grind (arith, common_steps)
+
+pub returns-in-Ok-clause-memory : goal.returns-in-Ok-clause-memory
+returns-in-Ok-clause-memory g c = grind (arith, common_steps)
+
+pub returns-in-Err-clause-sights : goal.returns-in-Err-clause-sights
+returns-in-Err-clause-sights g c = grind (arith, common_steps)
+
+pub returns-in-Err-clause-still : goal.returns-in-Err-clause-still
+returns-in-Err-clause-still g c = grind (arith, common_steps)
