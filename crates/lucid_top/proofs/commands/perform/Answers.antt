@@ -1,4 +1,5 @@
-use Rattle.std.proofs.Common.{◌≡◌, refl, rules}
+use Rattle.std.proofs.lemmas.Grind.{common_steps}
+use Rattle.std.proofs.Common.{◌≡◌, refl, rules, arith}
 use Rattle.lucid_top_words.specs.declared.command.Command.TheVariants as command
 use Rattle.lucid_top.proofs.Runs.{no-passes, no-sights, performs-for, runs-for, shows-for}
 use Rattle.lucid_top.proofs.commands.perform.Goals as goal
@@ -142,3 +143,39 @@ pub returns-in-Bench-clause-shown : goal.returns-in-Bench-clause-shown
 returns-in-Bench-clause-shown g c =
     let is : c.args.command ≡ command.Bench c.in-Bench.seed c.in-Bench.count = search rules in
     shows-for _ (g.V.Watch.seen c.args.watch.now) (g.V.Watch.seen c.bench.new.watch) c.bench.result is c.bench.ensures.shown
+
+pub check-requires : goal.check-requires
+check-requires g c = grind (arith, common_steps)
+
+pub once-requires : goal.once-requires
+once-requires g c = grind (arith, common_steps)
+
+pub expand-requires : goal.expand-requires
+expand-requires g c = grind (arith, common_steps)
+
+pub layout-requires : goal.layout-requires
+layout-requires g c = grind (arith, common_steps)
+
+pub run_whole-requires : goal.run_whole-requires
+run_whole-requires g c = grind (arith, common_steps)
+
+pub run_pipe-requires : goal.run_pipe-requires
+run_pipe-requires g c = grind (arith, common_steps)
+
+pub run_placed-requires : goal.run_placed-requires
+run_placed-requires g c = grind (arith, common_steps)
+
+pub drive-requires : goal.drive-requires
+drive-requires g c = grind (arith, common_steps)
+
+pub audit-requires : goal.audit-requires
+audit-requires g c = grind (arith, common_steps)
+
+pub snap-requires : goal.snap-requires
+snap-requires g c = grind (arith, common_steps)
+
+pub generate-requires : goal.generate-requires
+generate-requires g c = grind (arith, common_steps)
+
+pub bench-requires : goal.bench-requires
+bench-requires g c = grind (arith, common_steps)

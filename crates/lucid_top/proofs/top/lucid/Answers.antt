@@ -1,3 +1,5 @@
+use Rattle.std.proofs.Common.{arith}
+use Rattle.std.proofs.lemmas.Grind.{common_steps}
 use Rattle.lucid_top.proofs.Headlines.{make-same}
 use Rattle.lucid_top.proofs.Laws as laws
 use Rattle.lucid_top.proofs.RoomLemmas.{keep_views}
@@ -123,3 +125,6 @@ returns-clause-unread g c = c.call.ensures.unread
 
 pub returns-clause-tries : goal.returns-clause-tries
 returns-clause-tries g c = c.call.ensures.tries
+
+pub returns-clause-ended : goal.returns-clause-ended
+returns-clause-ended g c = grind (arith, common_steps)

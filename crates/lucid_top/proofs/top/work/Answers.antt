@@ -1,4 +1,5 @@
-use Rattle.std.proofs.Common.{◌≡◌, ◌∙◌, List, length, ap, refl, subst, Some, None, rules, sym}
+use Rattle.std.proofs.lemmas.Grind.{common_steps}
+use Rattle.std.proofs.Common.{◌≡◌, ◌∙◌, List, length, ap, refl, subst, Some, None, rules, sym, arith}
 use Rattle.std.proofs.lemmas.List.{length-map}
 use Rattle.lucid_top.specs.Answer.{MayStop, command_files}
 use Rattle.lucid_top.specs.Call.{bytes_of}
@@ -59,3 +60,15 @@ perform-requires g c =
     let read = read-length words (seen c.args.files.now) (seen c.read_files.new.files) c.files.result.now (texts_in c.in-Ok.texts.items) c.in-Ok.ensures.reads in
     let many : length c.in-Ok.texts.items ≡ length (texts_in c.in-Ok.texts.items) = sym (length-map c.in-Ok.texts.items _) in
     record { texts = ap length c.as_slice.ensures.value ∙ many ∙ read ∙ ap length c.files.ensures.files; counted = search rules }
+
+pub returns-in_default-clause-unread : goal.returns-in_default-clause-unread
+returns-in_default-clause-unread g c = grind (arith, common_steps)
+
+pub returns-in_default-clause-tries : goal.returns-in_default-clause-tries
+returns-in_default-clause-tries g c = grind (arith, common_steps)
+
+pub read_files-requires-clause-there : goal.read_files-requires-clause-there
+read_files-requires-clause-there g c = grind (arith, common_steps)
+
+pub read_files-requires-clause-small : goal.read_files-requires-clause-small
+read_files-requires-clause-small g c = grind (arith, common_steps)

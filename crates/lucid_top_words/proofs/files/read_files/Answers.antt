@@ -1,3 +1,4 @@
+use Rattle.std.proofs.lemmas.Grind.{common_steps}
 use Rattle.std.proofs.Common.{◌≡◌, [], List, length, ap, arith, rules}
 use Rattle.lucid_top_words.specs.declared.command.NamedFile.{NamedFile}
 use Rattle.lucid_top_words.proofs.Reading.{SoFar-more, SoFar-not, SoFar-end, TriesOnly-not, TriesOnly-one, files-next, files-none, is_one_of}
@@ -28,3 +29,21 @@ loop-file-preserved g c = record {
 
 pub returns-clause-reads : goal.returns-clause-reads
 returns-clause-reads g c = SoFar-end c.loop-file.invariant.so_far (files-none c.args.named.now c.loop-file.file-index c.loop-file-test.false)
+
+pub loop-file-init : goal.loop-file-init
+loop-file-init g c = grind (arith, common_steps)
+
+pub offset_bounds-named-file-index : goal.offset_bounds-named-file-index
+offset_bounds-named-file-index g c = grind (arith, common_steps)
+
+pub read_next-requires-clause-there : goal.read_next-requires-clause-there
+read_next-requires-clause-there g c = grind (arith, common_steps)
+
+pub read_next-requires-clause-small : goal.read_next-requires-clause-small
+read_next-requires-clause-small g c = grind (arith, common_steps)
+
+pub returns-clause-tries : goal.returns-clause-tries
+returns-clause-tries g c = grind (arith, common_steps)
+
+pub returns-clause-none : goal.returns-clause-none
+returns-clause-none g c = grind (arith, common_steps)

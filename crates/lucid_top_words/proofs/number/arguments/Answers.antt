@@ -1,4 +1,5 @@
-use Rattle.std.proofs.Common.{◌≡◌, ◌++◌, ◌∷◌, [], Some, string_bytes, rules, ◌∙◌}
+use Rattle.std.proofs.lemmas.Grind.{common_steps}
+use Rattle.std.proofs.Common.{◌≡◌, ◌++◌, ◌∷◌, [], Some, string_bytes, rules, ◌∙◌, arith}
 use Rattle.lucid_top_words.specs.Words.{number_of}
 use Rattle.lucid_top_words.proofs.Numbers.{numbers-next}
 use Rattle.lucid_top_words.proofs.number.arguments.Goals as goal
@@ -12,3 +13,9 @@ loop-word-preserved c =
       c.with_argument-args.ensures so_far c.loop-word.invariant.1,
       numbers-next so_far c.args.words.now c.loop-word.word-index c.word-item.result n c.loop-word-test.true (search rules) number ∙ c.loop-word.invariant.2,
     )
+
+pub returns-in_err-number : goal.returns-in_err-number
+returns-in_err-number c = grind (arith, common_steps)
+
+pub returns : goal.returns
+returns c = grind (arith, common_steps)

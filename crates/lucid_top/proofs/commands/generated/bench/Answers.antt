@@ -1,4 +1,5 @@
-use Rattle.std.proofs.Common.{◌≡◌, List, ℕ, [], ◌∷◌, Ok, Result, ◌∙◌, ap, subst, rules}
+use Rattle.std.proofs.lemmas.Grind.{common_steps}
+use Rattle.std.proofs.Common.{◌≡◌, List, ℕ, [], ◌∷◌, Ok, Result, ◌∙◌, ap, subst, rules, arith}
 use Rattle.lucid_gen.specs.Limits.{limits_text}
 use Rattle.lucid_gen.specs.Program.{program_text}
 use Rattle.lucid_gen.specs.Scene.{scene_text}
@@ -56,3 +57,6 @@ returns-clause-shown g c =
     subst (λ (l : List (List ℕ)). IsTheAnswer (IsReady (word_at l 0) (word_at l 1) (word_at l 2) ps) (Ok (ready_view c.in_ok-ready.ready))) ts c.in_ok-ready.ensures.ready in
     shown-after (IsReady (program_text c.args.seed) limits_text (scene_text c.args.seed c.args.events) ps) (λ r (p : Result (List Sight) Refusal). p ≡ Ok (sights_of r)) (ready_view c.in_ok-ready.ready) (g.V.Watch.seen c.args.watch.now) (g.V.Watch.seen c.bench_ready.new.watch)
     c.bench_ready.result is c.bench_ready.ensures.shown
+
+pub read-requires : goal.read-requires
+read-requires g c = grind (arith, common_steps)

@@ -1,0 +1,9 @@
+use Rattle.std.proofs.Common.{arith}
+use Rattle.std.proofs.lemmas.Grind.{common_steps}
+use Rattle.lucid_top_words.proofs.command.read_drive.Goals as goal
+
+pub returns-in-len3-clause-command : goal.returns-in-len3-clause-command
+returns-in-len3-clause-command c = grind (arith, common_steps)
+
+pub returns-in_default-clause-command : goal.returns-in_default-clause-command
+returns-in_default-clause-command c = grind (arith, common_steps)

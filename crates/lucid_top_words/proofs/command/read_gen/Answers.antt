@@ -1,0 +1,18 @@
+use Rattle.std.proofs.Common.{arith}
+use Rattle.std.proofs.lemmas.Grind.{common_steps}
+use Rattle.lucid_top_words.proofs.command.read_gen.Goals as goal
+
+pub returns-in_err-gen_kind-in-len3-clause-command : goal.returns-in_err-gen_kind-in-len3-clause-command
+returns-in_err-gen_kind-in-len3-clause-command c = grind (arith, common_steps)
+
+pub returns-in_err-number-in-len3-clause-command : goal.returns-in_err-number-in-len3-clause-command
+returns-in_err-number-in-len3-clause-command c = grind (arith, common_steps)
+
+pub returns-in_err-count-in-len3-clause-command : goal.returns-in_err-count-in-len3-clause-command
+returns-in_err-count-in-len3-clause-command c = grind (arith, common_steps)
+
+pub returns-in_ok-count-in-len3-clause-command : goal.returns-in_ok-count-in-len3-clause-command
+returns-in_ok-count-in-len3-clause-command c = grind (arith, common_steps)
+
+pub returns-in_default-clause-command : goal.returns-in_default-clause-command
+returns-in_default-clause-command c = grind (arith, common_steps)
