@@ -1,11 +1,13 @@
-"""`tools/prove`: its plan, and builds of small crates with a kit that only writes down what it is asked.
+"""`tools/prove`: its plan, and builds of small crates with a kit that only says that it proves them.
 
-Sees no proofs. Seen to fail:
+Sees no proofs, and nothing of what a kit keeps. Seen to fail:
 - run: a plan for one job, minutes of a processor that are seconds
-- whole: a crate that begins before its libraries are there, libraries that stay in their lane, one or three crates at a time, the shortest
-  chain first, another line of progress, a lane that stays, a wrong crate that ends with 0 or without its log; libraries with proofs,
-  one job for the lowest crate, or several for each
-- interrupted: libraries of the stopped build that no lane gets, SIGTERM without its handler, another status at an interrupt
+- whole: a copy with the tests, the wrong bodies or the out/ of a crate; a copy that is no repository; a program that stays in the copy; other
+  words for rt; another line of progress; a folder that stays
+- script: a --prove that builds what is built, or nothing at all
+- wrong: a build that goes on after a crate that is not proved, ends with 0, or shows the lines of another crate
+- interrupted: SIGTERM without its handler, an rt that outlives the build, another status at an interrupt, a crate that was kept and is
+  not counted
 """
 from __future__ import annotations
 
@@ -17,35 +19,40 @@ import subprocess
 import sys
 import time
 from pathlib import Path
-from typing import List
+from typing import List, Tuple
 
-from harness import TOP, Group, with_variables
+from harness import TOP, Group, call, with_variables
 
 from .script import tool_file
 
-# A crate and those that it depends on. Six depend on `low` alone, and `top` on all six.
-SIDES = [f"side_{letter}" for letter in "abcdef"]
-CRATES = {"low": "", **{side: "low" for side in SIDES}, "top": " ".join(SIDES), "lucid_main": "top"}
-# `rt lib` proves a crate if its libraries are there and its own is not, and takes a moment for it. `rt run` links the program. Libraries
-# with their proofs would load slowly, and several jobs prove slowly, but for the lowest crate.
+# A crate and those that it depends on. The program needs all but `tests`.
+CRATES = {"low": "", "side_a": "low", "side_b": "low", "top": "side_a side_b", "lucid_main": "top", "tests": "top"}
+PROGRAM = [crate for crate in CRATES if crate != "tests"]
+# `rt ci` says of each crate that it is proved, in a moment, and links the program. It keeps beside itself what it proved, and writes down
+# its process and what is in its folder.
 KIT = """#!/bin/sh
-calls=${0%/*}/calls
-name=${PWD##*/}
-[ ! -e "${0%/*}/wrong-$name" ] || { echo "a function is wrong"; exit 1; }
-case "$name $*" in "low lib --jobs 4 --statements" | [!l]*" lib --jobs 1 --statements" | *" run --jobs 1 -- "*) ;; *) echo "slow: $*"; exit 1 ;; esac
-for low in $(sed -n "s/^$name: *//p" ../../crates.txt); do
-    [ -e "../$low/out/rlib/stamp" ] || { echo "lacks $name $low" >>"$calls"; exit 1; }
+[ "$1" != version ] || { echo a kit; exit; }
+here=${0%/*}
+echo $$ >"$here/process"
+{ echo "rt $* $RT_JOBS"; find . | LC_ALL=C sort; cat crates.txt; } >"$here/call"
+for name in $(sed -n 's/^\\([a-z_]*\\):.*/\\1/p' crates.txt); do
+    if [ -e "$here/kept-$name" ]; then
+        echo "rt: $name is kept: an earlier run on this machine proved the same files over the same libraries"
+        continue
+    fi
+    sleep 0.3
+    echo "== $name"
+    for number in 1 2 3 4 5 6; do echo "$name says $number"; done
+    [ ! -e "$here/wrong-$name" ] || { echo "rt: $name NOT PROVED"; sleep 60; exit 1; }
+    touch "$here/kept-$name"
+    echo "rt: $name proved"
 done
-[ ! -e out/rlib/stamp ] || exit 0
-echo "begin $name" >>"$calls"
-sleep 0.2
-mkdir -p out/rlib out/incremental
-echo "$name" >out/incremental/kept
-echo "$name" >out/rlib/stamp
-if [ "$1" = run ]; then echo built >out/lucid_main; fi
-echo "end $name" >>"$calls"
+[ ! -e "$here/wrong" ] || { echo "a program that differs"; exit 1; }
+mkdir -p crates/lucid_main/out
+echo built >crates/lucid_main/out/lucid_main
+chmod +x crates/lucid_main/out/lucid_main
 """
-PROGRESS = r"lucid: [0-9]+ of 9 crates built, proving [a-z_, ]*; 0 min gone, about [0-9]+ min left"
+PROGRESS = r"lucid: [0-9]+ of 5 crates built; 0 min gone, about [0-9]+ min left"
 PLAN = r"([0-9]+) crates, ([0-9.]+) min of a processor, longest chain ([0-9.]+) min, with 4 jobs ([0-9.]+) min\n"
 SIGNALS = {"stopped": signal.SIGTERM, "at the terminal": signal.SIGINT, "killed": signal.SIGKILL}
 
@@ -56,81 +63,109 @@ def run(group: Group) -> None:
     fits = plan is not None and float(plan[2]) / 4 <= float(plan[4]) <= 25 and float(plan[3]) <= float(plan[4])
     group.check("the plan of four jobs is at most 25 minutes", fits, ended)
     whole(group)
+    wrong(group)
     for name in SIGNALS:
         interrupted(group, name)
 
 
 def project(group: Group, name: str) -> Path:
-    """A checkout of small crates with tools/prove and that kit."""
+    """A checkout of small crates with tools/prove and that kit. A crate has a source, a wrong body and a library."""
     top = group.room / name.replace(" ", "-")
-    for folder in ("tools", "tests", "lanes", *(f"crates/{crate}/src" for crate in CRATES)):
+    for folder in ("tools", "tests", "rooms"):
         (top / folder).mkdir(parents=True)
+    for crate in CRATES:
+        for path in ("src/lib.rt", "must-fail/a.edit", "out/rlib/stamp"):
+            (top / f"crates/{crate}/{path}").parent.mkdir(parents=True)
+            (top / f"crates/{crate}/{path}").touch()
     shutil.copy2(TOP / "tools/prove", top / "tools")
     (top / "crates.txt").write_text("# A note.\n" + "".join(f"{crate}: {low}\n" for crate, low in CRATES.items()))
-    (top / "tests/seconds").write_text("low 1\nside_f 200\n")
+    (top / "HANDLES").touch()
+    (top / "tests/seconds").write_text("low 1\nside_b 200\n")
     tool_file(top / "bin/rt", KIT)
     return top
 
 
 def begin(top: Path) -> "subprocess.Popen[bytes]":
-    """A build by four jobs, whose lanes are in a folder of the project. It takes an interrupt also if the gate runs in the background."""
-    env = with_variables(PATH=f"{top}/bin:{os.environ['PATH']}", TMPDIR=top / "lanes")
+    """A build whose copy is in a folder of the project. It takes an interrupt also if the gate runs in the background."""
+    env = with_variables(PATH=f"{top}/bin:{os.environ['PATH']}", TMPDIR=top / "rooms")
     heed = lambda: signal.signal(signal.SIGINT, signal.SIG_DFL)
     pipe = subprocess.PIPE
     return subprocess.Popen([sys.executable, top / "tools/prove", "4"], env=env, stdout=pipe, stderr=pipe, start_new_session=True, preexec_fn=heed)
 
 
-def calls_of(top: Path) -> List[str]:
-    """The lines that the kit wrote down."""
-    path = top / "bin/calls"
-    return path.read_text().splitlines() if path.exists() else []
+def build(top: Path) -> Tuple[int, List[str]]:
+    """The status of a build, and what it says."""
+    process = begin(top)
+    lines = process.communicate(timeout=120)[1].decode().splitlines()
+    return process.returncode, lines
 
 
-def kept(top: Path) -> List[str]:
-    """The crates whose libraries are there."""
-    return [crate for crate in CRATES if (top / f"crates/{crate}/out/rlib/stamp").exists()]
+def is_running(top: Path) -> bool:
+    """Whether rt still runs, a moment after it should have ended."""
+    time.sleep(0.5)
+    status = Path(f"/proc/{(top / 'bin/process').read_text().strip()}/status")
+    return status.exists() and "State:\tZ" not in status.read_text()
 
 
 def whole(group: Group) -> None:
     top = project(group, "whole")
-    process = begin(top)
-    lines = process.communicate(timeout=120)[1].decode().splitlines()
-    calls = calls_of(top)
-    group.check("a build", process.returncode == 0 and (top / "crates/lucid_main/out/lucid_main").exists(), lines)
-    begun = sorted(it for it in calls if not it.startswith("end"))
-    group.check("each crate once, above what it depends on", begun == sorted(f"begin {it}" for it in CRATES), calls)
-    group.check("the libraries are here", kept(top) == list(CRATES))
-    running = [sum(1 if it.startswith("begin") else -1 for it in calls[: count + 1]) for count in range(len(calls))]
-    group.check("four crates side by side", max(running, default=0) == 4, calls)
-    group.check("the longest chain first", "begin side_f" in calls[2:6], calls)
-    group.check("a line for each crate", len(lines) >= len(CRATES) // 2 and all(re.fullmatch(PROGRESS, it) for it in lines), lines)
-    group.check("no lane stays", os.listdir(top / "lanes") == [])
-    top = project(group, "wrong")
-    (top / "bin/wrong-side_c").touch()
-    process = begin(top)
-    lines = process.communicate(timeout=120)[1].decode().splitlines()
-    last = [f"lucid: side_c could not be built; {top}/out/side_c.log ends:", "a function is wrong"]
-    group.check("a crate that is not proved", process.returncode == 70 and lines[-2:] == last, lines)
-    group.check("no lane of it stays", os.listdir(top / "lanes") == [])
+    status, lines = build(top)
+    made = top / "crates/lucid_main/out/lucid_main"
+    group.check("a build", status == 0 and made.exists() and made.read_text() == "built\n", lines)
+    folders = [path for crate in sorted(PROGRAM) for path in (crate, f"{crate}/src", f"{crate}/src/lib.rt")]
+    copied = [".", "./.git", "./HANDLES", "./crates", "./crates.txt", *(f"./crates/{path}" for path in folders)]
+    wanted = ["rt ci 4", *copied, *(f"{crate}: {CRATES[crate]}" for crate in PROGRAM)]
+    call = (top / "bin/call").read_text().splitlines()
+    group.check("rt gets the crates of the program", call == wanted, call)
+    group.check("a line for each crate", len(lines) > len(PROGRAM) // 2 and all(re.fullmatch(PROGRESS, it) for it in lines), lines)
+    group.check("no copy stays", os.listdir(top / "rooms") == [])
+    group.check("what was there stays", (top / "crates/low/out/rlib/stamp").exists())
+    script(group, top)
+
+
+def script(group: Group, top: Path) -> None:
+    """`./lucid --prove` builds a program of these sources once."""
+    shutil.copy2(TOP / "lucid", top)
+    env = with_variables(PATH=f"{top}/bin:{os.environ['PATH']}", TMPDIR=top / "rooms")
+    made = f"lucid: the proved program is {top}/crates/lucid_main/out/lucid_main"
+    for what, calls in (("a changed source", True), ("the same sources", False)):
+        if calls:
+            (top / "crates/low/src/lib.rt").write_text("// new\n")
+        (top / "bin/call").unlink(missing_ok=True)
+        ended = call([top / "lucid", "--prove"], cwd=top, env=env)
+        group.check(f"--prove of {what}: the program", ended.status == 0 and ended.err.decode().splitlines()[-1:] == [made], ended)
+        group.check(f"--prove of {what}: calls of the kit", (top / "bin/call").exists() == calls, ended)
+
+
+def wrong(group: Group) -> None:
+    for name, mark, last in (("a crate that is not proved", "wrong-side_b", "side_b"), ("a program that is refused", "wrong", "the program")):
+        top = project(group, name)
+        (top / "bin" / mark).touch()
+        began = time.monotonic()
+        status, lines = build(top)
+        shown = [f"side_b says {number}" for number in range(2, 7)] if last == "side_b" else ["a program that differs"]
+        group.check(f"{name}: status", status == 70 and time.monotonic() - began < 30, (status, lines))
+        at = next((number for number, line in enumerate(lines) if not re.fullmatch(PROGRESS, line)), 0)
+        group.check(f"{name}: message", lines[at] == f"lucid: {last} could not be built; {top}/out/prove.log has:", lines)
+        group.check(f"{name}: the last lines", lines[-len(shown) :] == shown and len(lines) <= at + 6, lines)
+        group.check(f"{name}: nothing stays", os.listdir(top / "rooms") == [] and not is_running(top))
 
 
 def interrupted(group: Group, name: str) -> None:
-    """A build that is stopped or killed continues: what was built is not proved again."""
+    """A build that is stopped or killed ends rt, too. A later build counts the crates that the kit has kept."""
     top, number = project(group, name), SIGNALS[name]
     process = begin(top)
+    kept = lambda: len(list((top / "bin").glob("kept-*")))
     for _ in range(600):
-        if len(kept(top)) >= 3:
+        if kept() >= 2:
             break
         time.sleep(0.02)
     os.kill(process.pid, number)
     process.communicate(timeout=60)
-    found = kept(top)
-    group.check(f"a build is {name} in the middle", process.returncode in (143, 130, -9) and 3 <= len(found) < len(CRATES), (process.returncode, found))
-    # A kit that outlived the killed build ends in its own lane.
-    time.sleep(1 if number == signal.SIGKILL else 0)
-    group.check(f"no lane of it stays, {name}", number == signal.SIGKILL or os.listdir(top / "lanes") == [])
-    process = begin(top)
-    _, lines = process.communicate(timeout=120)
-    calls = calls_of(top)
-    group.check(f"a build continues, {name}", process.returncode == 0 and kept(top) == list(CRATES), lines)
-    group.check(f"what was built is not proved again, {name}", all(calls.count(f"begin {it}") == 1 for it in found), calls)
+    group.check(f"a build is {name} in the middle", process.returncode in (143, 130, -9) and 2 <= kept() < len(PROGRAM), process.returncode)
+    group.check(f"rt ends, {name}", not is_running(top))
+    group.check(f"no copy of it stays, {name}", number == signal.SIGKILL or os.listdir(top / "rooms") == [])
+    found = kept()
+    status, lines = build(top)
+    group.check(f"a build continues, {name}", status == 0 and (top / "crates/lucid_main/out/lucid_main").exists(), lines)
+    group.check(f"it counts what is kept, {name}", any(it.startswith(f"lucid: {found} of 5 ") for it in lines[:2]), lines)
