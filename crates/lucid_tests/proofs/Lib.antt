@@ -1,0 +1,4 @@
+pub mod ExampleProofs
+mod FlightsLemmas
+pub mod StepProofs
+mod WholeLemmas

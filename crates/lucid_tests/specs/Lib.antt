@@ -1,0 +1,4 @@
+pub mod FormExamples
+pub mod Refused
+pub mod Setup
+pub mod StepExamples

@@ -1,2 +1,0 @@
-pub mod ExampleProofs
-pub mod StepProofs

@@ -1,5 +1,0 @@
-use Rattle.lucid_tests_core.proofs.ExampleProofs.{rules_refuse}
-use Rattle.lucid_tests_core.proofs.examples.each_rule_refuses_what_breaks_it.Goals as goal
-
-pub returns : goal.returns
-returns c = rules_refuse

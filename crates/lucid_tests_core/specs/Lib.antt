@@ -1,3 +1,0 @@
-pub mod FormExamples
-pub mod Refused
-pub mod StepExamples

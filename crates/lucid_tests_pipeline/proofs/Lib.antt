@@ -1,2 +1,0 @@
-mod FlightsLemmas
-mod WholeLemmas
