@@ -1,7 +1,7 @@
 """The order of the house: names of files, names of definitions, links, English, and subjects of commits.
 
-Fails on a file of specs/ or proofs/ that is named after no source, on a trusted name that two pages define, on a head of a lib.rt that
-names other users than crates.txt or leaves out what may change, on a call of a law that is not written law::NAME, on a dead link or path
+Fails on a file of specs/ or proofs/ that is named after no source, on a trusted name that two pages define, on a type that two crates
+export, on a head of a lib.rt that names other users than crates.txt or leaves out what may change, on a call of a law that is not written law::NAME, on a dead link or path
 in a page, on a row of a table with other cells than its head, on worse English than the bounds, and on a commit subject that begins with
 Say or Tell or passes 72 characters. Today's exceptions are in tests/house.exceptions, which may only shrink: `--fill` drops those that are
 gone. Sees nothing of what the names mean.
@@ -26,6 +26,8 @@ ENGLISH: Dict[str, Tuple[float, float]] = {
     "specs": (12, 1),
     "proofs": (20, 1),
 }
+# What is wrong with the names of these keys.
+REPEATED = {"names": "defined in two trusted pages", "types": "exported by two crates"}
 COMMITS = 30
 # Commits up to this one are older than the rule.
 BEFORE = "678cbd6733dd1182ff16ee4d8f7d91c26fb7e63f"
@@ -33,13 +35,13 @@ SUBJECT = 72
 
 
 def run(group: Group) -> None:
-    found = {**misnamed(), "names": repeated_names()}
+    found = {**misnamed(), "names": repeated_names(), "types": repeated_types()}
     if group.options.fill:
         write_exceptions(found)
     known = read_exceptions()
     for key, names in sorted(found.items()):
         new = sorted(names - known.get(key, set()))
-        group.check(f"{key}: {'defined in two trusted pages' if key == 'names' else 'named after no source'}", not new, new)
+        group.check(f"{key}: {REPEATED.get(key, 'named after no source')}", not new, new)
         gone = sorted(known.get(key, set()) - names)
         group.check(f"{key}: tests/house.exceptions names nothing that is gone", not gone, gone)
     heads(group)
@@ -96,6 +98,18 @@ def repeated_names() -> Set[str]:
     for crate, page, name in definitions():
         pages[name].add(f"{crate} {page}")
     return {name for name, where in pages.items() if len(where) > 1}
+
+
+def repeated_types() -> Set[str]:
+    """Names of types that two crates define and export: those that a lib.rt takes from modules of its own."""
+    crates: Dict[str, Set[str]] = defaultdict(set)
+    for source in TOP.glob("crates/*/src/lib.rt"):
+        text = source.read_text()
+        for module, names in re.findall(r"^pub use (\w+)::([^;]*);", text, re.M):
+            if re.search(rf"^(?:pub )?mod {module};", text, re.M):
+                for name in re.findall(r"\b[A-Z]\w*[a-z]\w*", names):
+                    crates[name].add(source.parts[-3])
+    return {name for name, where in crates.items() if len(where) > 1}
 
 
 def used_by(users: List[str]) -> str:
