@@ -126,6 +126,7 @@ def whole(group: Group) -> None:
 def script(group: Group, top: Path) -> None:
     """`./lucid --prove` builds a program of these sources once."""
     shutil.copy2(TOP / "lucid", top)
+    shutil.copy2(TOP / "tools/jobs", top / "tools")
     env = with_variables(PATH=f"{top}/bin:{os.environ['PATH']}", TMPDIR=top / "rooms")
     made = f"lucid: the proved program is {top}/crates/lucid_main/out/lucid_main"
     for what, calls in (("a changed source", True), ("the same sources", False)):
