@@ -20,7 +20,7 @@ TOP = Path(__file__).resolve().parent.parent
 TESTS = TOP / "tests"
 EXAMPLES = TOP / "examples"
 PROGRAM = TOP / "crates/lucid_main/out/lucid_main"
-sys.path.insert(0, str(TOP / "tools"))  # for lucid_model, lucid_explain and lucid_tools
+sys.path.insert(0, str(TOP))  # for copperfinch
 FIRST = EXAMPLES / "first.luc"
 FIRST_LOG = b"[0] s0 pkt(5)\n  generate seen(5,7) delay 0 here\ns0 last[1] = 7\n"
 Word = Union[str, bytes, Path]

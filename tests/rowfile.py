@@ -7,7 +7,7 @@ from pathlib import Path
 from typing import Dict, List, Optional, Tuple
 
 from harness import TESTS, Ended
-from lucid_model.values import fnv
+from copperfinch.model.values import fnv
 
 ROWS = TESTS / "rows"
 Sum = Tuple[int, int]

@@ -14,11 +14,11 @@ from random import Random
 from typing import Any, Dict, List, Optional
 
 from harness import Ended, call
-from lucid_model import Answer, judge
-from lucid_model.json_files import Limits, read_limits
-from lucid_model.layout import Layout
-from lucid_model.passes import compose
-from lucid_model.refusals import Refused
+from copperfinch.model import Answer, judge
+from copperfinch.model.json_files import Limits, read_limits
+from copperfinch.model.layout import Layout
+from copperfinch.model.passes import compose
+from copperfinch.model.refusals import Refused
 
 from .mutated import JSON_WORDS, WORDS, bases, mutated
 from .programs import Program

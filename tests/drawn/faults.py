@@ -3,7 +3,7 @@
 
     tests/drawn/faults.py [--runs N] [--seed S] [--only WORD]
 
-Each fault of FAULTS changes one text in a file of tools/lucid_model, on a copy. The cases that `tests/run drawn` draws from the seed are
+Each fault of FAULTS changes one text in a file of copperfinch/model, on a copy. The cases that `tests/run drawn` draws from the seed are
 answered by the copy, one after another, until its answer is another than that of the unchanged implementation. The output is a table
 with the number of that case, counted from 1. The status is 1 if a fault is not found, or if its text is not in its file exactly once.
 
@@ -25,10 +25,10 @@ from typing import List, Optional, Tuple
 
 TOP = Path(__file__).resolve().parents[2]
 sys.dont_write_bytecode = True
-sys.path[:0] = [str(TOP / 'tests'), os.environ.get('LUCID_MODEL', str(TOP / 'tools'))]
-import lucid_model  # noqa: E402, F401; before the cases, which look for it in tools/
+sys.path[:0] = [str(TOP / 'tests'), os.environ.get('LUCID_MODEL', str(TOP))]
+import copperfinch.model  # noqa: E402, F401; before the cases, which look for it in the checkout
 from drawn.cases import Case, draw_case  # noqa: E402
-from lucid_tools.stack import deeply  # noqa: E402
+from copperfinch.stack import deeply  # noqa: E402
 
 Given = Tuple[int, bytes, bytes]  # an exit code and both streams
 STEP = 200
@@ -103,9 +103,8 @@ def first_difference() -> None:
 def search(fault: Fault, data: bytes) -> Optional[int]:
     """Returns the number of the first case with another answer, if there is one. A fault whose text is not there once is none."""
     with tempfile.TemporaryDirectory(prefix='fault') as folder:
-        for package in ('lucid_model', 'lucid_tools'):
-            shutil.copytree(TOP / 'tools' / package, Path(folder, package))
-        path = Path(folder, 'lucid_model', fault.file)
+        shutil.copytree(TOP / 'copperfinch', Path(folder, 'copperfinch'))
+        path = Path(folder, 'copperfinch/model', fault.file)
         text = path.read_text()
         if text.count(fault.old) != 1:
             return None

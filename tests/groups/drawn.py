@@ -1,4 +1,4 @@
-"""Drawn calls of all commands, with their files: the built program against the second implementation of tools/lucid_model.
+"""Drawn calls of all commands, with their files: the built program against the second implementation of copperfinch/model.
 
     tests/run drawn [--runs N] [--seed S] [--jobs J]
     tests/run drawn --seed S --only NUMBER      one call, with its files and both answers
@@ -21,9 +21,9 @@ from typing import List, Tuple
 
 from drawn.cases import COMMANDS, Case, draw_case
 from harness import Ended, Group
-from lucid_model import Answer, agrees
-from lucid_model.nodes import Literal
-from lucid_tools.stack import deeply
+from copperfinch.model import Answer, agrees
+from copperfinch.model.nodes import Literal
+from copperfinch.stack import deeply
 
 RUNS, STEP, SHOWN, MOST_TRIES = 3000, 50, 3, 1500
 # What is left out of a file that is made smaller: lines, brackets with what is before and within them, statements, and tokens.

@@ -16,7 +16,7 @@ from typing import Any, Dict, List, Tuple
 
 from harness import EXAMPLES, TOP, Group, call
 
-from lucid_tools.tokens import RESERVED, Token, position, scan
+from copperfinch.tokens import RESERVED, Token, position, scan
 
 # The beginnings of the scopes that an editor shows each sort of token in.
 SORTS = {"reserved": ("storage", "keyword.control", "constant.language", "support"), "name": ("entity", "variable"),

@@ -15,10 +15,10 @@ import sys
 from typing import Dict
 
 from harness import EXAMPLES, TOP, Ended, Group, call
-from lucid_explain import Report, explain
-from lucid_model import agrees
-from lucid_model.lexer import lex
-from lucid_tools.stack import deeply
+from copperfinch.explain import Report, explain
+from copperfinch.model import agrees
+from copperfinch.model.lexer import lex
+from copperfinch.stack import deeply
 from rowfile import Row, all_rows
 
 PLACED = {4, 5, 6, 7, 8, 9, 12, 13}

@@ -10,7 +10,7 @@ import hashlib
 from typing import Iterable, List, Tuple
 
 from harness import Ended, Group
-from lucid_model.values import fnv
+from copperfinch.model.values import fnv
 
 # The sums of texts whose length and FNV-1a of 64 bits another program computed: 656243 bytes and aaf906ff7e40814b, 257300 and
 # 6bccb096ed300ec8, 496898 and ea67e8ae1584b9f7.

@@ -11,7 +11,7 @@ from typing import Callable, Dict, List, Tuple
 
 from drawn.cases import draw_case
 from harness import TESTS, Group, Stopped, compile_c
-from lucid_tools.stack import deeply
+from copperfinch.stack import deeply
 
 from . import drawn, generated, refused, rows, streams, words
 

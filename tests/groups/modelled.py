@@ -1,4 +1,4 @@
-"""The second implementation of tools/lucid_model answers each call of tests/rows as the row says, byte by byte.
+"""The second implementation of copperfinch/model answers each call of tests/rows as the row says, byte by byte.
 
 Fails on another byte, status or line of the second implementation in any row; but of an `order:` refusal it takes each cycle that the
 order allows. Leaves out full outputs and memory that ends, which it cannot have. Sees nothing of programs that no row has.
@@ -9,8 +9,8 @@ from concurrent.futures import ProcessPoolExecutor
 from typing import List, Tuple
 
 from harness import Ended, Group
-from lucid_model import agrees, judge
-from lucid_tools.stack import deeply
+from copperfinch.model import agrees, judge
+from copperfinch.stack import deeply
 from rowfile import Row, all_rows
 
 PIECES = 16

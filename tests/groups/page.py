@@ -17,7 +17,7 @@ from typing import Any, Dict, List, Tuple
 from harness import Ended, Group, Word, call
 from samples import HITS, example, networks, scene
 
-from lucid_tools.printed import read_drive
+from copperfinch.drive import read_drive
 
 CHROMIUM = shutil.which("chromium") or shutil.which("chromium-browser")
 OPTIONS = "--headless --no-sandbox --disable-gpu --window-size=1400,900 --virtual-time-budget=2000 --dump-dom".split()

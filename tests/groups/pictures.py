@@ -17,8 +17,8 @@ from typing import Dict, List
 from harness import Group, Word
 from samples import answer_of, example, moves, networks, scene
 
-from lucid_tools.files import read_scene
-from lucid_tools.printed import Sent, read_log
+from copperfinch.files import read_scene
+from copperfinch.log import read_log
 
 TWINS = """global Array.t<<32>> last = Array.create(4);
 event note(int n);
@@ -98,23 +98,23 @@ def whole_log(group: Group, name: str) -> None:
     program, limits, own = example(name)
     log = group.call("run", "whole", program, limits, own).out
     made, read = group.tool("picture", "log", limits, own, given=log), read_log(log)
-    group.check(f"bars of {name}", bars(made.out) == {f"[{it.at}] s{it.switch} {it.label()}" for it in read.blocks}, made.err)
+    group.check(f"bars of {name}", bars(made.out) == {str(it) for it in read.events}, made.err)
     given = len(read_scene(own.read_bytes()).events)
-    sent = sum(isinstance(out, Sent) and not out.lost for it in read.blocks for out in it.outs)
+    sent = sum(not out.lost for it in read.events for out in it.sent)
     waits = read.end[2] if read.end else 0
     # What entered is of the scenario or was sent; what is pending did not enter.
-    group.check(f"arrows of {name}", len(arrows(made.out)) <= sent and given + sent == len(read.blocks) + waits, (sent, waits))
+    group.check(f"arrows of {name}", len(arrows(made.out)) <= sent and given + sent == len(read.events) + waits, (sent, waits))
 
 
 def parts(group: Group) -> None:
     """Options choose a part of a log."""
     program, limits, own = example("detector")
     log = group.call("run", "whole", program, limits, own).out
-    blocks = [it for it in read_log(log).blocks if it.switch == 0 and it.name != "pong"]
-    first, last = blocks[1].at, blocks[-2].at
+    blocks = [it for it in read_log(log).events if it.switch == 0 and it.name != "pong"]
+    first, last = blocks[1].tick, blocks[-2].tick
     made = group.tool("picture", "log", limits, own, "--switches", "0", "--ticks", f"{first}..{last}", "--without", "pong", given=log)
-    chosen = [it for it in blocks if first <= it.at <= last]
-    group.check("a part of a log", bars(made.out) == {f"[{it.at}] s0 {it.label()}" for it in chosen} and len(chosen) > 2, made)
+    chosen = [it for it in blocks if first <= it.tick <= last]
+    group.check("a part of a log", bars(made.out) == {str(it) for it in chosen} and len(chosen) > 2, made)
 
 
 def layouts(group: Group) -> None:

@@ -15,7 +15,7 @@ from typing import Any, Dict, Iterator, List, Tuple
 from harness import TOP, Group
 from samples import answer_of, example, moves, printed
 
-from lucid_tools.printed import read_cells, read_log
+from copperfinch.log import read_cells, read_log
 
 LOG = b"[0] s1 e(18446744073709551615)\n  say a generate f() delay 0 here\n  generate f() delay 3 to 2 lost\ns1 x[3] = 7\nentered 1 lost 1 pending 0\n"
 # The lines of objects by their kind.

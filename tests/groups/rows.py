@@ -10,8 +10,8 @@ from pathlib import Path
 from typing import Dict, Iterable, List
 
 from harness import Ended, Group, call
-from lucid_model import judge
-from lucid_tools.stack import deeply
+from copperfinch.model import judge
+from copperfinch.stack import deeply
 from rowfile import ROWS, Row, read_rows, sum_of, write_sums
 
 

@@ -12,8 +12,8 @@ from typing import Any, List, Tuple
 from harness import EXAMPLES, TOP, Group
 from samples import HITS
 
-from lucid_tools.files import LIMITS
-from lucid_tools.printed import read_layout
+from copperfinch.files import LIMITS
+from copperfinch.layout import read_layout
 
 KEYWORDS = set("$schema title description default type enum const minimum maximum pattern properties required additionalProperties items"
                " prefixItems minItems maxItems anyOf if then".split())

@@ -1,8 +1,8 @@
-"""`python3 -m lucid_model WORDS`: answers as the program `lucid` does, by its streams and its exit code. Not verified."""
+"""`python3 -m copperfinch.model WORDS`: answers as the program `lucid` does, by its streams and its exit code. Not verified."""
 import os
 import sys
 
-from lucid_tools.stack import deeply, read_file
+from ..stack import deeply, read_file
 
 from .answers import Answer, judge
 

@@ -3,8 +3,8 @@ import re
 from dataclasses import dataclass
 from typing import Any, Dict, List, Optional, Tuple
 
-from lucid_model.answers import Answer
-from lucid_model.json_files import STRING
+from ..model.answers import Answer
+from ..model.json_files import STRING
 
 WIDEST = 140  # of a shown line
 PIECE = re.compile(STRING + r'|[][{}:,]|[^][{}:,"\s]+', re.DOTALL)

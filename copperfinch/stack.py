@@ -1,4 +1,4 @@
-"""For programs that work with lucid_model: files, and a stack for programs that are nested as deep as the limits allow."""
+"""For programs that work with copperfinch.model: files, and a stack for programs that are nested as deep as the limits allow."""
 import sys
 import threading
 from typing import Callable, List

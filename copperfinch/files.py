@@ -4,7 +4,7 @@ import json
 from dataclasses import dataclass, field
 from typing import Any, Dict, List, Tuple
 
-from .words import Refused
+from .errors import FormatError
 
 LIMITS: Dict[str, Tuple[int, int, int]] = {
     "stages": (1, 32, 12), "tables": (1, 64, 16), "rows": (1, 1024, 64), "arrays": (1, 64, 4),
@@ -56,22 +56,22 @@ def object_of(text: bytes, what: str) -> Dict[str, Any]:
     try:
         found = json.loads(text.decode("utf-8"))
     except (ValueError, RecursionError):
-        raise Refused(f"the {what} file is no JSON") from None
+        raise FormatError(f"the {what} file is no JSON") from None
     if not isinstance(found, dict):
-        raise Refused(f"the {what} file is no object")
+        raise FormatError(f"the {what} file is no object")
     return found
 
 
 def number(value: Any, most: int, where: str, least: int = 0) -> int:
     """A number of a file within its range."""
     if isinstance(value, bool) or not isinstance(value, int) or not least <= value <= most:
-        raise Refused(f"{where} is no number of {least} to {most}")
+        raise FormatError(f"{where} is no number of {least} to {most}")
     return value
 
 
 def listed(value: Any, where: str) -> List[Any]:
     if not isinstance(value, list):
-        raise Refused(f"{where} is no list")
+        raise FormatError(f"{where} is no list")
     return value
 
 
@@ -80,7 +80,7 @@ def read_limits(text: bytes) -> Limits:
     found = object_of(text, "limits")
     for key in found:
         if key not in LIMITS:
-            raise Refused(f"the limits file has a key {json.dumps(key)}")
+            raise FormatError(f"the limits file has a key {json.dumps(key)}")
     return Limits(**{key: number(found.get(key, usual), most, f"{key} of the limits", least) for key, (least, most, usual) in LIMITS.items()})
 
 
@@ -89,27 +89,27 @@ def read_scene(text: bytes) -> Scene:
     found = object_of(text, "scenario")
     for key in found:
         if key not in ("version", "switches", "stop", "links", "down", "events", "steps"):
-            raise Refused(f"the scenario has a key {json.dumps(key)}")
+            raise FormatError(f"the scenario has a key {json.dumps(key)}")
     switches = number(found.get("switches", 1), 64, "switches of the scenario", 1)
     if "stop" not in found:
-        raise Refused("the scenario has no stop")
+        raise FormatError("the scenario has no stop")
     stop = number(found["stop"], 131072, "stop of the scenario")
     links: Dict[Tuple[int, int], int] = {}
     for at, it in enumerate(listed(found.get("links", []), "links")):
         if len(listed(it, f"links {at}")) != 3:
-            raise Refused(f"links {at} is no link")
+            raise FormatError(f"links {at} is no link")
         a, b = (number(end, switches - 1, f"links {at}") for end in it[:2])
         links[a, b] = links[b, a] = number(it[2], 65536, f"links {at}", 1)
     down = []
     for at, it in enumerate(listed(found.get("down", []), "down")):
         if len(listed(it, f"down {at}")) != 4:
-            raise Refused(f"down {at} is no window")
+            raise FormatError(f"down {at} is no window")
         a, b, start, until = (number(end, MOST, f"down {at}") for end in it)
         down.append((a, b, start, until))
     events = []
     for at, it in enumerate(listed(found.get("events", []), "events")):
         if not isinstance(it, dict) or set(it) != {"at", "switch", "name", "args"} or not isinstance(it["name"], str):
-            raise Refused(f"events {at} is no event")
+            raise FormatError(f"events {at} is no event")
         args = tuple(number(arg, MOST, f"events {at}") for arg in listed(it["args"], f"events {at}"))
         events.append(FileEvent(number(it["at"], MOST, f"events {at}"), number(it["switch"], switches - 1, f"events {at}"), it["name"], args))
     steps = [listed(it, f"steps {at}") for at, it in enumerate(listed(found.get("steps", []), "steps"))]

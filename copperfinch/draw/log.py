@@ -8,9 +8,9 @@ import math
 from dataclasses import dataclass, field
 from typing import Dict, List, Optional, Set, Tuple
 
-from .files import Limits, Scene
-from .network import Trace
-from .printed import Block, Said, Sent
+from ..files import Limits, Scene
+from ..lines import Event, Said, Sent
+from ..network import Trace
 from .svg import LETTER, SMALL, Colours, Picture, width_of
 
 WIDEST = 1200
@@ -26,9 +26,9 @@ class Choice:
     ticks: Optional[Tuple[int, int]] = None
     without: Set[str] = field(default_factory=set)
 
-    def has(self, block: Block) -> bool:
-        return ((self.switches is None or block.switch in self.switches) and (self.ticks is None or self.ticks[0] <= block.at <= self.ticks[1])
-                and block.name not in self.without)
+    def has(self, event: Event) -> bool:
+        return ((self.switches is None or event.switch in self.switches) and (self.ticks is None or self.ticks[0] <= event.tick <= self.ticks[1])
+                and event.name not in self.without)
 
 
 @dataclass
@@ -36,7 +36,7 @@ class Drawn:
     """An event that is drawn: its number in the log, its notes as text and class, and where it stands."""
 
     number: int
-    block: Block
+    event: Event
     notes: List[Tuple[str, str]]
     leaves: int
     sends: bool
@@ -56,14 +56,14 @@ class LogPicture:
         self.trace, self.limits, self.scene = trace, limits, scene
         self.stay, self.back = limits.stages, limits.stages + limits.recirc
         self.picture, self.colours = Picture(), Colours()
-        numbers = [it for it, block in enumerate(trace.log.blocks) if choice.has(block)]
+        numbers = [it for it, event in enumerate(trace.log.events) if choice.has(event)]
         self.shown = {number: self.drawn_of(number) for number in numbers}
         if choice.switches is None:
-            seen = {trace.log.blocks[it].switch for it in numbers} | {it.switch for it in trace.log.cells}
-            self.switches = sorted(seen if choice.ticks is None and not choice.without else {trace.log.blocks[it].switch for it in numbers})
+            seen = {trace.log.events[it].switch for it in numbers} | {it.switch for it in trace.log.cells}
+            self.switches = sorted(seen if choice.ticks is None and not choice.without else {trace.log.events[it].switch for it in numbers})
         else:
             self.switches = sorted(it for it in choice.switches if it < scene.switches)
-        self.is_part = len(self.shown) < len(trace.log.blocks)
+        self.is_part = len(self.shown) < len(trace.log.events)
         # Shown in columns, unless that is too wide.
         self.is_wide, self.is_tight = True, False
         self.set_slots()
@@ -74,29 +74,29 @@ class LogPicture:
 
     def drawn_of(self, number: int) -> Drawn:
         """An event with the lines that are written below it."""
-        block = self.trace.log.blocks[number]
+        event = self.trace.log.events[number]
         ways = {it.out: it for it in self.trace.ways[number]}
         notes: List[Tuple[str, str]] = []
         entry = self.trace.entries[number]
-        if entry.ready < block.at:
-            notes.append((f"waited {plural(block.at - entry.ready, 'tick')}", "small grey"))
-        for index, out in enumerate(block.outs):
+        if entry.ready < event.tick:
+            notes.append((f"waited {plural(event.tick - entry.ready, 'tick')}", "small grey"))
+        for index, out in enumerate(event.outs):
             if isinstance(out, Said):
                 notes.append((f'"{out.text}"', "small grey"))
                 continue
-            way, name = ways[index], f"{out.name}({','.join(map(str, out.args))})"
+            way, name = ways[index], str(out)
             if out.lost:
                 notes.append((f"lost at {way.leaves}: {name} to {way.target}", "small red"))
             elif (number, index) not in self.trace.receiver:
                 notes.append((f"pending: {name}{'' if out.to is None else f' to {way.target}'}, ready at {way.ready}", "small grey"))
-        return Drawn(number, block, notes, block.at + self.stay, any(isinstance(it, Sent) for it in block.outs))
+        return Drawn(number, event, notes, event.tick + self.stay, any(isinstance(it, Sent) for it in event.outs))
 
     def title(self, it: Drawn) -> str:
-        """The tooltip of an event: its whole block."""
+        """The tooltip of an event: all its lines."""
         entry = self.trace.entries[it.number]
-        lines = [f"[{it.block.at}] s{it.block.switch} {it.block.label()}"]
+        lines = [f"[{it.event.tick}] s{it.event.switch} {it.event.label()}"]
         if entry.way:
-            lines.append(f"sent at {self.trace.log.blocks[entry.way.sender].at} by s{self.trace.log.blocks[entry.way.sender].switch}, ready at {entry.ready}")
+            lines.append(f"sent at {self.trace.log.events[entry.way.sender].tick} by s{self.trace.log.events[entry.way.sender].switch}, ready at {entry.ready}")
         else:
             lines.append(f"event {entry.file} of the scenario, ready at {entry.ready}")
         return "\n".join(lines + [text for text, _ in it.notes])
@@ -108,11 +108,11 @@ class LogPicture:
         self.slots: Dict[int, int] = {it: 0 for it in self.switches}
         free: Dict[int, List[float]] = {it: [] for it in self.switches}
         for it in self.shown.values():
-            ends = free[it.block.switch]
-            until = it.block.at + (self.back + 0.5 if it.sends else self.stay)
-            it.slot = next((k for k, end in enumerate(ends) if end <= it.block.at), len(ends))
+            ends = free[it.event.switch]
+            until = it.event.tick + (self.back + 0.5 if it.sends else self.stay)
+            it.slot = next((k for k, end in enumerate(ends) if end <= it.event.tick), len(ends))
             ends[it.slot:it.slot + 1] = [until]
-            self.slots[it.block.switch] = max(self.slots[it.block.switch], len(ends))
+            self.slots[it.event.switch] = max(self.slots[it.event.switch], len(ends))
 
     def cells_of(self, switch: int) -> List[str]:
         """The first cells of a switch at the end, and how many more there are."""
@@ -120,15 +120,15 @@ class LogPicture:
         return found[:10] + ([f"and {len(found) - 10} more"] if len(found) > 10 else [])
 
     def tick_width(self) -> float:
-        return LETTER * max([4] + [len(str(it.block.at)) for it in self.shown.values()]) + 28
+        return LETTER * max([4] + [len(str(it.event.tick)) for it in self.shown.values()]) + 28
 
     def set_columns(self) -> None:
         wide = {switch: max([60.0] + [width_of(it, SMALL) for it in self.cells_of(switch)]) for switch in self.switches}
-        loops = {self.shown[r].block.switch for (s, _), r in self.trace.receiver.items()
-                 if r in self.shown and s in self.shown and self.shown[r].block.switch == self.shown[s].block.switch}
+        loops = {self.shown[r].event.switch for (s, _), r in self.trace.receiver.items()
+                 if r in self.shown and s in self.shown and self.shown[r].event.switch == self.shown[s].event.switch}
         for it in self.shown.values():
-            switch = it.block.switch
-            wide[switch] = max([wide[switch], width_of(it.block.label())] + [8 + width_of(text, SMALL) for text, _ in it.notes])
+            switch = it.event.switch
+            wide[switch] = max([wide[switch], width_of(it.event.label())] + [8 + width_of(text, SMALL) for text, _ in it.notes])
         x = self.tick_width()
         self.column: Dict[int, float] = {}
         self.pitch = 12.0
@@ -150,15 +150,15 @@ class LogPicture:
         self.is_tight = any(right - left < 18 for left, right in zip(places, places[1:]))
 
     def text_x(self, it: Drawn) -> float:
-        return self.column[it.block.switch] + self.slots[it.block.switch] * self.pitch + 4 if self.is_wide else self.texts
+        return self.column[it.event.switch] + self.slots[it.event.switch] * self.pitch + 4 if self.is_wide else self.texts
 
     def set_axis(self) -> None:
         """Places of all ticks at which something enters or leaves, from the top on, with room for texts and for repeated headings."""
         ticks: Set[int] = set()
         entering: Dict[int, List[Drawn]] = {}
         for it in self.shown.values():
-            ticks |= {it.block.at, it.leaves} | ({it.block.at + self.back} if it.sends else set())
-            entering.setdefault(it.block.at, []).append(it)
+            ticks |= {it.event.tick, it.leaves} | ({it.event.tick + self.back} if it.sends else set())
+            entering.setdefault(it.event.tick, []).append(it)
         self.points = sorted(ticks)
         self.spots: List[float] = []
         self.headings: List[float] = []
@@ -169,7 +169,7 @@ class LogPicture:
                 y += max(5.0, min(2.5 * (tick - last), 30.0))
             last = tick
             for it in entering.get(tick, []):
-                y = max(y, row + 13, below.get(it.block.switch if self.is_wide else 0, 0))
+                y = max(y, row + 13, below.get(it.event.switch if self.is_wide else 0, 0))
             if tick in entering and y > heading:
                 y = max([y] + list(below.values())) + (44 if self.is_tight else 34)
                 self.headings.append(y - (28 if self.is_tight else 23))
@@ -179,11 +179,11 @@ class LogPicture:
             for it in entering.get(tick, []):
                 if self.is_wide:
                     it.y = y
-                    below[it.block.switch] = y + 5 + 14 * (1 + len(it.notes))
+                    below[it.event.switch] = y + 5 + 14 * (1 + len(it.notes))
                 else:
                     it.y = max(y, below.get(0, 0))
                     below[0] = it.y + 14 + 13 * len(it.notes)
-                it.x = self.column[it.block.switch] + self.pitch * it.slot
+                it.x = self.column[it.event.switch] + self.pitch * it.slot
             if not self.is_wide and tick in entering:
                 y = max(y, entering[tick][-1].y)
         self.foot = max([y + 14] + [it for it in below.values()]) + 10
@@ -208,9 +208,9 @@ class LogPicture:
 
     def leave_y(self, it: Drawn) -> float:
         """Where the ways of what an event sent begin: below the text of another event that enters there at that tick."""
-        tick = it.block.at + self.back
+        tick = it.event.tick + self.back
         y = max(self.y_at(tick), self.bar_end(it))
-        taken = any(other.block.at == tick and other.block.switch == it.block.switch for other in self.at_tick.get(tick, []))
+        taken = any(other.event.tick == tick and other.event.switch == it.event.switch for other in self.at_tick.get(tick, []))
         return y + 8 if taken and self.is_wide else y
 
     def bar_end(self, it: Drawn) -> float:
@@ -226,11 +226,11 @@ class LogPicture:
 
     def draw_arrow(self, sender: Drawn, it: Drawn, sent: Sent) -> None:
         """An arrow from the end of a sender's tail to the event that it sent."""
-        picture, shade = self.picture, self.colours.of(it.block.name)
+        picture, shade = self.picture, self.colours.of(it.event.name)
         x, x2, y2 = self.middle(sender), self.middle(it), it.y
-        here = it.block.switch == sender.block.switch
+        here = it.event.switch == sender.event.switch
         y = min(self.leave_y(sender), y2) if here else self.leave_y(sender)
-        title = f"{it.block.label()}: s{sender.block.switch}, left at {sender.block.at + self.back + sent.delay}, to s{it.block.switch}, entered at {it.block.at}"
+        title = f"{it.event.label()}: s{sender.event.switch}, left at {sender.event.tick + self.back + sent.delay}, to s{it.event.switch}, entered at {it.event.tick}"
         look = f'fill="none" stroke="{shade}" stroke-width="1.3" opacity="{0.75 if self.is_wide else 0.5}"'
         if here and y2 - y > 12:
             bend = 26 if self.is_wide else 12
@@ -238,7 +238,7 @@ class LogPicture:
             self.arrow_head(x2 - 4, y2, 1, 0.4, shade)
             return
         if not here and x2 < x and self.is_wide:
-            x2 = self.text_x(it) + 2 + width_of(it.block.label())
+            x2 = self.text_x(it) + 2 + width_of(it.event.label())
         elif x2 != x:
             x2 += 5 if x2 < x else -5
         else:
@@ -248,14 +248,14 @@ class LogPicture:
             self.arrow_head(x2, y2, x2 - x, y2 - y, shade)
 
     def draw_event(self, it: Drawn) -> None:
-        picture, entry, shade = self.picture, self.trace.entries[it.number], self.colours.of(it.block.name)
+        picture, entry, shade = self.picture, self.trace.entries[it.number], self.colours.of(it.event.name)
         wide, end, title = self.bar_width(), self.bar_end(it), self.title(it)
         picture.box(2, it.x, it.y, wide, end - it.y, f'fill="{shade}" opacity="0.45"', title)
-        if self.colours.is_striped(it.block.name):
+        if self.colours.is_striped(it.event.name):
             picture.line(2, self.middle(it), it.y, self.middle(it), end, 'stroke="#fff" stroke-width="1.5" stroke-dasharray="3 3"')
-        if entry.ready < it.block.at:
+        if entry.ready < it.event.tick:
             picture.line(1, it.x - 2, self.y_at(entry.ready), it.x - 2, it.y, f'stroke="{shade}" stroke-width="1" stroke-dasharray="2 3"',
-                         f"{it.block.label()} waited from {entry.ready} to {it.block.at}")
+                         f"{it.event.label()} waited from {entry.ready} to {it.event.tick}")
         if it.sends and self.leave_y(it) > end:
             picture.line(2, self.middle(it), end, self.middle(it), self.leave_y(it), f'stroke="{shade}" stroke-width="1.3"')
         lost = [text for text, kind in it.notes if kind == "small red"]
@@ -270,17 +270,17 @@ class LogPicture:
     def write_event(self, it: Drawn, title: str) -> None:
         picture, x = self.picture, self.text_x(it)
         if self.is_wide:
-            picture.write_over(x, it.y + 4, it.block.label(), title=title)
+            picture.write_over(x, it.y + 4, it.event.label(), title=title)
             for at, (text, kind) in enumerate(it.notes):
                 picture.write_over(x + 8, it.y + 18 + 14 * at, text, kind)
             return
         picture.line(1, self.middle(it) + 6, it.y, x - 4, it.y, 'stroke="#ddd" stroke-width="0.8"')
-        label = f"s{it.block.switch} {it.block.label()}"
+        label = f"s{it.event.switch} {it.event.label()}"
         picture.write(4, x, it.y + 4, label, title=title)
         way = self.trace.entries[it.number].way
         if way:
-            sender = self.trace.log.blocks[way.sender]
-            picture.write(4, x + width_of(label) + 8, it.y + 4, f"← s{sender.switch} of {sender.at}", "small grey")
+            sender = self.trace.log.events[way.sender]
+            picture.write(4, x + width_of(label) + 8, it.y + 4, f"← s{sender.switch} of {sender.tick}", "small grey")
         for at, (text, kind) in enumerate(it.notes):
             picture.write(4, x + 12, it.y + 17 + 13 * at, text, kind)
 
@@ -342,7 +342,7 @@ class LogPicture:
         self.set_axis()
         self.at_tick: Dict[int, List[Drawn]] = {}
         for it in self.shown.values():
-            self.at_tick.setdefault(it.block.at, []).append(it)
+            self.at_tick.setdefault(it.event.tick, []).append(it)
         right = self.texts_end - 10 if self.is_wide else self.texts - 8
         for tick, its in self.at_tick.items():
             picture.write(4, 20, its[0].y + 4, str(tick), "small grey")
@@ -353,7 +353,7 @@ class LogPicture:
         for it in self.shown.values():
             way = self.trace.entries[it.number].way
             if way and way.sender in self.shown:
-                sent = self.trace.log.blocks[way.sender].outs[way.out]
+                sent = self.trace.log.events[way.sender].outs[way.out]
                 assert isinstance(sent, Sent)
                 self.draw_arrow(self.shown[way.sender], it, sent)
             self.draw_event(it)

@@ -4,9 +4,10 @@ import heapq
 from dataclasses import dataclass, field
 from typing import List, Optional, Tuple
 
+from .errors import FormatError
 from .files import MOST, Limits, Scene
-from .printed import Block, Log, Sent
-from .words import Refused
+from .lines import Event, Sent, call_text
+from .log import Log
 
 
 @dataclass(frozen=True)
@@ -31,7 +32,7 @@ class Entry:
 
 @dataclass
 class Trace:
-    """A log with the way of each event. `ways[i]` are those of what block i sent; `waiting` are those that did not enter."""
+    """A log with the way of each event. `ways[i]` are those of what event i sent; `waiting` are those that did not enter."""
 
     log: Log
     entries: List[Entry] = field(default_factory=list)
@@ -40,14 +41,14 @@ class Trace:
     receiver: dict = field(default_factory=dict)
 
 
-def way_of(limits: Limits, scene: Scene, number: int, block: Block, out: int, sent: Sent) -> Way:
+def way_of(limits: Limits, scene: Scene, number: int, event: Event, out: int, sent: Sent) -> Way:
     """The way of an event: it departs `stages` and `recirc` and its delay after its sender entered, and takes the latency of its link."""
-    leaves = min(block.at + limits.stages + limits.recirc + sent.delay, MOST)
-    target = block.switch if sent.to is None else sent.to
-    if target == block.switch:
+    leaves = min(event.tick + limits.stages + limits.recirc + sent.delay, MOST)
+    target = event.switch if sent.to is None else sent.to
+    if target == event.switch:
         return Way(number, out, leaves, target, leaves)
-    latency = scene.links.get((block.switch, target))
-    if latency is None or scene.is_down(block.switch, target, leaves):
+    latency = scene.links.get((event.switch, target))
+    if latency is None or scene.is_down(event.switch, target, leaves):
         return Way(number, out, leaves, target, None)
     return Way(number, out, leaves, target, min(leaves + latency, MOST))
 
@@ -55,7 +56,7 @@ def way_of(limits: Limits, scene: Scene, number: int, block: Block, out: int, se
 def trace(log: Log, limits: Limits, scene: Scene) -> Trace:
     """Follows the queues. Refuses a log that no run of these files prints, with its first line that does not fit."""
     if log.end is None:
-        raise Refused("the log has no last line `entered ..`: it is cut off, or no log of `run`")
+        raise FormatError("the log has no last line `entered ..`: it is cut off, or no log of `run`")
     found = Trace(log)
     # Of events that were ready at one tick those of the scenario go first, then those that were sent, by sender and number.
     queues: List[List[Tuple[Tuple[int, bool, int, int, int], int, str, Tuple[int, ...], Entry]]] = [[] for _ in range(scene.switches)]
@@ -65,20 +66,20 @@ def trace(log: Log, limits: Limits, scene: Scene) -> Trace:
     for queue in queues:
         heapq.heapify(queue)
     turn = follow(found, limits, scene, queues)
-    if turn < len(log.blocks):
-        raise Refused(f"line {log.blocks[turn].line} does not fit the files: no event enters at or after tick {scene.stop}")
+    if turn < len(log.events):
+        raise FormatError(f"line {log.events[turn].line} does not fit the files: no event enters at or after tick {scene.stop}")
     found.waiting = [it[4] for queue in queues for it in sorted(queue, key=lambda it: it[0])]
     if len(found.waiting) != log.end[2]:
-        raise Refused(f"the last line does not fit the files: {len(found.waiting)} are pending")
+        raise FormatError(f"the last line does not fit the files: {len(found.waiting)} are pending")
     for cell in log.cells:
         if cell.switch >= scene.switches:
-            raise Refused(f"the log does not fit the files: it has a switch {cell.switch}")
+            raise FormatError(f"the log does not fit the files: it has a switch {cell.switch}")
     return found
 
 
 def follow(found: Trace, limits: Limits, scene: Scene, queues: List[list]) -> int:
-    """Runs the ticks at which something enters; returns how many blocks of the log entered."""
-    blocks, turn = found.log.blocks, 0
+    """Runs the ticks at which something enters; returns how many events of the log entered."""
+    events, turn = found.log.events, 0
     # The next tick at which each switch takes an event: its queue's first ready tick, but not before its last turn has passed.
     free = [0] * scene.switches
     while True:
@@ -88,30 +89,30 @@ def follow(found: Trace, limits: Limits, scene: Scene, queues: List[list]) -> in
             return turn
         _, _, name, args, entry = heapq.heappop(queues[switch])
         free[switch] = tick + 1
-        if turn >= len(blocks):
-            raise Refused(f"the log does not fit the files: it has no event {name}({','.join(map(str, args))}) at tick {tick} on switch {switch}")
-        block = blocks[turn]
-        if (block.at, block.switch, block.name, block.args) != (tick, switch, name, args):
-            wanted = f"[{tick}] s{switch} {name}({','.join(map(str, args))})"
-            raise Refused(f"line {block.line} does not fit the files: they ask for {wanted} there")
+        if turn >= len(events):
+            raise FormatError(f"the log does not fit the files: it has no event {call_text(name, args)} at tick {tick} on switch {switch}")
+        event = events[turn]
+        if (event.tick, event.switch, event.name, event.args) != (tick, switch, name, args):
+            wanted = f"[{tick}] s{switch} {call_text(name, args)}"
+            raise FormatError(f"line {event.line} does not fit the files: they ask for {wanted} there")
         found.entries.append(entry)
         if entry.way:
             found.receiver[entry.way.sender, entry.way.out] = turn
-        send(found, limits, scene, queues, turn, block)
+        send(found, limits, scene, queues, turn, event)
         turn += 1
 
 
-def send(found: Trace, limits: Limits, scene: Scene, queues: List[list], turn: int, block: Block) -> None:
+def send(found: Trace, limits: Limits, scene: Scene, queues: List[list], turn: int, event: Event) -> None:
     """Queues what an event sends out."""
     ways: List[Way] = []
-    for out, sent in enumerate(block.outs):
+    for out, sent in enumerate(event.outs):
         if not isinstance(sent, Sent):
             continue
-        way = way_of(limits, scene, turn, block, out, sent)
+        way = way_of(limits, scene, turn, event, out, sent)
         if (way.ready is None) != sent.lost:
-            raise Refused(f"line {block.line + 1 + out} does not fit the files: {'it is lost' if way.ready is None else 'it is not lost'} there")
+            raise FormatError(f"line {event.line + 1 + out} does not fit the files: {'it is lost' if way.ready is None else 'it is not lost'} there")
         ways.append(way)
         if way.ready is not None:
-            key = (way.ready, True, block.at, block.switch, out)
+            key = (way.ready, True, event.tick, event.switch, out)
             heapq.heappush(queues[way.target], (key, turn * 8 + out, sent.name, sent.args, Entry(way.ready, way, None)))
     found.ways.append(ways)

@@ -1,10 +1,10 @@
 """The picture of a layout: the stages side by side, as many in a row as fit, and the tables of each with what is in them."""
 from typing import Dict, List
 
-from .files import Limits
-from .printed import Layout, Table
+from ..errors import FormatError
+from ..files import Limits
+from ..layout import Layout, Table
 from .svg import LETTER, SMALL, Picture, number, width_of
-from .words import Refused
 
 WIDEST = 1200
 
@@ -15,9 +15,9 @@ def check(layout: Layout, limits: Limits) -> None:
     for it in layout.tables:
         arrays[it.stage] = arrays.get(it.stage, 0) + len(it.arrays)
         if it.stage >= limits.stages or it.table >= limits.tables or it.rows > limits.rows or arrays[it.stage] > limits.arrays:
-            raise Refused(f"stage {it.stage} table {it.table} does not fit the limits")
+            raise FormatError(f"stage {it.stage} table {it.table} does not fit the limits")
     if layout.bits > limits.bits:
-        raise Refused(f"bits {layout.bits} do not fit the limits")
+        raise FormatError(f"bits {layout.bits} do not fit the limits")
 
 
 def plural(count: int, word: str) -> str:

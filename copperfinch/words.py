@@ -8,10 +8,6 @@ from typing import List, NoReturn, Optional
 FILE, ANSWER = 8 * 2**20, 256 * 2**20
 
 
-class Refused(Exception):
-    """An input that a tool does not accept. The text says which line or key, and why."""
-
-
 class Tool:
     """A tool by its name and its usage. It ends with 2 for words of another form, and with 1 for an input that it refuses."""
 

@@ -1,4 +1,4 @@
-"""Explanations of refusals and of layouts, on the second implementation in tools/lucid_model (not verified).
+"""Explanations of refusals and of layouts, on the second implementation in copperfinch.model (not verified).
 
 `explain(words, read_file)` explains the call of `lucid` with these words; tools/explain is its command line. The modules are `words`
 for the text of each refusal, `places` for lines and columns, and `nodes` for the nodes of a program.
@@ -8,11 +8,11 @@ from __future__ import annotations
 from dataclasses import dataclass, field
 from typing import Any, Callable, Dict, List, Optional, Sequence, Tuple
 
-from lucid_model.answers import Answer, judge
-from lucid_model.json_files import Limits, read_limits
-from lucid_model.layout import Layout
-from lucid_model.passes import compose
-from lucid_model.refusals import Refused
+from ..model.answers import Answer, judge
+from ..model.json_files import Limits, read_limits
+from ..model.layout import Layout
+from ..model.passes import compose
+from ..model.refusals import Refused
 
 from .nodes import Described
 from .places import Place, Sources

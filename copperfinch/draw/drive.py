@@ -3,10 +3,11 @@ of steps that could not be done are one row."""
 from dataclasses import dataclass, field
 from typing import Dict, List, Optional, Tuple
 
-from .files import Limits, Scene
-from .printed import Block, Drive, Said, Sent, Step, by_stages
+from ..drive import Drive, Step, by_stages
+from ..errors import FormatError
+from ..files import Limits, Scene
+from ..lines import Event, Said
 from .svg import LETTER, SHADES, Picture, width_of
-from .words import Refused
 
 PITCH = 44
 # Headings are repeated after so many pixels.
@@ -28,32 +29,32 @@ class Row:
 def check(drive: Drive, limits: Limits, scene: Scene) -> None:
     """Refuses a drive whose lines are not those of the steps and the events of the scenario."""
     if len(drive.steps) != len(scene.steps):
-        raise Refused(f"the drive has {len(drive.steps)} steps, and the scenario {len(scene.steps)}")
+        raise FormatError(f"the drive has {len(drive.steps)} steps, and the scenario {len(scene.steps)}")
     words = {"enter": ("enter", "busy", "none"), "go": ("go", "empty", "ahead"), "look": ("look",)}
     for number, (step, wanted) in enumerate(zip(drive.steps, scene.steps)):
         word = wanted[0] if wanted and isinstance(wanted[0], str) else ""
         fits = step.word in words.get(word, ()) and (word != "go" or len(wanted) == 2 and step.numbers[0] == wanted[1])
         if not fits or word == "look" and step.array != wanted[1]:
-            raise Refused(f"step {number + 1} does not fit the scenario: {step.text}")
+            raise FormatError(f"step {number + 1} does not fit the scenario: {step.text}")
         if step.word == "none" and drive.entered < len(scene.events):
-            raise Refused(f"step {number + 1} does not fit the scenario: {step.text}")
+            raise FormatError(f"step {number + 1} does not fit the scenario: {step.text}")
     if drive.entered + drive.left != len(scene.events):
-        raise Refused(f"the scenario has {len(scene.events)} events, and the last line says {drive.entered} and {drive.left}")
+        raise FormatError(f"the scenario has {len(scene.events)} events, and the last line says {drive.entered} and {drive.left}")
     by_stages(drive, limits.stages)
-    blocks = [it for step in drive.steps for it in step.blocks] + drive.flushed
-    for block, event in zip(blocks, scene.events):
-        if (block.at, block.switch, block.name, block.args) != (event.at, event.switch, event.name, event.args):
-            raise Refused(f"line {block.line} does not fit the scenario")
+    events = [it for step in drive.steps for it in step.events] + drive.flushed
+    for event, given in zip(events, scene.events):
+        if (event.tick, event.switch, event.name, event.args) != (given.at, given.switch, given.name, given.args):
+            raise FormatError(f"line {event.line} does not fit the scenario")
 
 
-def lines_of(block: Block) -> List[str]:
-    """The lines of a block, as they are printed but without their indent."""
-    out = [f"[{block.at}] s{block.switch} {block.label()}"]
-    for it in block.outs:
+def lines_of(event: Event) -> List[str]:
+    """The lines of an event, as they are printed but without their indent."""
+    out = [str(event)]
+    for it in event.outs:
         if isinstance(it, Said):
             out.append(f"say {it.text}")
-        elif isinstance(it, Sent):
-            out.append(f"generate {it.name}({','.join(map(str, it.args))}) delay {it.delay} {'here' if it.to is None else f'to {it.to}'}")
+        else:
+            out.append(f"generate {it} delay {it.delay} {'here' if it.to is None else f'to {it.to}'}")
     return out
 
 
@@ -86,14 +87,14 @@ def rows_of(drive: Drive, stages: int) -> List[Row]:
             if step.numbers[0] + 1 < stages:
                 slots[step.numbers[0] + 1] = packet
             else:
-                row.left, row.notes = packet, lines_of(step.blocks[0])
+                row.left, row.notes = packet, lines_of(step.events[0])
         row.slots = dict(slots)
         rows.append(row)
     join()
-    for block in drive.flushed:
+    for event in drive.flushed:
         stage = max(slots)
         packet = slots.pop(stage)
-        rows.append(Row("at the end", True, dict(slots), packet, lines_of(block)))
+        rows.append(Row("at the end", True, dict(slots), packet, lines_of(event)))
     return rows
 
 

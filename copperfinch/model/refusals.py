@@ -4,7 +4,7 @@ from typing import Any, Optional, Sequence, Tuple
 
 
 class Fault(Exception):
-    """A broken rule: the name of its words in tools/lucid_explain/words.py, its place, what the words name, and notes at places.
+    """A broken rule: the name of its words in copperfinch.explain.words, its place, what the words name, and notes at places.
 
     A place is a byte of the expanded program. In a JSON file it is a byte, or the keys and the numbers that lead to a value.
     """

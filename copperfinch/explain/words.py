@@ -1,14 +1,14 @@
-"""The words for each broken rule of tools/lucid_model: the problem, the rule, the remedy, and what was expected and found."""
+"""The words for each broken rule of copperfinch.model: the problem, the rule, the remedy, and what was expected and found."""
 from dataclasses import dataclass
 from typing import Any, Callable, Dict, List, Optional, Tuple
 
-from lucid_model.nodes import Code
-from lucid_model.core import ArrayName
-from lucid_model.json_files import Limits
-from lucid_model.layout import Layout
-from lucid_model.lexer import Token
-from lucid_model.order import Order
-from lucid_model.types import BOOL, Type
+from ..model.nodes import Code
+from ..model.core import ArrayName
+from ..model.json_files import Limits
+from ..model.layout import Layout
+from ..model.lexer import Token
+from ..model.order import Order
+from ..model.types import BOOL, Type
 
 Notes = List[Tuple[int, str]]  # places of the expanded program, each with a text
 

@@ -2,7 +2,7 @@
 
 This package is NOT VERIFIED. It was written from docs/LANGUAGE.md, docs/SCENARIO.md, docs/ERRORS.md and the definitions in
 crates/*/specs, and not from the sources in crates/*/src. Its purpose is to disagree: `tests/run drawn` compares its
-answers with those of the built program, byte for byte. tools/lucid_explain has the words for its refusals.
+answers with those of the built program, byte for byte. copperfinch.explain has the words for its refusals.
 
 `judge(words, read_file)` returns the exit code and the bytes of both streams, and the refusal itself. The head of a module names the
 page that it follows, and the comment of a function the section. The modules in reading order: lexer, expand, tree, parser,

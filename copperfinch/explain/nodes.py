@@ -2,11 +2,11 @@
 from dataclasses import replace
 from typing import Any, Dict, List, Optional
 
-from lucid_model.nodes import Code, Literal, Node, Op, Operand, nodes_of
-from lucid_model.json_files import Limits
-from lucid_model.layout import Layout, product
-from lucid_model.refusals import Refused
-from lucid_model.values import COMPARE
+from ..model.nodes import Code, Literal, Node, Op, Operand, nodes_of
+from ..model.json_files import Limits
+from ..model.layout import Layout, product
+from ..model.refusals import Refused
+from ..model.values import COMPARE
 
 from .places import Sources
 

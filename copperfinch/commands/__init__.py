@@ -1,0 +1,1 @@
+"""The commands: their words, and what each prints."""

@@ -1,0 +1,104 @@
+"""Prints the rows of the table in examples/README.md: the sizes of the ten applications, their speed, and the sizes in the paper.
+
+    tools/examples-table
+    tools/examples-table PROGRAM [EVENTS]
+
+The sizes are computed from the files NAME.luc and NAME.layout. Lines that are empty or only a comment are not counted. The speed is empty
+unless a PROGRAM is given, a built `lucid_main`: then it is the number of events that enter in a second of a processor in `run pipe`, on
+the scenario that `tools/scenario NAME EVENTS 1` prints (EVENTS is 10 to 20000, and 20000 if it is not given). It is the best of three
+runs, in thousands. Ends with 2 for words of another form, and with 1 if the program does not run a scenario.
+"""
+import re
+import resource
+import subprocess
+import sys
+import tempfile
+from dataclasses import dataclass
+from pathlib import Path
+from typing import List, Optional, Tuple
+
+TOP = Path(__file__).resolve().parent.parent.parent
+MOST = 20000
+
+
+@dataclass(frozen=True)
+class Application:
+    """An application: its name in the paper, its file, its section of the page, and the lines and stages that the paper reports, if known."""
+
+    title: str
+    name: str
+    section: str
+    lines: Optional[int] = None
+    stages: Optional[int] = None
+
+
+APPLICATIONS = [
+    Application("Stateful firewall", "firewall", "a-stateful-firewall"),
+    Application("Fast reroute", "reroute", "fast-reroute"),
+    Application("Closed-loop DNS defence", "dns", "a-guard-against-dns-reflection"),
+    Application("\\*Flow telemetry cache", "flowcache", "a-flow-telemetry-cache"),
+    Application("Consistent shared state (SRO)", "sro", "consistent-shared-state"),
+    Application("Distributed firewall", "gateways", "a-distributed-firewall"),
+    Application("Distributed probabilistic firewall with aging", "aging", "a-distributed-firewall-that-forgets"),
+    Application("RIP", "rip", "routing-by-distance-vectors"),
+    Application("NAT", "nat", "network-address-translation"),
+    Application("Count-min sketch with historical queries", "countmin", "a-count-min-sketch-with-historical-queries"),
+]
+
+
+def is_code(line: str) -> bool:
+    return bool(line.strip()) and not line.strip().startswith("//")
+
+
+def sizes(name: str) -> Tuple[int, ...]:
+    """Lines, stages, tables, rows, operations, bits and arrays of an example."""
+    program = (TOP / f"examples/{name}.luc").read_text(encoding="utf-8")
+    layout = (TOP / f"examples/{name}.layout").read_text(encoding="utf-8")
+    tables = [(int(stage), int(rows)) for stage, rows in re.findall(r"^stage (\d+) table \d+ rows (\d+)", layout, re.MULTILINE)]
+    counts = re.search(r"^ops (\d+) bits (\d+)", layout, re.MULTILINE)
+    assert counts, f"examples/{name}.layout has no line of counts"
+    lines = sum(map(is_code, program.split("\n")))
+    stages = len({stage for stage, _ in tables})
+    rows = sum(rows for _, rows in tables)
+    return lines, stages, len(tables), rows, int(counts[1]), int(counts[2]), len(re.findall(r"^global ", program, re.MULTILINE))
+
+
+def spent() -> float:
+    """The seconds of a processor that ended children took, in the program and in the system."""
+    usage = resource.getrusage(resource.RUSAGE_CHILDREN)
+    return usage.ru_utime + usage.ru_stime
+
+
+def speed(program: str, name: str, events: int) -> int:
+    """Events that enter a second in `run pipe`, in thousands: the best of three runs."""
+    with tempfile.NamedTemporaryFile("w", suffix=".json") as scenario:
+        subprocess.run([TOP / "tools/scenario", name, str(events), "1"], stdout=scenario, check=True)
+        words = [program, "run", "pipe", TOP / f"examples/{name}.luc", TOP / f"examples/{name}.limits.json", scenario.name]
+        best, entered = float("inf"), 0
+        for _ in range(3):
+            begin = spent()
+            log = subprocess.run(words, stdout=subprocess.PIPE, check=True, encoding="utf-8").stdout
+            best = min(best, spent() - begin)
+            entered = int(log.rsplit("entered ", 1)[1].split()[0])
+    return int(round(entered / max(best, 0.001), -3))
+
+
+def row(it: Application, speed_of_it: str) -> str:
+    """A row of the table."""
+    paper = ("" if number is None else str(number) for number in (it.lines, it.stages))
+    cells = [f"[{it.title}](#{it.section})", f"[{it.name}.luc]({it.name}.luc)", *map(str, sizes(it.name)), speed_of_it, *paper]
+    return "|" + "".join(f" {cell} |" if cell else " |" for cell in cells)
+
+
+def main(words: List[str]) -> None:
+    events = words[1] if len(words) == 2 else str(MOST)
+    if len(words) > 2 or not re.fullmatch("[0-9]{2,5}", events) or not 10 <= int(events) <= MOST:
+        print("usage: tools/examples-table [PROGRAM [EVENTS]]", file=sys.stderr)
+        sys.exit(2)
+    for it in APPLICATIONS:
+        try:
+            measured = f"{speed(words[0], it.name, int(events)):,}" if words else ""
+        except (OSError, subprocess.CalledProcessError, IndexError):
+            print(f"examples-table: {words[0]} does not run the scenario of {it.name}", file=sys.stderr)
+            sys.exit(1)
+        print(row(it, measured), flush=True)

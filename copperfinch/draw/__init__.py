@@ -1,0 +1,1 @@
+"""Pictures of logs, layouts and drives, as SVG."""
