@@ -62,12 +62,13 @@ def copies(part: str, count: int) -> str:
 
 
 def spelled_out(text: str) -> str:
-    """The text with each «COUNT:PART» written out, the inner ones first."""
+    """The text with each «COUNT:PART» and each byte «0xHH» written out, the inner ones first."""
     while "»" in text:
         end = text.index("»")
         start = text.rindex("«", 0, end)
-        count, part = text[start + 1 : end].split(":", 1)
-        text = text[:start] + copies(part, int(count)) + text[end + 1 :]
+        count, colon, part = text[start + 1 : end].partition(":")
+        made = copies(part, int(count)) if colon else bytes([int(count, 16)]).decode("utf-8", "surrogateescape")
+        text = text[:start] + made + text[end + 1 :]
     return text
 
 
@@ -167,10 +168,15 @@ class Reader:
             self.unread.append(number)
 
 
+def read(path: Path) -> str:
+    """The text of a file byte by byte, with its carriage returns, which a file that is opened as text loses."""
+    return path.read_bytes().decode("utf-8", "surrogateescape")
+
+
 def read_rows(path: Path) -> Tuple[List[Row], List[int]]:
     """The rows of a file, and the numbers of lines that have no meaning in it."""
     reader = Reader(path)
-    text = path.read_text("utf-8", "surrogateescape")
+    text = read(path)
     for number, line in enumerate(text.split("\n"), 1):
         reader.take(line, number)
     reader.finish()
@@ -184,10 +190,10 @@ def all_rows() -> List[Row]:
 
 def write_sums(path: Path, sums: Dict[int, str]) -> None:
     """Puts the line of a sum behind the text to which it belongs, whose `+` is on the line of that number."""
-    lines = path.read_text("utf-8", "surrogateescape").split("\n")
+    lines = read(path).split("\n")
     for number in sorted(sums, reverse=True):
         behind = number
         while lines[behind].startswith("|"):
             behind += 1
         lines.insert(behind, sums[number])
-    path.write_text("\n".join(lines), "utf-8", "surrogateescape")
+    path.write_bytes("\n".join(lines).encode("utf-8", "surrogateescape"))

@@ -39,4 +39,4 @@ def run(group: Group) -> None:
     for name, ended in failed:
         group.check(name, False, ended)
     group.passed += len(rows) - len(failed)
-    group.check("there are 1,800 rows", len(rows) >= 1800, len(rows))
+    group.check("there are 2,000 rows", len(rows) >= 2000, len(rows))
