@@ -4,13 +4,13 @@ Fails on a file of specs/ or proofs/ that is named after no source, on a trusted
 export, on a head of a lib.rt that names other users than crates.txt or leaves out what may change, on a call of a law that is not written law::NAME, on a dead link or path
 in a page, on a row of a table with other cells than its head, on worse English than the bounds, and on a commit subject that begins with
 Say or Tell or passes 72 characters. Today's exceptions are in tests/house.exceptions, which may only shrink: `--fill` drops those that are
-gone. Sees nothing of what the names mean.
+gone. No rule may have more of them than before the file's last change, by git. Sees nothing of what the names mean.
 """
 from __future__ import annotations
 
 import re
 import subprocess
-from collections import defaultdict
+from collections import Counter, defaultdict
 from pathlib import Path
 from typing import Dict, List, Set, Tuple
 
@@ -44,6 +44,7 @@ def run(group: Group) -> None:
         group.check(f"{key}: {REPEATED.get(key, 'named after no source')}", not new, new)
         gone = sorted(known.get(key, set()) - names)
         group.check(f"{key}: tests/house.exceptions names nothing that is gone", not gone, gone)
+    shrinks(group)
     heads(group)
     laws(group)
     links(group)
@@ -64,6 +65,25 @@ def write_exceptions(found: Dict[str, Set[str]]) -> None:
     head = "# Exceptions of the group `house`, which may only shrink: `tests/run house --fill` drops those that are gone.\n"
     lines = [" ".join([key, *sorted(known.get(key, set()) & names)]) for key, names in sorted(found.items())]
     EXCEPTIONS.write_text(head + "".join(f"{line}\n" for line in lines if " " in line))
+
+
+def counts_of(text: str) -> Counter:
+    """How many exceptions a text of the file has from each rule: specs, proofs, names and types."""
+    lines = [line.split() for line in text.splitlines() if line and not line.startswith("#")]
+    return sum((Counter({line[0].rpartition("/")[2]: len(line) - 1}) for line in lines), Counter())
+
+
+def shrinks(group: Group) -> None:
+    """No rule has more exceptions than in the commit before the last change of the file; a rule that is new has none there."""
+    text, git = EXCEPTIONS.read_text(), ["git", "-C", str(TOP)]
+    log = subprocess.run([*git, "log", "-5", "--format=%H", "--", "tests/house.exceptions"], stdout=subprocess.PIPE, check=False)
+    for commit in log.stdout.decode().split():
+        before = subprocess.run([*git, "show", f"{commit}:tests/house.exceptions"], stdout=subprocess.PIPE, check=False).stdout.decode()
+        if before != text:
+            now, then = counts_of(text), counts_of(before)
+            more = {rule: (then[rule], now[rule]) for rule in then if now[rule] > then[rule]}
+            group.check("tests/house.exceptions shrinks", not more, more)
+            return
 
 
 def camel(name: str) -> str:
