@@ -20,12 +20,15 @@ from copperfinch.model.layout import Layout
 from copperfinch.model.passes import compose
 from copperfinch.model.refusals import Refused
 
+from .expressions import EDGES, draw_number
 from .mutated import JSON_WORDS, WORDS, bases, mutated
 from .programs import Program
 
 COMMANDS = {'check': 60, 'once': 80, 'expand': 40, 'layout': 120, 'run whole': 120, 'run pipe': 160, 'run placed': 120, 'drive': 100,
             'snap': 80, 'audit': 120, 'gen': 8, 'bench': 2}
 LONGEST = 60
+# Ticks of events, of which a handler sees the low 32 bits; a drive may begin at any.
+LATE = [100, 70000, *EDGES]
 
 
 @dataclass
@@ -104,8 +107,8 @@ def draw_events(r: Random, p: Program, switches: int, last: int) -> List[Dict[st
     ticks = 4 if r.random() < 0.4 else max(1, last // 2)
     for _ in range(r.choice([0, 2, 4, 6, 9, 14]) if p.events else 0):
         name, widths = r.choice(p.events)
-        args = [r.choice([0, 1, 2, 2 ** w - 1, r.randrange(2 ** w)]) % 2 ** w for w in widths]
-        found.append({'at': r.randrange(ticks) if r.random() < 0.9 else 100, 'switch': r.randrange(switches), 'name': name, 'args': args})
+        args = [draw_number(r, w) for w in widths]
+        found.append({'at': r.randrange(ticks) if r.random() < 0.9 else r.choice(LATE), 'switch': r.randrange(switches), 'name': name, 'args': args})
     return found
 
 
@@ -119,6 +122,8 @@ def draw_windows(r: Random, links: List[List[int]], events: List[Dict[str, Any]]
         if events and r.random() < 0.7:
             until = r.choice(events)['at'] + way + r.choice([0, 0, 1, 3, 9])
             start = max(0, until - r.choice([1, 10])) if r.random() < 0.4 else until
+        if r.random() < 0.1:
+            start, until = r.choice([0, *EDGES]), 2 ** 64 - 1
         found.append([*r.sample(r.choice(links)[:2], 2), start, until if until > start else start + r.choice([1, 10, 60])])
     return found
 
@@ -138,7 +143,7 @@ def draw_steps(r: Random, p: Program) -> List[List[Any]]:
 def draw_scene(r: Random, p: Program, limits: Dict[str, Any]) -> Dict[str, Any]:
     """A scenario for a program: links, windows, events and moves; seldom with a slip."""
     switches = r.choice([1, 2, 2, 3, 3, 4])
-    scene: Dict[str, Any] = {'stop': r.choice([0, 9, 20, 40, 60, 90, 90])}
+    scene: Dict[str, Any] = {'stop': r.choice([0, 9, 20, 40, 60, 90, 90]) if r.random() < 0.98 else 131072 // switches}
     if switches > 1 or r.random() < 0.2:
         scene['switches'] = switches
     latencies = r.choice([[1, 1, 2, 5, 9], [1, 1, 2]])
@@ -202,7 +207,7 @@ def draw_case(seed: int, number: int) -> Case:
     words = command.split() + list(names)
     if command == 'once':
         name, widths = r.choice(p.events)
-        args = [str(r.choice([0, 1, 2, r.randrange(2 ** w)]) % 2 ** w) for w in widths]
+        args = [str(draw_number(r, w)) for w in widths]
         slip = r.choice([['05'], ['18446744073709551616'], ['x'], [str(2 ** 32)]]) if r.random() < 0.04 else []
         words += [name if r.random() < 0.98 else 'nobody'] + (args + slip if r.random() < 0.98 else args[1:])
     if command == 'snap':

@@ -8,6 +8,8 @@ from random import Random
 from typing import Dict, List, Optional, Tuple
 
 WIDTHS = [1, 5, 8, 8, 16, 32, 32, 32, 32, 64]
+# Numbers near the bits at which a narrower or a signed machine would err.
+EDGES = [2 ** 15, 2 ** 16, 2 ** 31 - 1, 2 ** 31, 2 ** 32 - 1, 2 ** 32, 2 ** 32 + 1, 2 ** 63 - 1, 2 ** 63, 2 ** 63 + 1, 2 ** 64 - 2]
 ARITHMETIC = ['+', '-', '&', '|', '^', '|+|', '|-|']
 COMPARISONS = ['==', '==', '==', '!=', '<', '>', '<=', '>=']
 
@@ -61,6 +63,14 @@ def has_name(text: str) -> bool:
     return re.search('[A-Za-z]', re.sub('0x[0-9a-f]+', '0', text)) is not None
 
 
+def draw_number(r: Random, width: int) -> int:
+    """A number of a width: often small or great, or near a bit at which a narrower machine would err."""
+    edges = [edge for edge in EDGES if edge < 2 ** width]
+    if edges and r.random() < (0.4 if width == 64 else 0.1):
+        return r.choice(edges)
+    return r.choice([0, 1, 1, 2, 3, 7, 2 ** width - 1, 2 ** (width - 1), r.randrange(2 ** width)]) % 2 ** width
+
+
 class Expressions:
     """A program while it is drawn: its declarations so far, and the expressions of its bodies."""
 
@@ -90,7 +100,7 @@ class Expressions:
         """A number that fits, but for a slip."""
         if self.chance(0.0007):
             return str(2 ** width)
-        value = self.r.choice([0, 1, 1, 2, 3, 7, 2 ** width - 1, self.r.randrange(2 ** width)]) % 2 ** width
+        value = draw_number(self.r, width)
         return hex(value) if self.chance(0.1) else str(value)
 
     def leaf(self, b: Body, width: int) -> str:
@@ -112,19 +122,31 @@ class Expressions:
         if kind < 7:
             return f'{self.operand(b, width, depth)} {self.r.choice(ARITHMETIC)} {self.operand(b, width, depth)}'
         if kind == 7:
-            return f'{self.r.choice("-~")}{self.operand(b, width, depth)}'
+            return f'{self.r.choice("-~")}{self.told(b, width) if self.chance(0.3) else self.operand(b, width, depth)}'
         if kind == 8:
-            return f'{self.operand(b, width, depth)} {self.r.choice(["<<", ">>"])} {self.r.choice([0, 1, 2, width, 70])}'
+            return f'{self.operand(b, width, depth)} {self.r.choice(["<<", ">>"])} {self.r.choice([0, 1, 2, width, 70, 2 ** 32, 2 ** 32 + 1])}'
         if kind == 9:
             return f'({type_text(width)}) ({self.free(b, self.r.choice(WIDTHS), depth - 1)})'
         if kind == 10:
             args = ', '.join(self.free(b, self.r.choice(WIDTHS), depth - 1) for _ in range(self.r.randrange(1, 4)))
+            args += f', {self.told(b, 32)}' if self.chance(0.3) else ''
             return f'hash<<{width}>>({args})'
         if kind == 11 and self.templates:
             return f'{self.r.choice(self.templates)}<<{width}>>({self.expr(b, width, depth - 1)})'
         if kind == 12:
             return self.call(b, width, depth) or self.leaf(b, width)
         return self.access(b, width, depth) or self.leaf(b, width)
+
+    def told(self, b: Body, width: int, depth: int = 1) -> str:
+        """A leaf, or a call of a function that prints or sends and calls no array."""
+        found = [f for f in self.funs if f.answer == width and f.outs and not f.touched and not f.arrays]
+        if depth <= 0 or not found or self.chance(0.6):
+            return self.leaf(b, width)
+        f = self.r.choice(found)
+        if b.outs + f.outs > 8 and not self.chance(0.1):
+            return self.leaf(b, width)
+        b.outs += f.outs
+        return f'{f.name}({", ".join(self.told(b, w, depth - 1) if w else "true" for w in f.params)})'
 
     def free(self, b: Body, width: int, depth: int) -> str:
         """An expression at a free place, where numbers alone have 32 bits."""
@@ -141,7 +163,8 @@ class Expressions:
         some = [(name, w) for w, names in b.locals.items() if w > 1 for name in names]
         if kind < 5 and some:
             name, width = self.r.choice(some)
-            return f'{name} {self.r.choice(COMPARISONS)} {self.r.randrange(3)}'
+            number = self.number(width) if self.chance(0.5 if width == 64 else 0.05) else self.r.randrange(3)
+            return f'{name} {self.r.choice(COMPARISONS)} {number}'
         if kind < 7 or depth <= 0:
             width = self.r.choice(WIDTHS)
             left, right = self.operand(b, width, depth), self.operand(b, width, depth)
@@ -178,7 +201,7 @@ class Expressions:
         args = [array.name, index]
         for _ in range({'get': 0, 'update': 2}.get(kind, 1)):
             args += [] if kind == 'set' else [self.r.choice(memops)]
-            args.append(self.leaf(b, array.width) if b.arrays else self.expr(b, array.width, depth - 1))
+            args.append(self.told(b, array.width))
         b.place = behind
         return f'Array.{kind}({", ".join(args)})'
 
@@ -188,7 +211,11 @@ class Expressions:
         if not found:
             return None
         f = self.r.choice(found)
-        args = [self.leaf(b, w) if w else self.r.choice(['true', 'false']) for w in f.params]
+        before = b.outs
+        args = [self.told(b, w) if w else self.r.choice(['true', 'false']) for w in f.params]
+        if b.outs + f.outs > 8:
+            b.outs = before
+            return None
         if f.touched and not (b.arrays[:1] and b.arrays[0].name.startswith('g') and min(f.touched) >= b.place or self.chance(0.01)):
             return None
         for w in f.arrays:

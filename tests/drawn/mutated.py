@@ -28,6 +28,12 @@ JSON_WORDS = (
 ).split()
 
 
+# What is put behind a token: one step off the grammar.
+STEPS = [b";", b",", b"()", b"{}", b" |", b" _", b" 1", b"<<8>>", b" return", b" int x;"]
+# What may stand for a blank, and what may not.
+BLANKS = [b"\t", b"\r", b"\n", b"\x0b", b"\x0c", b"\0", b"\xef\xbb\xbf", b"/**/", b"//\r\n", b""]
+
+
 @dataclass(frozen=True)
 class Base:
     """A call whose files may be mutated: its words, and the texts of those that name files."""
@@ -78,7 +84,7 @@ def change_tokens(draw: random.Random, tokens: List[bytes], words: List[bytes]) 
         return
     at, other = draw.choice(solid), draw.choice(solid)
     alike = [k for k in solid if kind(tokens[k]) == kind(tokens[at])]
-    how = draw.randrange(16)
+    how = draw.randrange(18)
     if how < 4:
         other = draw.choice(alike)
         tokens[at], tokens[other] = tokens[other], tokens[at]
@@ -94,6 +100,10 @@ def change_tokens(draw: random.Random, tokens: List[bytes], words: List[bytes]) 
         tokens[at] = tokens[at] + b" " + tokens[at]
     elif how < 14:
         tokens[at], tokens[other] = tokens[other], tokens[at]
+    elif how < 16:
+        tokens[at] += draw.choice(STEPS)
+    elif how < 17 and any(token.isspace() for token in tokens):
+        tokens[draw.choice([k for k, token in enumerate(tokens) if token.isspace()])] = draw.choice(BLANKS)
     else:
         moved = b"".join(tokens[at : at + 12])
         tokens[at : at + 12] = [b""] * len(tokens[at : at + 12])

@@ -58,6 +58,7 @@ class Program(Expressions):
         if kind < 18 and self.events:
             return [f'{indent}generate {self.sent(b)};']
         args = [self.free(b, self.r.choice(WIDTHS), 1) for _ in range(self.r.choice([0, 1, 1, 2]))]
+        args += [f'{self.told(b, 32)} + 0'] if self.chance(0.1) else []
         holes = ' %d' * (len(args) + self.chance(0.01))
         return [f'{indent}printf({", ".join([chr(34) + self.r.choice(["a", "50%", "b%d"[:1]]) + holes + chr(34)] + args)});']
 
@@ -126,8 +127,8 @@ class Program(Expressions):
     def sent(self, b: Body) -> str:
         """An event with a delay, a target, both in either order, a group, or none."""
         name, widths = self.r.choice(self.events)
-        sent = f'{name}({", ".join(self.expr(b, w, 1) for w in widths)})'
-        delay = str(self.r.choice([0, 1, 3, 9])) if self.chance(0.7) else self.free(b, self.r.choice([8, 32]), 1)
+        sent = f'{name}({", ".join(self.told(b, w) if w and self.chance(0.2) else self.expr(b, w, 1) for w in widths)})'
+        delay = str(self.r.choice([0, 1, 3, 9])) if self.chance(0.7) else self.free(b, self.r.choice([8, 32, 64, 64]), 1)
         target = self.r.choice(['0', '1', '2', 'SELF', 'SELF + 1', '9']) if self.chance(0.8) else self.free(b, self.r.choice(WIDTHS), 1)
         if self.groups and self.chance(0.25):
             target, members = self.r.choice(self.groups)
@@ -168,6 +169,8 @@ class Program(Expressions):
             self.groups.append((name, len(members)))
         if self.chance(0.3):
             self.template()
+        if self.chance(0.4):
+            self.teller()
         for _ in range(self.r.choice([0, 0, 1, 2, 3])):
             self.fun()
         for name, widths in self.events:
@@ -195,6 +198,13 @@ class Program(Expressions):
             other = self.fresh('t')
             self.lines.append(f'fun <<n>> int<<n>> {other}(int<<n>> y) {{ return {name}<<n>>(y) ^ (int<<n>>) {name}<<8>>((int<<8>>) y); }}')
             self.templates.append(other)
+
+    def teller(self) -> None:
+        """A function that prints what it is given, so that the order of evaluation and the count of outs show."""
+        name, width, count = self.fresh('f'), self.r.choice([8, 32, 32, 64]), self.r.choice([1, 1, 1, 4, 8])
+        prints = ' '.join(['printf("%d", x0 + 0);'] * count)
+        self.lines.append(f'fun {type_text(width)} {name}({type_text(width)} x0) {{ {prints} return x0; }}')
+        self.funs.append(Fun(name, [width], [], width, [], count))
 
     def fun(self) -> None:
         """A function over values, and over declared arrays or array parameters."""

@@ -182,14 +182,20 @@ def same_requests(group: Group) -> None:
         group.check(f"{words}: as many requests for memory whether packets move or not", first == second, (first, second))
 
 
+def layouts_take_memory(group: Group) -> None:
+    """A `run pipe` takes memory for its layout, which a network without pipes does not take."""
+    more = memory_of(group, "run pipe driven.luc driven.limits run.moving") - memory_of(group, "run whole driven.luc driven.limits run.moving")
+    layout = memory_of(group, "layout driven.luc driven.limits")
+    group.note(f"requests for memory: run pipe {more} more than run whole, layout {layout}")
+    group.check("run pipe takes memory for its layout", more > layout // 4, (more, layout))
+
+
 def pipes_take_memory(group: Group) -> None:
-    """A `run pipe` takes memory for a pipe in each switch and for the layout, which a network without pipes does not take."""
+    """A `run pipe` takes memory for a pipe in each switch, which a network without pipes does not take."""
     of = lambda form, file: memory_of(group, f"run {form} driven.luc driven.limits {file}")
     pipe, whole = (of(form, "switches.8") - of(form, "run.moving") for form in ("pipe", "whole"))
-    layout = memory_of(group, "layout driven.luc driven.limits")
-    more = of("pipe", "run.moving") - of("whole", "run.moving")
-    group.note(f"requests for memory of 7 more switches: run pipe {pipe}, run whole {whole}; run pipe {more} more than run whole, layout {layout}")
-    group.check("run pipe takes memory for its pipes, or for its layout", pipe > whole or more > layout // 4, (pipe, whole, more, layout))
+    group.note(f"requests for memory of 7 more switches: run pipe {pipe}, run whole {whole}")
+    group.check("run pipe takes memory for each of its pipes", pipe > whole, (pipe, whole))
 
 
 def run(group: Group) -> None:
@@ -205,4 +211,5 @@ def run(group: Group) -> None:
         sums.update(it.requests)
     group.note(f"refused: {len(found)} calls; requests: " + ", ".join(f"{kind} {count}" for kind, count in sums.items()))
     same_requests(group)
+    layouts_take_memory(group)
     pipes_take_memory(group)
