@@ -5,7 +5,9 @@ A group is a module of tests/groups with a function `run(group)`. It calls the p
 """
 from __future__ import annotations
 
+import hashlib
 import os
+import re
 import shutil
 import subprocess
 import sys
@@ -165,6 +167,29 @@ def measure(spent: Path, words: Sequence[Word], cwd: Union[Path, str, None] = No
         code, took, most = numbers.read().split() or (128 + 9, 10 * seconds, 0)
     status = int(code) if int(code) < 128 else 128 - int(code)
     return Spent(Ended(status, ended.out, ended.err), float(took), int(most))
+
+
+def instructions(words: Sequence[Word], cwd: Union[Path, str, None] = None) -> int:
+    """The instructions of a call, as valgrind counts them: the same number on a busy machine. 0 if there is no valgrind."""
+    if not shutil.which("valgrind"):
+        return 0
+    ended = call(["valgrind", "--tool=callgrind", "--callgrind-out-file=/dev/null", *words], cwd=cwd)
+    found = re.search(rb"Collected : (\d+)", ended.err)
+    return int(found[1]) if found else 0
+
+
+def digest_of_sources() -> str:
+    """A digest of the sources of the crates that the built program is made of: src/ of lucid_main and of all below it."""
+    lines = [line.split(":") for line in (TOP / "crates.txt").read_text().splitlines() if ":" in line and not line.startswith("#")]
+    below = {name.split()[0]: needs.split() for name, needs in lines}
+    crates, waiting = set(), ["lucid_main"]
+    while waiting:
+        crate = waiting.pop()
+        if crate in below and crate not in crates:
+            crates.add(crate)
+            waiting += below[crate]
+    files = sorted(path for crate in crates for path in (TOP / "crates" / crate / "src").glob("**/*.rt"))
+    return hashlib.sha256(b"".join(path.read_bytes() for path in files)).hexdigest()[:12]
 
 
 def best(spent: Path, words: Sequence[Word], turns: int, cwd: Union[Path, str, None] = None, seconds: int = 120) -> Spent:

@@ -14,11 +14,12 @@ from __future__ import annotations
 
 import re
 import shutil
+import tempfile
 from dataclasses import dataclass
 from pathlib import Path
 from typing import Callable, List, Optional, Tuple, Union
 
-from harness import Group, Spent, call, compile_c, measure, table
+from harness import Group, Spent, call, compile_c, instructions, measure, table
 from rowfile import spelled_out
 
 BIG = '{"stages":32,"tables":64,"rows":1024,"bits":1048576,"arrays":64,"arms":64}'
@@ -219,12 +220,11 @@ def spend_often(group: Group, spent: Path, shape: Shape, seconds: int, with_smal
 
 
 def count_instructions(group: Group, shape: Shape, size: int) -> int:
-    """The instructions of a call; 0 if valgrind cannot count them."""
+    """The instructions of the call of a shape at a size; 0 if nothing can count them."""
+    room = Path(tempfile.mkdtemp(dir=group.room))
     for name, text in shape.files(size):
-        group.file(name, text)
-    ended = call(["valgrind", "--tool=callgrind", "--callgrind-out-file=/dev/null", group.options.program, *shape.words], cwd=group.room)
-    found = re.search(rb"Collected : (\d+)", ended.err)
-    return int(found[1]) if found else 0
+        (room / name).write_text(text)
+    return instructions([group.options.program, *shape.words], room)
 
 
 def find_growth(group: Group, shape: Shape, smaller: Spent, whole: Spent) -> float:

@@ -2,7 +2,7 @@
 
 Runs the program that `gen` makes of 7 in a network of 64 switches, in pipes that are half full, and in one pipe that is driven by hand.
 Fails if the two write other bytes. Then prints a line of a table for each call: processor seconds, the least of five calls that take
-turns, or of `--runs` many, and their factor; and the nanoseconds of one stage of a packet. A second table splits `run whole` into reading
+turns, or of `--runs` many, millions of instructions, and their factors; and the nanoseconds of one stage of a packet. A second table splits `run whole` into reading
 its files and the rest, also beside the plain program that writes each block at once, as ours does. A third has `run whole` with one write
 for each block, and with a buffer of 64 KiB (buffer.c). Fails if the buffer changes the output (seen with a buffer
 that drops its last bytes). Sees no speed of other programs.
@@ -16,43 +16,71 @@ import subprocess
 from pathlib import Path
 from typing import Dict, List, Union
 
-from harness import TESTS, Group, call, compile_c, measure, table
+from harness import TESTS, Group, call, compile_c, instructions, measure, table
+from rowfile import spelled_out
 
 CALLS = [
     "run whole program limits network",
     "run pipe program limits network",
     "drive program limits drive",
     "bench 7 10000",
+    "run whole messages limits messages.json",
     "run pipe program limits stages",
     "run pipe bare limits stages",
 ]
-FACTOR = 2
+# The plain program has no functions, so this workload has no factor.
+OURS_ALONE = ["run whole calls limits calls.json"]
+# What the group `instructions` counts.
+WORKLOADS = [words if words[:5] != "bench" else "bench 7 200" for words in CALLS] + OURS_ALONE
+# The events of the networks; a drive has twice as many steps.
+EVENTS = 60000
 WHOLE = CALLS[0]
 # The scenario of WHOLE that stops before the first tick: its events are read and are pending, and none runs.
 READ = "run whole program limits unrun"
+# Each event calls eight arrays through functions of functions.
+FUNCTIONS = """«8:global Array.t<<32>> a# = Array.create(64);
+»memop plus(int stored, int x) { return stored + x; }
+memop most(int stored, int x) { if (stored < x) { return x; } else { return stored; } }
+fun int mix(int a, int b) { int c = a ^ b; if (c > 1000) { return c & 1023; } else { return c; } }
+fun int bump(Array.t<<32>> r, int i, int by) { return Array.update(r, mix(i, by) & 63, most, by, plus, by); }
+fun int two(Array.t<<32>> r, Array.t<<32>> q, int i) { int x = bump(r, i, 1); return bump(q, x, mix(x, i)); }
+event e0(int i, int v);
+handle e0(int i, int v) {
+  int x = two(a0, a1, i); int y = two(a2, a3, x + v); int z = two(a4, a5, mix(x, y)); int u = two(a6, a7, z);
+  if (u > 100000000) { generate e0(u, v); }
+}
+"""
+# Each event sends eight events of eight arguments of 64 bits.
+LETTERS = "abcdefgh"
+MESSAGES = """event out(«LETTERS»);
+event e0(int a, int b);
+«7:event e##(int a, int b);
+»handle e0(int a, int b) { «8:generate out(#, 18446744073709551615, 1, 9223372036854775808, 2, 4294967296, 3, 10000000000000000000); »}
+""".replace("«LETTERS»", ", ".join(f"int<<64>> {letter}" for letter in LETTERS))
 
 
-def event(draw: random.Random, at: int, switch: int) -> Dict[str, object]:
-    return {"at": at, "switch": switch, "name": f"e{draw.randrange(8)}", "args": [draw.randrange(1000), draw.randrange(1000)]}
+def event(draw: random.Random, at: int, switch: int, kinds: int = 8) -> Dict[str, object]:
+    return {"at": at, "switch": switch, "name": f"e{draw.randrange(kinds)}", "args": [draw.randrange(1000), draw.randrange(1000)]}
 
 
-def network() -> Dict[str, object]:
-    """30,000 events times FACTOR over 64 switches in 32 pairs."""
-    draw, stop = random.Random(1), 1024 * FACTOR
-    links = [[k, k + 1, 1 + k % 5] for k in range(0, 64, 2)]
-    events = [event(draw, draw.randrange(stop), draw.randrange(64)) for _ in range(30000 * FACTOR)]
-    return {"switches": 64, "stop": stop, "links": links, "events": events}
+def network(count: int, switches: int = 64, kinds: int = 8) -> Dict[str, object]:
+    """This many events over switches in pairs, of which each gets one in about two ticks."""
+    draw, stop = random.Random(1), max(1, count * 131072 // EVENTS // switches)
+    links = [[k, k + 1, 1 + k % 5] for k in range(0, switches, 2)]
+    events = [event(draw, draw.randrange(stop), draw.randrange(switches), kinds) for _ in range(count)]
+    return {"switches": switches, "stop": stop, "links": links, "events": events}
 
 
-def stages() -> Dict[str, object]:
-    """48 events for each of these switches, whose descendants keep all pipes half full."""
+def stages(count: int) -> Dict[str, object]:
+    """A twentieth of the events, all in the first ticks of all switches, whose descendants keep all pipes half full."""
     draw = random.Random(3)
-    return {**network(), "events": [event(draw, at, switch) for at in range(48) for switch in range(64)]}
+    first = [event(draw, at, switch) for at in range(max(1, count * 48 // EVENTS)) for switch in range(64)]
+    return {**network(count), "events": first}
 
 
-def drive() -> Dict[str, object]:
-    """60,000 steps times FACTOR of one pipe."""
-    draw, count = random.Random(2), 60000 * FACTOR
+def drive(count: int) -> Dict[str, object]:
+    """This many steps of one pipe."""
+    draw = random.Random(2)
     events = [event(draw, at, 0) for at in range(count // 40)]
     steps: List[List[object]] = []
     while len(steps) < count:
@@ -66,21 +94,30 @@ def drive() -> Dict[str, object]:
     return {"stop": 1, "events": events, "steps": steps}
 
 
-def prepare(group: Group) -> Path:
-    """Compiles the reference, and writes the files of all calls. The program `bare` sends its events and does nothing else."""
+def compile_reference(group: Group) -> Path:
+    """Compiles the plain program."""
     reference = group.room / "reference"
     subprocess.run(["rustc", "--edition", "2024", "-O", "-o", reference, TESTS / "reference.rs"], check=True)
-    for kind in "program", "limits":
-        group.file(kind, group.call("gen", kind, "7", "1").out)
-    for name, scenario in (("network", network()), ("unrun", {**network(), "stop": 0}), ("stages", stages()), ("drive", drive())):
-        group.file(name, json.dumps(scenario))
-    lines = (group.room / "program").read_text().splitlines(keepends=True)
-    group.file("bare", "".join(line for line in lines if not (line.startswith("  ") and "Array." in line)))
     return reference
 
 
+def write_files(group: Group, count: int) -> None:
+    """Writes the files of all calls, with this many events. The program `bare` sends its events and does nothing else."""
+    for kind in "program", "limits":
+        group.file(kind, group.call("gen", kind, "7", "1").out)
+    for name, text in (("calls", FUNCTIONS), ("messages", MESSAGES)):
+        group.file(name, spelled_out(text))
+        group.file(f"{name}.json", json.dumps(network(count // 6, 8, 1)))
+    scenarios = {"network": network(count), "unrun": {**network(count), "stop": 0}, "stages": stages(count), "drive": drive(2 * count)}
+    for name, scenario in scenarios.items():
+        group.file(name, json.dumps(scenario))
+    lines = (group.room / "program").read_text().splitlines(keepends=True)
+    group.file("bare", "".join(line for line in lines if not (line.startswith("  ") and "Array." in line)))
+
+
 def run(group: Group) -> None:
-    spent, reference = compile_c(group, "spent.c"), prepare(group)
+    write_files(group, EVENTS)
+    spent, reference = compile_c(group, "spent.c"), compile_reference(group)
     entered = 1
     for words in [*CALLS, READ]:
         ours = measure(spent, [group.options.program, *words.split()], group.room).ended
@@ -90,9 +127,14 @@ def run(group: Group) -> None:
     times = [{words: (seconds(group, spent, group.options.program, words), seconds(group, spent, reference, words)) for words in CALLS}
              for _ in range(group.options.runs or 5)]
     count = entered * json.loads((group.room / "limits").read_text())["stages"]
-    rows = [row(f"`{words}`", "%.3f", *(min(turn[words][side] for turn in times) for side in (0, 1))) for words in CALLS]
+    counts = {words: [instructions([program, *words.split()], group.room) / 1e6 for program in (group.options.program.resolve(), reference)] for words in CALLS}
+    rows = [[*row(f"`{words}`", "%.3f", *(min(turn[words][side] for turn in times) for side in (0, 1))), *row("", "%.0f", *counts[words])[1:]] for words in CALLS]
     steps = [statistics.median(turn[CALLS[-2]][side] - turn[CALLS[-1]][side] for turn in times) / count * 1e9 for side in (0, 1)]
-    table(group, ["Command", "Ours", "Plain Rust", "Factor"], [*rows, row("a stage of a packet, ns", "%.1f", *steps)])
+    for words in OURS_ALONE:
+        took = min(seconds(group, spent, group.options.program, words) for _ in range(group.options.runs or 5))
+        rows.append([f"`{words}`", f"{took:.3f}", "", "", f"{instructions([group.options.program.resolve(), *words.split()], group.room) / 1e6:.0f}", "", ""])
+    titles = ["Command", "Ours, s", "Plain Rust, s", "Factor", "Ours, million instructions", "Plain Rust", "Factor"]
+    table(group, titles, [*rows, [*row("a stage of a packet, ns", "%.1f", *steps), "", "", ""]])
     reading(group, spent, reference)
     buffering(group, spent)
 
