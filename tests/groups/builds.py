@@ -2,11 +2,11 @@
 
 Sees no proofs, and nothing of what a kit keeps. Seen to fail:
 - run: a plan for one job, minutes of a processor that are seconds
-- whole: a copy with the tests, the wrong bodies or the out/ of a crate; a copy that is no repository; a program that stays in the copy; other
+- whole: a program without its record; a copy with the tests, the wrong bodies or the out/ of a crate; a copy that is no repository; a program that stays in the copy; other
   words for rt; another line of progress; a folder that stays
 - script: a --prove that builds what is built, or nothing at all
 - wrong: a build that goes on after a crate that is not proved, ends with 0, or shows the lines of another crate
-- interrupted: SIGTERM without its handler, an rt that outlives the build, another status at an interrupt, a crate that was kept and is
+- interrupted: SIGTERM or SIGHUP without its handler, an rt that outlives the build, another status at an interrupt, a crate that was kept and is
   not counted
 """
 from __future__ import annotations
@@ -22,8 +22,7 @@ from pathlib import Path
 from typing import List, Tuple
 
 from harness import TOP, Group, call, with_variables
-
-from .script import tool_file
+from standin import tool_file
 
 # A crate and those that it depends on. The program needs all but `tests`.
 CRATES = {"low": "", "side_a": "low", "side_b": "low", "top": "side_a side_b", "lucid_main": "top", "tests": "top"}
@@ -54,7 +53,7 @@ chmod +x crates/lucid_main/out/lucid_main
 """
 PROGRESS = r"lucid: [0-9]+ of 5 crates built; 0 min gone, about [0-9]+ min left"
 PLAN = r"([0-9]+) crates, ([0-9.]+) min of a processor, longest chain ([0-9.]+) min, with 4 jobs ([0-9.]+) min\n"
-SIGNALS = {"stopped": signal.SIGTERM, "at the terminal": signal.SIGINT, "killed": signal.SIGKILL}
+SIGNALS = {"stopped": signal.SIGTERM, "at the terminal": signal.SIGINT, "without its terminal": signal.SIGHUP, "killed": signal.SIGKILL}
 
 
 def run(group: Group) -> None:
@@ -77,7 +76,9 @@ def project(group: Group, name: str) -> Path:
         for path in ("src/lib.rt", "must-fail/a.edit", "out/rlib/stamp"):
             (top / f"crates/{crate}/{path}").parent.mkdir(parents=True)
             (top / f"crates/{crate}/{path}").touch()
-    shutil.copy2(TOP / "tools/prove", top / "tools")
+    for name in ("prove", "record", "compile"):
+        shutil.copy2(TOP / "tools" / name, top / "tools")
+    shutil.copytree(TOP / "tools/lucid_build", top / "tools/lucid_build", ignore=shutil.ignore_patterns("__pycache__"))
     (top / "crates.txt").write_text("# A note.\n" + "".join(f"{crate}: {low}\n" for crate, low in CRATES.items()))
     (top / "HANDLES").touch()
     (top / "tests/seconds").write_text("low 1\nside_b 200\n")
@@ -110,6 +111,9 @@ def is_running(top: Path) -> bool:
 def whole(group: Group) -> None:
     top = project(group, "whole")
     status, lines = build(top)
+    said = f"lucid: the proved program is {top}/crates/lucid_main/out/lucid_main"
+    group.check("a build says where the program is", lines[-1:] == [said], lines)
+    lines = lines[:-1]
     made = top / "crates/lucid_main/out/lucid_main"
     group.check("a build", status == 0 and made.exists() and made.read_text() == "built\n", lines)
     folders = [path for crate in sorted(PROGRAM) for path in (crate, f"{crate}/src", f"{crate}/src/lib.rt")]
@@ -120,12 +124,16 @@ def whole(group: Group) -> None:
     group.check("a line for each crate", len(lines) > len(PROGRAM) // 2 and all(re.fullmatch(PROGRESS, it) for it in lines), lines)
     group.check("no copy stays", os.listdir(top / "rooms") == [])
     group.check("what was there stays", (top / "crates/low/out/rlib/stamp").exists())
+    record = made.with_name("lucid_main.record")
+    lines = record.read_text().splitlines() if record.exists() else []
+    group.check("a record of kit, sources and program", [line.split()[0] for line in lines] == ["kit", "sources", "program"], lines)
     script(group, top)
 
 
 def script(group: Group, top: Path) -> None:
-    """`./lucid --prove` builds a program of these sources once."""
-    shutil.copy2(TOP / "lucid", top)
+    """`./lucid --prove` builds a program of these sources once, and it is called proved."""
+    for name in ("lucid", "VERSION"):
+        shutil.copy2(TOP / name, top)
     shutil.copy2(TOP / "tools/jobs", top / "tools")
     env = with_variables(PATH=f"{top}/bin:{os.environ['PATH']}", TMPDIR=top / "rooms")
     made = f"lucid: the proved program is {top}/crates/lucid_main/out/lucid_main"
@@ -136,6 +144,13 @@ def script(group: Group, top: Path) -> None:
         ended = call([top / "lucid", "--prove"], cwd=top, env=env)
         group.check(f"--prove of {what}: the program", ended.status == 0 and ended.err.decode().splitlines()[-1:] == [made], ended)
         group.check(f"--prove of {what}: calls of the kit", (top / "bin/call").exists() == calls, ended)
+    group.check("the program is called proved", b"\nprogram proved\n" in call([top / "lucid", "--version"], env=env).out)
+    (top / "tests/seconds").unlink()
+    ended = call([top / "tools/prove", "--plan", "4"], env=env)
+    group.check("a plan without tests/", ended.status == 0 and ended.out.startswith(b"5 crates, 5.0 min "), ended)
+    with open("/dev/full", "wb") as full:
+        ended = call([top / "tools/prove", "--plan", "4"], env=env, stdout=full)
+    group.check("a plan on a full device", ended.status == 70 and ended.err == b"lucid: No space left on device: standard output\n", ended)
 
 
 def wrong(group: Group) -> None:
@@ -163,7 +178,7 @@ def interrupted(group: Group, name: str) -> None:
         time.sleep(0.02)
     os.kill(process.pid, number)
     process.communicate(timeout=60)
-    group.check(f"a build is {name} in the middle", process.returncode in (143, 130, -9) and 2 <= kept() < len(PROGRAM), process.returncode)
+    group.check(f"a build is {name} in the middle", process.returncode in (128 + number, -9) and 2 <= kept() < len(PROGRAM), process.returncode)
     group.check(f"rt ends, {name}", not is_running(top))
     group.check(f"no copy of it stays, {name}", number == signal.SIGKILL or os.listdir(top / "rooms") == [])
     found = kept()

@@ -1,34 +1,72 @@
-"""The script `lucid` in a copy where nothing is built: it answers by a build without proofs, and a line says so.
+"""The program without proofs, compiled by the script `lucid` in a copy where nothing is built: its answers, its checks, and its time.
 
-Fails on an answer without that line, and on another answer or status. Compiles the program for each of its two calls, and sees no others.
+Fails on an answer without its line, on another answer or status in any row, on a later call of more than 20 ms of a processor, and on a
+program that goes on after a broken condition: a source of the copy has an index that is too large and a difference below 0, for calls of 20
+and 21 words. Compiles once, so it takes a minute or two. Sees no programs of other kits.
 """
 from __future__ import annotations
 
+import resource
 import shutil
+import signal
 from typing import List
 
-from harness import FIRST, FIRST_LOG, TOP, Ended, Group, call
+from harness import FIRST, FIRST_LOG, TOP, Ended, Group, call, with_variables
 
-SAYS = b"lucid: unproved: this answer comes from a build whose proofs were not checked; ./lucid --prove makes the proved program\n"
+from . import rows
+from .script import SAYS
+
+# The seconds of a processor that the quickest of some calls may take, by the script.
+LATER = 0.02
+SOURCE = "crates/lucid_main/src/words.rt"
+END = "    Ok(words)\n"
+BROKEN = """    if words.len() == 20 && words[words.len()].len() == 0 {
+        return Err(Refusal::Usage);
+    }
+    if words.len() == 21 && words.len() - 22 == 0 {
+        return Err(Refusal::Usage);
+    }
+"""
 
 
-def answer(group: Group, name: str, words: List[str]) -> Ended:
-    """A call in a copy of the sources, from a folder of the caller's."""
-    copy = group.room / name
-    skipped = shutil.ignore_patterns("out", "rows")
-    for folder in "crates", "tests":
-        shutil.copytree(TOP / folder, copy / folder, ignore=skipped)
-    for file in "crates.txt", "lucid", "HANDLES":
-        shutil.copy(TOP / file, copy / file)
-    here = copy / "here"
-    here.mkdir()
-    shutil.copy(FIRST, here / "a file")
-    return call(["../lucid", *words], cwd=here)
+def spent() -> float:
+    usage = resource.getrusage(resource.RUSAGE_CHILDREN)
+    return usage.ru_utime + usage.ru_stime
 
 
 def run(group: Group) -> None:
-    answers = group.side_by_side(
-        lambda it: answer(group, *it), [("answer", ["once", "a file", "pkt", "5"]), ("refusal", ["check", "no file"])]
-    )
-    group.expect("an answer without proofs", answers[0], 0, FIRST_LOG, SAYS)
-    group.expect("a refusal without proofs", answers[1], 2, b"", SAYS + b"read fault: no file\n")
+    top = group.room / "copy"
+    skipped = shutil.ignore_patterns("out", "__pycache__")
+    for folder in "crates", "tools":
+        shutil.copytree(TOP / folder, top / folder, ignore=skipped)
+    for file in "crates.txt", "lucid", "HANDLES", "VERSION":
+        shutil.copy2(TOP / file, top / file)
+    text = (top / SOURCE).read_text()
+    (top / SOURCE).write_text(text.replace(END, BROKEN + END))
+    here = top / "here"
+    here.mkdir()
+    shutil.copy(FIRST, here / "a file")
+    env = with_variables(XDG_CACHE_HOME=group.room / "cache")
+    lucid = lambda *words: call(["../lucid", *words], cwd=here, env=env)
+    before = spent()
+    ended = lucid("--program")
+    program = top / "crates/lucid_main/out/lucid_unproved"
+    group.note(f"unproved: the first call took {spent() - before:.0f} s of processors")
+    if not group.check("the program is compiled and kept", (ended.status, ended.out) == (0, f"{program}\n".encode()), ended):
+        return
+    group.expect("an answer without proofs", lucid("once", "a file", "pkt", "5"), 0, FIRST_LOG, SAYS)
+    group.expect("a refusal without proofs", lucid("check", "no file"), 2, b"", SAYS + b"read fault: no file\n")
+    group.check("it is not proved", lucid("--version").out.endswith(b"\nprogram not proved\n"))
+    took: List[float] = []
+    for _ in range(20):
+        before = spent()
+        lucid("once", "a file", "pkt", "5")
+        took.append(spent() - before)
+    group.check(f"a later call takes at most {LATER} s of a processor", min(took) <= LATER, min(took))
+    for name, count in (("an index that is too large", 17), ("a difference below 0", 18)):
+        ended = lucid("once", "a file", "pkt", *["1"] * count)
+        group.expect(f"{name} stops it", ended, -signal.SIGILL, b"", SAYS)
+    below = group.under(program=program)
+    below.stops = False
+    rows.run(below)
+    group.check("its answers in all rows", not below.failed and below.passed > 500, f"{below.failed} of {below.passed + below.failed} differ")

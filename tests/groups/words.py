@@ -9,13 +9,15 @@ import resource
 from statistics import median
 from typing import Dict, List
 
-from harness import FIRST, PROGRAM, TOP, Group, Word, call
+from harness import FIRST, TOP, Group, Word, call
+
+from .script import SAYS
 
 # Calls that are measured, and the milliseconds of a processor that the script may add to one. The quickest calls count, since a busy
 # machine makes calls slower. On a slow machine the script may add as many times what its look at the files takes alone: there are
 # thousands of files, so the look takes most of the time. The sums of all sources take more than five looks.
 CALLS, MOST, LOOKS = 100, 10, 2
-LOOK = "find -files0-from crates/lucid_main/out/looked_at -maxdepth 0 -cnewer crates/lucid_main/out/looked".split()
+LOOK = ["sh", "-c", "{ read -r _; exec find -files0-from - -maxdepth 0 -cnewer out/looked; } <out/looked"]
 EIGHT = "event wide(int a, int b, int c, int d, int e, int f, int g, int h);"
 
 
@@ -36,13 +38,15 @@ def words_of_the_program(group: Group) -> None:
 
 
 def words_of_the_script(group: Group, lucid: Word) -> None:
-    """Words go through the script unchanged, and no other build answers them."""
+    """Words go through the script unchanged; if the program is not proved, a line says so."""
+    is_proved = b"\nprogram proved\n" in call([TOP / "lucid", "--version"]).out
     usage = call([lucid])
     group.expect("the script takes the built program", usage, 1, err=b"usage\n")
     wide = group.file("a file", EIGHT)
     blank = group.file("a file ", "event other();")
     eight = "12345678"
-    expect = lambda name, words, status, out, err: group.expect(name, call([lucid, *words]), status, out, err)
+    said = b"" if is_proved else SAYS
+    expect = lambda name, words, status, out, err: group.expect(name, call([lucid, *words]), status, out, said + err)
     expect("a name with a blank and eight arguments", ["once", wide, "wide", *eight], 0, b"[0] s0 wide(1,2,3,4,5,6,7,8)\n", b"")
     expect("nine arguments", ["once", wide, "wide", *eight, "9"], 1, b"", b"usage\n")
     expect("a name with a blank at its end", ["once", blank, "other"], 0, b"[0] s0 other()\n", b"")
@@ -57,7 +61,7 @@ def spent() -> float:
 
 def cost_of_the_script(group: Group, lucid: Word) -> None:
     """The processor time of the quickest call by the script, less that of the quickest call of the program."""
-    commands: Dict[str, List[Word]] = {"script": [lucid, "check", FIRST], "program": [PROGRAM, "check", FIRST], "look": [*LOOK]}
+    commands: Dict[str, List[Word]] = {"script": [lucid, "check", FIRST], "program": [group.options.program, "check", FIRST], "look": [*LOOK]}
     took: Dict[str, List[float]] = {name: [] for name in commands}
     for _ in range(CALLS):
         for name, words in commands.items():
