@@ -1,3 +1,4 @@
+pub mod BlockLemmas
 pub mod Holes
 pub mod Lines
 pub mod Numbers

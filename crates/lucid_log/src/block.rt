@@ -1,13 +1,14 @@
 // Blocks: an event that ran, and its outs.
-ghost use Rattle.std.specs.Prelude.{◌≡◌, ◌<◌, ◌≤◌, [], ◌++◌, length, IsTrue, OnOk, OnErr};
+ghost use Rattle.std.specs.Prelude.{◌≡◌, ◌<◌, ◌≤◌, [], ◌++◌, codes, decimal, length, IsTrue, OnOk, OnErr};
 ghost use Rattle.std.specs.List.{All};
 ghost use Rattle.lucid_core.specs.Fits.{event_fits, out_fits};
 ghost use Rattle.lucid_core.specs.Texts.{holes_of};
 ghost use Rattle.lucid_io.specs.Puts.{PutsAll, PutsPart, Leaves};
 ghost use Rattle.lucid_log.specs.Block.{event_name, form_of, head_text, target_text, end_text, generate_text, say_text, out_text, is_marked, outs_text, block_text};
+ghost use Rattle.lucid_log.specs.Pieces.{numbers_text};
 
 use crate::filled::hold_filled;
-use crate::pieces::{Piece, SHORT, hold_pieces};
+use crate::pieces::{SHORT, hold_number, hold_numbers};
 use lucid_base::{Event, Out, Outs, Target};
 use lucid_core::Core;
 use lucid_io::{ROOM, Room, Sink, WriteFault, hold, release};
@@ -141,21 +142,59 @@ fn hold_head<'a, S: Sink, const N: usize>(
     ensures all { OnOk result (Leaves S.written S.faults sink.old sink.new (room.old ++ head_text tick switch (event_name core.now event.now.id) event.now.args) room.new) }
     ensures part { OnErr result (PutsPart S.written S.faults sink.old sink.new (room.old ++ head_text tick switch (event_name core.now event.now.id) event.now.args)) }
 {
-    hold_pieces(
-        sink,
-        room,
-        &[
-            Piece::Text(b"["),
-            Piece::Number(tick),
-            Piece::Text(b"] s"),
-            Piece::Number(switch as u64),
-            Piece::Text(b" "),
-            Piece::Text(name_of(core, event.id)),
-            Piece::Text(b"("),
-            Piece::Numbers(event.args.as_slice()),
-            Piece::Text(b")\n"),
-        ],
-    )
+    let name = name_of(core, event.id);
+    hold_entry(sink, room, tick, switch, name, event.args.as_slice())
+}
+
+// Buffers the first line of a block, given the name of its event.
+fn hold_entry<S: Sink, const N: usize>(
+    sink: &mut S,
+    room: &mut Room<N>,
+    tick: u64,
+    switch: u32,
+    name: &[u8],
+    args: &[u64],
+) -> Result<(), WriteFault>
+    ensures all { OnOk result (Leaves S.written S.faults sink.old sink.new (room.old ++ head_text tick switch name.now args.now) room.new) }
+    ensures part { OnErr result (PutsPart S.written S.faults sink.old sink.new (room.old ++ head_text tick switch name.now args.now)) }
+{
+    hold_counted(sink, room, b"[", tick)?;
+    hold_counted(sink, room, b"] s", switch as u64)?;
+    hold_call(sink, room, b" ", name, args)?;
+    hold(sink, room, b")\n")
+}
+
+// Buffers a word and a number. Inlined, so that the length of the word is known.
+#[inline(always)]
+fn hold_counted<S: Sink, const N: usize>(
+    sink: &mut S,
+    room: &mut Room<N>,
+    word: &[u8],
+    n: u64,
+) -> Result<(), WriteFault>
+    ensures all { OnOk result (Leaves S.written S.faults sink.old sink.new (room.old ++ (word.now ++ decimal n)) room.new) }
+    ensures part { OnErr result (PutsPart S.written S.faults sink.old sink.new (room.old ++ (word.now ++ decimal n))) }
+{
+    hold(sink, room, word)?;
+    hold_number(sink, room, n)
+}
+
+// Buffers a word and a call, without its last `)`. Inlined, so that the length of the word is known.
+#[inline(always)]
+fn hold_call<S: Sink, const N: usize>(
+    sink: &mut S,
+    room: &mut Room<N>,
+    word: &[u8],
+    name: &[u8],
+    args: &[u64],
+) -> Result<(), WriteFault>
+    ensures all { OnOk result (Leaves S.written S.faults sink.old sink.new (room.old ++ (word.now ++ name.now ++ codes "(" ++ numbers_text args.now)) room.new) }
+    ensures part { OnErr result (PutsPart S.written S.faults sink.old sink.new (room.old ++ (word.now ++ name.now ++ codes "(" ++ numbers_text args.now))) }
+{
+    hold(sink, room, word)?;
+    hold(sink, room, name)?;
+    hold(sink, room, b"(")?;
+    hold_numbers(sink, room, args)
 }
 
 fn hold_outs<S: Sink, const N: usize>(
@@ -239,18 +278,8 @@ fn hold_generate<'a, S: Sink, const N: usize>(
     ensures all { OnOk result (Leaves S.written S.faults sink.old sink.new (room.old ++ generate_text name.now args.now delay to is_lost) room.new) }
     ensures part { OnErr result (PutsPart S.written S.faults sink.old sink.new (room.old ++ generate_text name.now args.now delay to is_lost)) }
 {
-    hold_pieces(
-        sink,
-        room,
-        &[
-            Piece::Text(b"  generate "),
-            Piece::Text(name),
-            Piece::Text(b"("),
-            Piece::Numbers(args),
-            Piece::Text(b") delay "),
-            Piece::Number(delay),
-        ],
-    )?;
+    hold_call(sink, room, b"  generate ", name, args)?;
+    hold_counted(sink, room, b") delay ", delay)?;
     hold_target(sink, room, to)?;
     hold(sink, room, end_of(is_lost))
 }
@@ -265,7 +294,7 @@ fn hold_target<S: Sink, const N: usize>(
 {
     match to {
         Target::Here => hold(sink, room, b" here"),
-        Target::At(n) => hold_pieces(sink, room, &[Piece::Text(b" to "), Piece::Number(n)]),
+        Target::At(n) => hold_counted(sink, room, b" to ", n),
     }
 }
 

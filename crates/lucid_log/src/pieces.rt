@@ -140,7 +140,7 @@ fn hold_piece<S: Sink, const N: usize>(
     }
 }
 
-fn hold_number<S: Sink, const N: usize>(
+pub(crate) fn hold_number<S: Sink, const N: usize>(
     sink: &mut S,
     room: &mut Room<N>,
     n: u64,
@@ -152,7 +152,7 @@ fn hold_number<S: Sink, const N: usize>(
     hold(sink, room, digits.format(n).as_bytes())
 }
 
-fn hold_numbers<S: Sink, const N: usize>(
+pub(crate) fn hold_numbers<S: Sink, const N: usize>(
     sink: &mut S,
     room: &mut Room<N>,
     numbers: &[u64],
