@@ -1,4 +1,3 @@
 mod CellsLemmas
 mod TasksLemmas
 mod ListLemmas
-mod AtOnceLemmas

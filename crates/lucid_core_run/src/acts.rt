@@ -57,7 +57,7 @@ pub fn end<'a>(machine: &mut Machine<'a>, act: Act<'a>) -> Result<(), Memory>
 }
 
 /// Sets the value.
-fn set(machine: &mut Machine, value: Bits) -> Result<(), Memory>
+pub fn set(machine: &mut Machine, value: Bits) -> Result<(), Memory>
     ensures { machine.new ≡ with_value machine.old value }
 {
     machine.value = value;
@@ -146,7 +146,12 @@ pub fn leave(machine: &mut Machine, caller: Caller)
 
 /// Ends a call. The caller's arrays and functions are in force again.
 #[inline(always)]
-fn leave_call<'a>(machine: &mut Machine<'a>, caller: Caller, arrays: Items<u32>, funs: &'a [FunDef])
+pub fn leave_call<'a>(
+    machine: &mut Machine<'a>,
+    caller: Caller,
+    arrays: Items<u32>,
+    funs: &'a [FunDef],
+)
     ensures { machine.new ≡ record (left caller machine.old) { arrays = arrays; funs = funs.entry } }
 {
     leave(machine, caller);

@@ -1,29 +1,14 @@
-// Expressions: each function does a part of one, and pushes what remains.
+// Expressions as tasks: the first part is pushed, and before it the task that goes on with its value.
 ghost use Rattle.lucid_core.specs.Meaning.{touch_of, value_of};
-ghost use Rattle.lucid_core.specs.Values.{binary as binary_of, comparison as comparison_of};
-ghost use Rattle.lucid_core_run.specs.Interpret.{Leads, after_all, after_task, second_operand, touch_at, touch_with, valued};
+ghost use Rattle.lucid_core_run.specs.Interpret.{Leads, after_all, after_task, valued};
 
-use crate::at_once::evaluate_at_once;
+use crate::acts::set;
 use crate::list::{begin_call, begin_inlined, list};
 use crate::machine::Machine;
 use crate::task::{Act, Purpose, Task};
 use crate::tasks::Tasks;
-use lucid_base::{BinOp, CmpOp, Memory};
+use lucid_base::{Bits, Memory, Width};
 use lucid_core::{Expr, Touch};
-
-/// Evaluates an expression: at once if it takes no task, otherwise as a task.
-pub fn evaluate<'a>(
-    tasks: &mut Tasks<'a>,
-    machine: &mut Machine<'a>,
-    e: &'a Expr,
-) -> Result<(), Memory>
-    ensures { Leads (after_all tasks.old (valued (value_of e.now) machine.old)) machine.old.run.start tasks.new machine.new result }
-{
-    if !evaluate_at_once(machine, e)? {
-        tasks.push(Task::Value(e))?;
-    }
-    Ok(())
-}
 
 /// Evaluates an expression, and does a task after it.
 #[inline(always)]
@@ -36,10 +21,11 @@ pub fn evaluate_then<'a>(
     ensures { Leads (after_all tasks.old (after_task task.entry (valued (value_of e.now) machine.old))) machine.old.run.start tasks.new machine.new result }
 {
     tasks.push(task)?;
-    evaluate(tasks, machine, e)
+    tasks.push(Task::Value(e))?;
+    Ok(())
 }
 
-/// Begins an expression that has parts.
+/// Begins an expression.
 pub fn begin<'a>(
     tasks: &mut Tasks<'a>,
     machine: &mut Machine<'a>,
@@ -48,6 +34,19 @@ pub fn begin<'a>(
     ensures { Leads (after_all tasks.old (valued (value_of e.now) machine.old)) machine.old.run.start tasks.new machine.new result }
 {
     match e {
+        Expr::Fixed(n) => set(machine, *n),
+        Expr::Local(i) => {
+            let value = machine.run.local(*i);
+            set(machine, value)
+        }
+        Expr::Now => {
+            let value = Bits::low(Width::int(), machine.moment.now);
+            set(machine, value)
+        }
+        Expr::Me => {
+            let value = Bits::low(Width::int(), machine.moment.me as u64);
+            set(machine, value)
+        }
         Expr::Un(op, a) => evaluate_then(tasks, machine, a.get(), Task::Last(Act::Un(*op))),
         Expr::Bin(op, a, b) => {
             evaluate_then(tasks, machine, a.get(), Task::BinLeft(*op, b.get()))
@@ -69,8 +68,6 @@ pub fn begin<'a>(
         Expr::Inlined(given, stmts) => {
             begin_inlined(tasks, machine, given.as_slice(), stmts.as_slice())
         }
-        // No other expression has parts.
-        _ => evaluate(tasks, machine, e),
     }
 }
 
@@ -79,55 +76,4 @@ fn touch<'a>(tasks: &mut Tasks<'a>, machine: &mut Machine<'a>, t: &'a Touch) -> 
     ensures { Leads (after_all tasks.old (valued (touch_of t.now) machine.old)) machine.old.run.start tasks.new machine.new result }
 {
     evaluate_then(tasks, machine, &t.index, Task::TouchIndex(t))
-}
-
-/// The index of the call is evaluated.
-pub fn touch_index<'a>(
-    tasks: &mut Tasks<'a>,
-    machine: &mut Machine<'a>,
-    t: &'a Touch,
-) -> Result<(), Memory>
-    ensures { Leads (after_all tasks.old (touch_at t.now machine.old)) machine.old.run.start tasks.new machine.new result }
-{
-    let task = Task::TouchGet(t, machine.value.value);
-    evaluate_then(tasks, machine, &t.get_arg, task)
-}
-
-/// The argument of the first memop is evaluated.
-pub fn touch_get<'a>(
-    tasks: &mut Tasks<'a>,
-    machine: &mut Machine<'a>,
-    t: &'a Touch,
-    index: u64,
-) -> Result<(), Memory>
-    ensures { Leads (after_all tasks.old (touch_with t.now index machine.old)) machine.old.run.start tasks.new machine.new result }
-{
-    let act = Act::TouchSet(t, index, machine.value);
-    evaluate_then(tasks, machine, &t.set_arg, Task::Last(act))
-}
-
-/// The first operand is evaluated.
-pub fn bin_right<'a>(
-    tasks: &mut Tasks<'a>,
-    machine: &mut Machine<'a>,
-    op: BinOp,
-    b: &'a Expr,
-) -> Result<(), Memory>
-    ensures { Leads (after_all tasks.old (second_operand (binary_of op) b.now machine.old)) machine.old.run.start tasks.new machine.new result }
-{
-    let act = Act::BinRight(op, machine.value);
-    evaluate_then(tasks, machine, b, Task::Last(act))
-}
-
-/// The first operand is evaluated.
-pub fn cmp_right<'a>(
-    tasks: &mut Tasks<'a>,
-    machine: &mut Machine<'a>,
-    op: CmpOp,
-    b: &'a Expr,
-) -> Result<(), Memory>
-    ensures { Leads (after_all tasks.old (second_operand (comparison_of op) b.now machine.old)) machine.old.run.start tasks.new machine.new result }
-{
-    let act = Act::CmpRight(op, machine.value);
-    evaluate_then(tasks, machine, b, Task::Last(act))
 }

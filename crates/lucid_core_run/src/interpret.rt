@@ -1,12 +1,11 @@
-// The interpreter: does tasks until none remains. Nothing in it recurses, so a run takes the same stack however deep its calls are.
+// Runs bodies and evaluates expressions as tasks, until none remains. Nothing here recurses, so the stack stays the same however deep they are.
 ghost use Rattle.std.specs.Prelude.{◌≡◌, ◌++◌, ◌∷◌, [], OnOk, if◌then◌else◌, nat_eq};
-ghost use Rattle.lucid_core.specs.Meaning.{effect_of};
+ghost use Rattle.lucid_core.specs.Meaning.{effect_of, value_of};
 ghost use Rattle.lucid_core_run.specs.declared.task.Purpose.TheVariants.{Gen, Multi};
-ghost use Rattle.lucid_core_run.specs.Interpret.{Leads, after_all, after_task, done, inlined, listed, ran};
+ghost use Rattle.lucid_core_run.specs.Interpret.{Leads, after_all, after_task, done, inlined, listed, ran, valued};
 
-use crate::acts::end;
-use crate::at_once::{run_block, select_branch};
-use crate::evaluate::{begin, bin_right, cmp_right, evaluate_then, touch_get, touch_index};
+use crate::acts::{end, set};
+use crate::evaluate::{begin, evaluate_then};
 use crate::list::{list, next, next_given};
 use crate::machine::Machine;
 use crate::operate::nothing;
@@ -20,23 +19,47 @@ pub fn run_body<'a>(machine: &mut Machine<'a>, body: &'a [Stmt]) -> Result<(), M
     ensures state { OnOk result (machine.new ≡ ran body.now machine.old) }
     ensures start { machine.new.run.start ≡ machine.old.run.start }
 {
+    run(machine, Task::Block(body))
+}
+
+/// Evaluates an expression.
+pub fn run_value<'a>(machine: &mut Machine<'a>, e: &'a Expr) -> Result<(), Memory>
+    ensures value { OnOk result (machine.new ≡ valued (value_of e.now) machine.old) }
+    ensures start { machine.new.run.start ≡ machine.old.run.start }
+{
+    run(machine, Task::Value(e))
+}
+
+/// Does a task, and those that it leads to.
+fn run<'a>(machine: &mut Machine<'a>, task: Task<'a>) -> Result<(), Memory>
+    ensures state { OnOk result (machine.new ≡ after_task task.entry machine.old) }
+    ensures start { machine.new.run.start ≡ machine.old.run.start }
+{
     let mut tasks = Tasks::new(machine.alloc);
-    let ended = run_tasks(&mut tasks, machine, body);
+    let ended = run_first(&mut tasks, machine, task);
     drop(tasks);
     ended
 }
 
-/// Runs a body with a list of tasks that is empty.
-fn run_tasks<'a>(
+/// The same with a list of tasks that is empty.
+fn run_first<'a>(
     tasks: &mut Tasks<'a>,
     machine: &mut Machine<'a>,
-    body: &'a [Stmt],
+    task: Task<'a>,
 ) -> Result<(), Memory>
     requires { tasks.old ≡ [] }
-    ensures state { OnOk result (machine.new ≡ ran body.now machine.old) }
+    ensures state { OnOk result (machine.new ≡ after_task task.entry machine.old) }
     ensures start { machine.new.run.start ≡ machine.old.run.start }
 {
-    block(tasks, machine, body)?;
+    step(tasks, machine, task)?;
+    finish(tasks, machine)
+}
+
+/// Does all tasks.
+fn finish<'a>(tasks: &mut Tasks<'a>, machine: &mut Machine<'a>) -> Result<(), Memory>
+    ensures state { OnOk result (machine.new ≡ after_all tasks.old machine.old) }
+    ensures start { machine.new.run.start ≡ machine.old.run.start }
+{
     // No run does this many tasks.
     for _ in 0..u64::MAX {
         let Some(task) = tasks.pop() else {
@@ -53,10 +76,22 @@ fn step<'a>(tasks: &mut Tasks<'a>, machine: &mut Machine<'a>, task: Task<'a>) ->
 {
     match task {
         Task::Value(e) => begin(tasks, machine, e),
-        Task::BinLeft(op, b) => bin_right(tasks, machine, op, b),
-        Task::CmpLeft(op, b) => cmp_right(tasks, machine, op, b),
-        Task::TouchIndex(t) => touch_index(tasks, machine, t),
-        Task::TouchGet(t, index) => touch_get(tasks, machine, t, index),
+        Task::BinLeft(op, b) => {
+            let act = Act::BinRight(op, machine.value);
+            evaluate_then(tasks, machine, b, Task::Last(act))
+        }
+        Task::CmpLeft(op, b) => {
+            let act = Act::CmpRight(op, machine.value);
+            evaluate_then(tasks, machine, b, Task::Last(act))
+        }
+        Task::TouchIndex(t) => {
+            let task = Task::TouchGet(t, machine.value.value);
+            evaluate_then(tasks, machine, &t.get_arg, task)
+        }
+        Task::TouchGet(t, index) => {
+            let act = Act::TouchSet(t, index, machine.value);
+            evaluate_then(tasks, machine, &t.set_arg, Task::Last(act))
+        }
         Task::Next {
             done,
             rest,
@@ -139,37 +174,20 @@ fn block<'a>(
 ) -> Result<(), Memory>
     ensures { Leads (after_all tasks.old (ran stmts.now machine.old)) machine.old.run.start tasks.new machine.new result }
 {
-    let (inner, outer) = run_block(machine, stmts)?;
-    match inner.split_first() {
-        None => begin_block(tasks, machine, outer),
-        Some(_) => {
-            tasks.push(Task::Block(outer))?;
-            begin_block(tasks, machine, inner)
+    match stmts.split_first() {
+        None => set(machine, nothing()),
+        Some((stmt, rest)) => {
+            tasks.push(Task::Block(rest))?;
+            statement(tasks, machine, stmt)
         }
     }
 }
 
-/// Begins a block whose first statement takes a task.
-fn begin_block<'a>(
-    tasks: &mut Tasks<'a>,
-    machine: &mut Machine<'a>,
-    stmts: &'a [Stmt],
-) -> Result<(), Memory>
-    ensures { Leads (after_all tasks.old (ran stmts.now machine.old)) machine.old.run.start tasks.new machine.new result }
+/// Returns the first block if the value isn't 0, otherwise the second.
+pub fn select_branch<'a>(value: Bits, yes: &'a [Stmt], no: &'a [Stmt]) -> &'a [Stmt]
+    ensures { result.now ≡ (if nat_eq value.value 0 then no.now else yes.now) }
 {
-    match stmts.split_first() {
-        None => {
-            machine.value = nothing();
-            Ok(())
-        }
-        Some((stmt, rest)) => match rest.split_first() {
-            None => statement(tasks, machine, stmt),
-            Some(_) => {
-                tasks.push(Task::Block(rest))?;
-                statement(tasks, machine, stmt)
-            }
-        },
-    }
+    if value.value == 0 { no } else { yes }
 }
 
 /// Begins a statement.

@@ -5,7 +5,6 @@
 #![tactic(auto)]
 
 mod acts;
-mod at_once;
 mod draft;
 mod evaluate;
 mod interpret;
@@ -13,6 +12,7 @@ mod law;
 mod list;
 mod machine;
 mod operate;
+mod recurse;
 mod run;
 mod scratch;
 mod task;

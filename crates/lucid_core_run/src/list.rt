@@ -7,7 +7,6 @@ ghost use Rattle.lucid_core.specs.declared.body.Expr.TheOpen.{Expr-F};
 ghost use Rattle.lucid_core_run.specs.Interpret.{Leads, after_all, generated_with, inlined, listed, sent_after, used, valued};
 
 use crate::acts::{array_at, send, send_event, send_to_each};
-use crate::at_once::{append_given, append_values, delay_at_once, target_at_once, values_at_once};
 use crate::draft::Draft;
 use crate::evaluate::evaluate_then;
 use crate::machine::Machine;
@@ -21,7 +20,6 @@ use std::alloc::Global;
 use std::mem;
 
 /// Evaluates expressions from left to right, into a list with capacity for at least this many values.
-#[tactic(auto, using(crate::proofs::AtOnceLemmas::listed_now))]
 pub fn list<'a>(
     tasks: &mut Tasks<'a>,
     machine: &mut Machine<'a>,
@@ -32,16 +30,12 @@ pub fn list<'a>(
     ensures { Leads (after_all tasks.old (listed [] es.now purpose.now machine.old)) machine.old.run.start tasks.new machine.new result }
 {
     let most = least.max(es.len());
-    match values_at_once(machine, es, most)? {
-        Some(values) => complete(tasks, machine, values, purpose),
-        None => {
-            let values = Items::from_vec(Vec::with_capacity(machine.alloc, most)?);
-            next(tasks, machine, values, es, purpose)
-        }
-    }
+    let values = Items::from_vec(Vec::with_capacity(machine.alloc, most)?);
+    next(tasks, machine, values, es, purpose)
 }
 
 /// Evaluates the rest of a list, after these values.
+#[tactic(auto, using(crate::proofs::ListLemmas::listed_next))]
 pub fn next<'a>(
     tasks: &mut Tasks<'a>,
     machine: &mut Machine<'a>,
@@ -51,8 +45,6 @@ pub fn next<'a>(
 ) -> Result<(), Memory>
     ensures { Leads (after_all tasks.old (listed values rest.now purpose.now machine.old)) machine.old.run.start tasks.new machine.new result }
 {
-    let mut values = values;
-    let rest = append_values(machine, &mut values, rest)?;
     match rest.split_first() {
         None => complete(tasks, machine, values, purpose),
         Some((e, rest)) => {
@@ -175,29 +167,7 @@ fn call<'a>(
 }
 
 /// Sends an event with its delay and its target, in the order in which they are written. Missing ones are 0 and here.
-#[tactic(auto, using(crate::proofs::AtOnceLemmas::generated_given))]
 fn generate<'a>(
-    tasks: &mut Tasks<'a>,
-    machine: &mut Machine<'a>,
-    event: u32,
-    args: Items<Bits>,
-    delay: &'a Option<Expr>,
-    to: &'a Option<Expr>,
-    delay_first: bool,
-) -> Result<(), Memory>
-    ensures { Leads (after_all tasks.old (generated_with event args delay.now to.now delay_first machine.old)) machine.old.run.start tasks.new machine.new result }
-{
-    match (delay_at_once(machine, delay), target_at_once(machine, to)) {
-        (Some(delay), Some(to)) => {
-            send_event(machine, event, args, delay, to)?;
-            Ok(())
-        }
-        _ => generate_later(tasks, machine, event, args, delay, to, delay_first),
-    }
-}
-
-/// Begins the delay and the target of an event, of which one takes a task.
-fn generate_later<'a>(
     tasks: &mut Tasks<'a>,
     machine: &mut Machine<'a>,
     event: u32,
@@ -277,6 +247,7 @@ pub fn begin_inlined<'a>(
 }
 
 /// Evaluates the rest of the arguments of an inlined call, after these.
+#[tactic(auto, using(crate::proofs::ListLemmas::inlined_next))]
 pub fn next_given<'a>(
     tasks: &mut Tasks<'a>,
     machine: &mut Machine<'a>,
@@ -286,8 +257,6 @@ pub fn next_given<'a>(
 ) -> Result<(), Memory>
     ensures { Leads (after_all tasks.old (inlined held rest.now stmts.now machine.old)) machine.old.run.start tasks.new machine.new result }
 {
-    let mut held = held;
-    let rest = append_given(machine, &mut held, rest)?;
     match rest.split_first() {
         None => enter_inlined(tasks, machine, held, stmts),
         Some((first, rest)) => {
@@ -320,7 +289,7 @@ fn enter_inlined<'a>(
 }
 
 /// Returns the number of locals of function `k`; 0 if there is no such function.
-fn locals_of(funs: &[FunDef], k: u32) -> usize {
+pub fn locals_of(funs: &[FunDef], k: u32) -> usize {
     match funs.get(k as usize) {
         None => 0,
         Some(f) => f.locals.len(),
@@ -328,7 +297,7 @@ fn locals_of(funs: &[FunDef], k: u32) -> usize {
 }
 
 /// Returns function `k` with the functions before it.
-fn earlier(funs: &[FunDef], k: u32) -> Option<(&[FunDef], &FunDef)>
+pub fn earlier(funs: &[FunDef], k: u32) -> Option<(&[FunDef], &FunDef)>
     ensures fun { option_map (λ x. x.1.now) result ≡ slice_get funs.now k }
     ensures before { IfSome result (λ x. x.0.now ≡ take k funs.now) }
 {
@@ -339,7 +308,7 @@ fn earlier(funs: &[FunDef], k: u32) -> Option<(&[FunDef], &FunDef)>
     }
 }
 
-fn arrays_at(alloc: Global, arrays: &[u32], names: &[ArrayName]) -> Result<Items<u32>, Memory>
+pub fn arrays_at(alloc: Global, arrays: &[u32], names: &[ArrayName]) -> Result<Items<u32>, Memory>
     ensures { IfOk result (λ numbers. numbers ≡ map (array_of arrays.now) names.now) }
 {
     let mut numbers = Items::from_vec(Vec::with_capacity(alloc, names.len())?);

@@ -6,11 +6,11 @@ ghost use Rattle.lucid_core_run.specs.Interpret.{ran};
 ghost use Rattle.lucid_core.specs.Computations.{begun_with};
 ghost use Rattle.lucid_core.specs.Step.{handled, handler_of as handler_in, started, step, taken_at};
 
-use crate::interpret::run_body;
 use crate::law;
 use crate::list::with_zeros;
 use crate::machine::{Machine, Moment};
 use crate::operate::nothing;
+use crate::recurse::block;
 use crate::run::Run;
 use crate::scratch::Scratch;
 use lucid_base::{Bits, Cells, Event, Items, Memory, Outs, Width};
@@ -150,6 +150,9 @@ fn begin_run(
     Ok(Run::begin(cells, locals, writes, outs))
 }
 
+/// The levels of calls, statements and expressions that are run by recursion. `tests/run deep` tries them on a stack of 288 KiB.
+const DEPTH: u32 = 256;
+
 /// Runs a handler's body and fills the empty `outs`.
 fn run_into_outs<'a>(
     machine: &mut Machine<'a>,
@@ -163,7 +166,7 @@ fn run_into_outs<'a>(
     ensures state { OnOk result (machine.new ≡ ran body.now machine.old) }
     ensures start { OnErr result (machine.new.run.start ≡ machine.old.run.start) }
 {
-    run_body(machine, body)?;
+    block(machine, body, DEPTH)?;
     machine.run.collect(outs);
     Ok(())
 }
