@@ -1,0 +1,2 @@
+mod LiftLemmas
+mod UsersLemmas

@@ -1,0 +1,23 @@
+use Rattle.std.proofs.Common.{◌≡◌, ◌∙◌, sym, ap, subst, length, ◌-◌, List}
+use Rattle.lucid_base.specs.Saturating.{saturating_sum}
+use Rattle.lucid_code.specs.declared.op.Op.{Op}
+use Rattle.lucid_code.specs.Parts.{made_of}
+use Rattle.lucid_pass_spec.specs.Replace.{MayReplace}
+use Rattle.lucid_pass_more_spec.specs.Casts.{uncast, uncast_ops}
+use Rattle.lucid_pass_more_spec.proofs.CastsLemmas.{casts_replace}
+use Rattle.lucid_pass_more.proofs.casts.CastsPass.run.Goals as goal
+
+pub replaced-requires : goal.replaced-requires
+replaced-requires c =
+    let made : c.in_ok-ops.ops.items ≡ (uncast c.args.code.now).ops = c.in_ok-ops.ensures ∙ ap uncast_ops c.ops.ensures.value in
+    subst (λ ops. MayReplace c.args.code.now (made_of c.args.code.now.fields c.args.code.now.inputs c.args.code.now.arrays ops)) (sym made) (casts_replace c.args.code.now c.ops.ensures.valid)
+
+pub returns-clause-gives : goal.returns-clause-gives
+returns-clause-gives c =
+    let made : c.in_ok-ops.ops.items ≡ (uncast c.args.code.now).ops = c.in_ok-ops.ensures ∙ ap uncast_ops c.ops.ensures.value in
+    c.in_ok-new.ensures.code ∙ ap (λ ops. made_of c.args.code.now.fields c.args.code.now.inputs c.args.code.now.arrays ops) made
+
+pub returns-clause-count : goal.returns-clause-count
+returns-clause-count c =
+    let made : c.in_ok-ops.ops.items ≡ (uncast c.args.code.now).ops = c.in_ok-ops.ensures ∙ ap uncast_ops c.ops.ensures.value in
+    c.saturating_add-self.ensures ∙ ap (saturating_sum c.args.self.now.removed) (c.in_ok-new.ensures.gone ∙ ap (λ (ops : List Op). length c.args.code.now.ops - length ops) made)

@@ -1,0 +1,2 @@
+pub mod CastsLemmas
+pub mod LiftLemmas

@@ -1,0 +1,9 @@
+use Rattle.lucid_pass_more_spec.proofs.CastsLemmas.{casts_replace}
+use Rattle.lucid_pass_more_spec.proofs.LiftLemmas.{lift_replaces}
+use Rattle.lucid_pass_more_spec.proofs.laws.more_passes_replace.Goals as goal
+
+pub returns-clause-casts : goal.returns-clause-casts
+returns-clause-casts c = casts_replace
+
+pub returns-clause-lift : goal.returns-clause-lift
+returns-clause-lift c = lift_replaces

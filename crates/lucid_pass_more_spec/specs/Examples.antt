@@ -1,0 +1,48 @@
+-- Code that is worked by hand through the passes of this crate, on the fields of lucid_code's examples: inputs of 32, 32, 32 and 16 bits, then
+-- fields of 8, 1, 8 and 16 bits.
+use Rattle.std.specs.Prelude.{◌≡◌, [], ◌∷◌, Some, None}
+use Rattle.lucid_base.specs.declared.ops.BinOp.TheVariants.{Add}
+use Rattle.lucid_base.specs.declared.ops.UnOp.TheVariants.{Neg}
+use Rattle.lucid_code.specs.declared.op.Act.{Act}
+use Rattle.lucid_code.specs.declared.op.Act.TheVariants as act
+use Rattle.lucid_code.specs.Examples.{add, bare, field, fixed, is, isnt, move, op}
+use Rattle.lucid_pass_spec.specs.Examples.{copy, reader}
+use Rattle.lucid_pass_more_spec.specs.Casts.{uncast_ops}
+use Rattle.lucid_pass_more_spec.specs.Lift.{lift_ops}
+
+-- A sum of field 3 and 1 in 16 bits, for field 7.
+abbrev pub sum : Act
+sum = act.Bin Add 16 (field 3) (fixed 1) 7
+
+pub record MoreExamples : Type 0 where
+  -- `Casts`: of a field and of a number, under a guard; other acts stay
+  pub cast_moves : uncast_ops (op (is 0 1 ∷ []) 2 (act.Cast (field 3) 7) ∷ bare (act.Cast (fixed 300) 4) ∷ []) ≡ op (is 0 1 ∷ []) 2 (act.Move (field 3) 7) ∷ bare (act.Move (fixed 300) 4) ∷ []
+  pub others_stay : uncast_ops (move 4 ∷ bare (act.Un Neg 16 (field 3) 7) ∷ bare (add (fixed 0) (field 7) None) ∷ reader (is 4 1 ∷ []) 7 ∷ [])
+      ≡ move 4 ∷ bare (act.Un Neg 16 (field 3) 7) ∷ bare (add (fixed 0) (field 7) None) ∷ reader (is 4 1 ∷ []) 7 ∷ []
+  -- `Copies` does not see through a cast to a wider field, and does after `Casts`
+  pub copies_stop : copy (bare (act.Cast (field 3) 7) ∷ reader [] 7 ∷ []) ≡ bare (act.Cast (field 3) 7) ∷ reader [] 7 ∷ []
+  pub copies_go_on : copy (uncast_ops (bare (act.Cast (field 3) 7) ∷ reader [] 7 ∷ [])) ≡ bare (act.Move (field 3) 7) ∷ reader [] 3 ∷ []
+  -- a cast to fewer bits is still no source
+  pub narrow_stops : copy (uncast_ops (bare (act.Cast (field 3) 4) ∷ reader [] 4 ∷ [])) ≡ bare (act.Move (field 3) 4) ∷ reader [] 4 ∷ []
+  -- `Lift`: a sum and its reader in a branch: the sum no longer waits for the branch, and stays in its event
+  pub lifts : lift_ops (op (is 0 1 ∷ is 5 1 ∷ []) 0 sum ∷ reader (is 0 1 ∷ is 5 1 ∷ []) 7 ∷ []) ≡ op (is 0 1 ∷ []) 0 sum ∷ reader (is 0 1 ∷ is 5 1 ∷ []) 7 ∷ []
+  -- the order of literals in a guard is of no account
+  pub in_any_order : lift_ops (op (is 5 1 ∷ isnt 3 2 ∷ []) 0 sum ∷ reader (isnt 3 2 ∷ is 5 1 ∷ []) 7 ∷ []) ≡ op [] 0 sum ∷ reader (isnt 3 2 ∷ is 5 1 ∷ []) 7 ∷ []
+  -- a literal that one of two readers lacks stays
+  pub other_reader_stays : lift_ops (op (is 3 2 ∷ is 5 1 ∷ []) 0 sum ∷ reader (is 3 2 ∷ is 5 1 ∷ []) 7 ∷ reader (is 5 1 ∷ []) 7 ∷ [])
+      ≡ op (is 3 2 ∷ []) 0 sum ∷ reader (is 3 2 ∷ is 5 1 ∷ []) 7 ∷ reader (is 5 1 ∷ []) 7 ∷ []
+  -- of two writers each keeps the literal that tells them apart
+  pub writers_stay_apart : lift_ops (op (is 3 2 ∷ is 5 1 ∷ []) 0 sum ∷ op (is 3 2 ∷ is 5 0 ∷ []) 0 (act.Move (fixed 9) 7) ∷ reader (is 3 2 ∷ []) 7 ∷ [])
+      ≡ op (is 5 1 ∷ []) 0 sum ∷ op (is 5 0 ∷ []) 0 (act.Move (fixed 9) 7) ∷ reader (is 3 2 ∷ []) 7 ∷ []
+  -- guards that contradict themselves are not lifted from, since another writer may rely on them
+  pub never_stays : lift_ops (op (is 3 2 ∷ []) 0 sum ∷ op (is 3 2 ∷ is 3 4 ∷ []) 0 (act.Move (fixed 9) 7) ∷ reader (is 3 2 ∷ []) 7 ∷ [])
+      ≡ op (is 3 2 ∷ []) 0 sum ∷ op (is 3 2 ∷ is 3 4 ∷ []) 0 (act.Move (fixed 9) 7) ∷ reader (is 3 2 ∷ []) 7 ∷ []
+  -- a reader's own test of the field is no reason to drop it
+  pub own_test_stays : lift_ops (op (is 3 2 ∷ []) 0 sum ∷ reader (is 7 5 ∷ []) 3 ∷ []) ≡ op (is 3 2 ∷ []) 0 sum ∷ reader (is 7 5 ∷ []) 3 ∷ []
+  -- calls, events and prints have effects
+  pub call_stays : lift_ops (op (is 5 1 ∷ []) 0 (add (fixed 0) (fixed 1) (Some 7)) ∷ reader (is 5 1 ∷ []) 7 ∷ []) ≡ op (is 5 1 ∷ []) 0 (add (fixed 0) (fixed 1) (Some 7)) ∷ reader (is 5 1 ∷ []) 7 ∷ []
+  pub print_stays : lift_ops (reader (is 5 1 ∷ []) 3 ∷ []) ≡ reader (is 5 1 ∷ []) 3 ∷ []
+  pub event_stays : lift_ops (op (is 5 1 ∷ []) 0 (act.Gen 0 0 [] (fixed 0) None) ∷ []) ≡ op (is 5 1 ∷ []) 0 (act.Gen 0 0 [] (fixed 0) None) ∷ []
+  -- beside a call that writes the same field
+  pub beside_call : lift_ops (op (is 3 2 ∷ is 5 1 ∷ []) 0 (add (fixed 0) (fixed 1) (Some 7)) ∷ op (is 3 2 ∷ is 5 0 ∷ []) 0 sum ∷ reader (is 3 2 ∷ []) 7 ∷ [])
+      ≡ op (is 3 2 ∷ is 5 1 ∷ []) 0 (add (fixed 0) (fixed 1) (Some 7)) ∷ op (is 5 0 ∷ []) 0 sum ∷ reader (is 3 2 ∷ []) 7 ∷ []

@@ -1,0 +1,3 @@
+pub mod Casts
+pub mod Examples
+pub mod Lift

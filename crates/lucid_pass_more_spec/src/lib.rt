@@ -1,0 +1,12 @@
+// The results of further passes, by definition, and their laws: each result may replace valid code (specs/Replace.antt of lucid_pass_spec), and
+// nodes still follow their writers.
+// `Casts` turns casts into moves, so that other passes see through them (specs/Casts.antt). `Lift` lets an operation act earlier than its
+// readers (specs/Lift.antt).
+// It has no data types; the code of the passes is in lucid_pass_more.
+// Used by lucid_pass_more. Proofs may change; a law may only get stronger.
+#![tactic(auto)]
+
+mod examples;
+mod laws;
+
+pub use laws::{more_passes_keep_nodes, more_passes_replace};
