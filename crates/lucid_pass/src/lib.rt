@@ -2,8 +2,8 @@
 // that nobody can write a pass that breaks it. `run_passes` applies a list of boxes, which remain the caller's. `Dead` is the pass that
 // removes operations that nobody needs; lucid_pass_rewrites has the others. lucid_pass_spec defines the results of all four, and has the
 // laws that these may replace the code.
-// Used by lucid_pass_rewrites, lucid_top_fit, lucid_top, lucid_top_laws and lucid_main. Promises of the program rest on its definitions
-// (docs/TRUSTED.md). Bodies and proofs may change; a public clause may only get stronger.
+// Used by lucid_pass_rewrites, lucid_pass_more, lucid_top_fit, lucid_top, lucid_top_laws and lucid_main. Promises of the program rest on its
+// definitions (docs/TRUSTED.md). Bodies and proofs may change; a public clause may only get stronger.
 #![tactic(auto)]
 
 mod dead;
