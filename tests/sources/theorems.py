@@ -1,0 +1,88 @@
+"""The clauses and laws that the pages speak of: those of `lucid`, those of the functions that `main` calls, and the laws of THEOREMS."""
+from __future__ import annotations
+
+import re
+from typing import Dict, List, Set, Tuple
+
+from .below import Repository, Root
+from .rattle import File, Item, body_of_function, used_names
+
+LUCID = ("lucid_top", "lucid")
+MAIN = "lucid_main"
+# The clauses that a reader meets first: what was written is right, the same where first fit places, and what it is compared with.
+FIRST = ("safe", "pipe", "whole")
+LAWS = re.compile(r"\b[Ll]aws? ((?:`\w+`(?:, | and |, and )?)+)")
+
+
+def clauses_of_lucid(repository: Repository) -> List[Root]:
+    """Returns the clauses of the one function `lucid`, those that a reader meets first before the others."""
+    found = repository.found(*LUCID, ("fn",))
+    if len(found) != 1:
+        repository.notes.add(f"crates/{LUCID[0]}: {len(found)} functions {LUCID[1]}")
+        return []
+    roots = repository.roots(*found[0])
+    return [root for name in FIRST for root in roots if root.clause == name] + [root for root in roots if root.clause not in FIRST]
+
+
+def clauses_of_main(repository: Repository) -> List[Root]:
+    """Returns the clauses of the functions that `main` calls, but for `lucid` itself."""
+    mains = repository.found(MAIN, "main", ("fn",))
+    if len(mains) != 1:
+        repository.notes.add(f"crates/{MAIN}: {len(mains)} functions main")
+        return []
+    file, item = mains[0]
+    roots = repository.roots(file, item)
+    for name in dict.fromkeys(re.findall(r"(?<![\w.:!])(\w+)(?:::<[^()]*>)?\(", body_of_function(item))):
+        path = file.uses.get(name, ["crate", name])
+        crate = MAIN if path[0] in ("crate", "super", "self") else path[0]
+        called = repository.found(crate, path[-1], ("fn",)) if crate in repository.crates else []
+        if len(called) > 1:
+            repository.notes.add(f"crates/{crate}: {len(called)} functions {path[-1]}")
+        for place in called[:1]:
+            if (crate, path[-1]) != LUCID:
+                roots += repository.roots(*place)
+    return roots
+
+
+def exported(repository: Repository, crate: str) -> Set[str]:
+    """Returns the names that a crate's lib.rt exports."""
+    names: Set[str] = set()
+    for file in repository.files(crate):
+        if file.module == "":
+            for item in file.items:
+                if item.kind == "use" and item.public:
+                    names.update(used_names(re.sub(r"^pub(?:\([a-z ]+\))? use ", "", item.text).rstrip(";"))[0])
+                elif item.public:
+                    names.add(item.name)
+    return names
+
+
+def functions(repository: Repository) -> Dict[str, List[str]]:
+    """Returns the crates that may define a public function of each name."""
+    found: Dict[str, List[str]] = {}
+    for path in sorted(repository.top.glob("crates/*/src/**/*.rt")):
+        crate = path.relative_to(repository.top / "crates").parts[0]
+        for name in re.findall(r"^pub fn (\w+)", path.read_text(encoding="utf-8"), re.M):
+            if crate in repository.crates and crate not in found.setdefault(name, []):
+                found[name].append(crate)
+    return found
+
+
+def laws_of_theorems(repository: Repository, clauses: List[Root]) -> List[Root]:
+    """Returns the clauses of each function that docs/THEOREMS.md names, in its order. A law that no crate exports is noted."""
+    page = "docs/THEOREMS.md"
+    text = (repository.top / page).read_text(encoding="utf-8")
+    named = {root.clause for root in clauses} | {LUCID[1]}
+    crates = functions(repository)
+    roots: List[Root] = []
+    laws = {name for names in LAWS.findall(text) for name in re.findall(r"`(\w+)`", names)}
+    for name in dict.fromkeys(re.findall(r"`(\w+)`", text)):
+        places: List[Tuple[File, Item]] = []
+        for crate in crates.get(name, []) if name not in named else []:
+            if name in exported(repository, crate):
+                places += [place for place in repository.found(crate, name, ("fn",)) if place[1].public]
+        if not places and name in laws and not name.startswith("some_"):
+            repository.notes.add(f"{page}: names the law {name}, which no crate exports")
+        for file, item in places:
+            roots += repository.roots(file, item, name if len(places) == 1 else f"{file.crate}::{name}")
+    return roots
