@@ -1,2 +1,2 @@
-mod Composed
+pub mod Composed
 mod Counted

@@ -11,7 +11,7 @@ mod Loading
 pub mod Moves
 mod OutLists
 mod Parted
-mod Passes
+pub mod Passes
 mod Places
 pub mod Settles
 pub mod Sizes

@@ -1,7 +1,7 @@
 mod Copying
-mod Following
+pub mod Following
 mod Oldest
-mod Passing
+pub mod Passing
 mod Settling
 mod Snapping
 mod Trailing

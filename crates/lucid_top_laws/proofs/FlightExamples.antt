@@ -1,6 +1,6 @@
 -- A scenario in which an event comes at ticks 0 and 1, so that two packets are in flight when it stops; the pipelines of a program
 -- whose handler calls an array; and the log of the network.
-use Rattle.std.proofs.Common.{◌≡◌, ◌+◌, ◌<◌, ◌≤◌, ◌∷◌, ◌++◌, inl, inr, ℕ, List, false, map, IsUtf8, None, Ok, Result, Some, [], ⊎_elim, ap, arith, codes, length, refl, subst, sym, ◌∙◌}
+use Rattle.std.proofs.Common.{◌≡◌, ◌+◌, ◌<◌, ◌≤◌, ◌∷◌, ◌++◌, inl, inr, ℕ, List, false, map, IsUtf8, None, Ok, Some, [], ⊎_elim, ap, arith, codes, length, refl, subst, sym, ◌∙◌}
 use Rattle.std.proofs.lemmas.Bool.{cases_lt}
 use Rattle.std.specs.Char.{encode_utf8}
 use Rattle.std.specs.Prelude.{⊤}
@@ -36,7 +36,6 @@ use Rattle.lucid_inline_spec.specs.Flat as f
 use Rattle.lucid_inline_spec.specs.Flat.{Flatten, Site, flat_expr, flat_of, flat_stmt, flat_touch}
 use Rattle.lucid_layout.specs.Fit.{IsFirstFit, NotBefore}
 use Rattle.lucid_layout.specs.Layout.{IsLayout, stages_of}
-use Rattle.lucid_lex.specs.Reading.{joined}
 use Rattle.lucid_log.specs.Cells.{lines_from}
 use Rattle.lucid_merge.specs.Product.{product}
 use Rattle.lucid_net_spec.specs.Log as net
@@ -45,9 +44,8 @@ use Rattle.lucid_net_spec.specs.Ways.{Run}
 use Rattle.lucid_normal_spec.specs.Program.{input_widths, start, translate}
 use Rattle.lucid_normal_spec.specs.Translate as t
 use Rattle.lucid_normal_spec.specs.Translate.{Expressed, Translation, guarded, seq, stmt_code}
-use Rattle.lucid_size.proofs.Exists.{expansion_exists}
-use Rattle.lucid_size.specs.Expansion.{ExpandsTo, written}
-use Rattle.lucid_size.specs.Templates.{templates}
+use Rattle.lucid_size.proofs.Plain.{plain_expands}
+use Rattle.lucid_size.specs.Expansion.{ExpandsTo}
 use Rattle.lucid_stages.specs.declared.stage.Pair.{Pair}
 use Rattle.lucid_stages.specs.Counts.{count_of, most_ops}
 use Rattle.lucid_stages.specs.NodeWorks.{works}
@@ -68,7 +66,7 @@ abbrev pub text : Bytes
 text = codes "{\"stop\":2,\"events\":[{\"at\":0,\"switch\":0,\"name\":\"e\",\"args\":[5]},{\"at\":1,\"switch\":0,\"name\":\"e\",\"args\":[7]}]}"
 
 -- the keys of an object stand in their order
-abbrev event_told : ℕ → ℕ → Data
+abbrev pub event_told : ℕ → ℕ → Data
 event_told at value = object
     (member (codes "args") (array (item (number (unsigned value)) no_items))
     (member (codes "at") (number (unsigned at))
@@ -161,10 +159,10 @@ has_normal = record {
 
 -- ---- the pipelines
 
-abbrev first : Pair
+abbrev pub first : Pair
 first = record { stage = 0; table = 0 }
 
-first_of : (q : Pair) → NotBefore q first
+pub first_of : (q : Pair) → NotBefore q first
 first_of q = ⊎_elim (λ (b : 0 < q.stage). inl b) (λ (b : q.stage ≤ 0). inr (omega (arith, b), omega arith)) (cases_lt 0 q.stage)
 
 fits : IsFirstFit code.ops limits [] (works code.ops) (first ∷ [])
@@ -202,16 +200,9 @@ pipes = piped (target core limits) fitted
 abbrev pub network : Ready
 network = ready pipes scene
 
-same_ok : {X : Type 0} (x y : X) (o : Result X ℕ) → o ≡ Ok x → o ≡ Ok y → x ≡ y
-same_ok x y o is are = cc
-
 -- No template begins in the program, so it is its own expansion.
 expands : ExpandsTo handler.text tokens handler.text
-expands =
-    let there = expansion_exists handler.text tokens [] refl refl in
-    let same : there.1.found ≡ [] = same_ok there.1.found [] (templates tokens) there.1.whole refl in
-    let pieces : there.0 ≡ written handler.text tokens [] there.1.widths = there.1.pieces_are ∙ ap (λ xs. written handler.text tokens xs there.1.widths) same in
-    (there.0, there.1, sym (ap (λ ps. joined ps []) pieces))
+expands = plain_expands handler.text tokens worked.reads refl
 
 is_piped : IsPiped handler.text (codes "{}") [] (Ok pipes)
 is_piped = (Ok (target core limits), (Ok core, is_program handler.text tokens tree core worked expands, (Ok limits, are_limits, refl)), (Ok fitted, is_fitted, refl))
@@ -221,16 +212,16 @@ is_ready = (Ok pipes, is_piped, (Ok scene, is_scenario, refl))
 
 -- ---- the log
 
-value_run : (y : Expr-F Expr Stmt Touch) (p : Frame) (s : State) → value_of (roll-Expr y) p s ≡ expr_step (map-Expr Expr Stmt Touch (Computation Bits) Effect (Computation Bits) value_of effect_of touch_of y) p s
+pub value_run : (y : Expr-F Expr Stmt Touch) (p : Frame) (s : State) → value_of (roll-Expr y) p s ≡ expr_step (map-Expr Expr Stmt Touch (Computation Bits) Effect (Computation Bits) value_of effect_of touch_of y) p s
 value_run y p s = ap (λ (g : Computation Bits). g p s) (fold-roll-Expr (Computation Bits) Effect (Computation Bits) expr_step stmt_step touch_step y)
 
-effect_run : (y : Stmt-F Expr Stmt Touch) (p : Frame) (s : State) → effect_of (roll-Stmt y) p s ≡ stmt_step (map-Stmt Expr Stmt Touch (Computation Bits) Effect (Computation Bits) value_of effect_of touch_of y) p s
+pub effect_run : (y : Stmt-F Expr Stmt Touch) (p : Frame) (s : State) → effect_of (roll-Stmt y) p s ≡ stmt_step (map-Stmt Expr Stmt Touch (Computation Bits) Effect (Computation Bits) value_of effect_of touch_of y) p s
 effect_run y p s = ap (λ (g : Effect). g p s) (fold-roll-Stmt (Computation Bits) Effect (Computation Bits) expr_step stmt_step touch_step y)
 
-touch_run : (y : Touch-F Expr Stmt Touch) (p : Frame) (s : State) → touch_of (roll-Touch y) p s ≡ touch_step (map-Touch Expr Stmt Touch (Computation Bits) Effect (Computation Bits) value_of effect_of touch_of y) p s
+pub touch_run : (y : Touch-F Expr Stmt Touch) (p : Frame) (s : State) → touch_of (roll-Touch y) p s ≡ touch_step (map-Touch Expr Stmt Touch (Computation Bits) Effect (Computation Bits) value_of effect_of touch_of y) p s
 touch_run y p s = ap (λ (g : Computation Bits). g p s) (fold-roll-Touch (Computation Bits) Effect (Computation Bits) expr_step stmt_step touch_step y)
 
-ruleset runs = (value_run, effect_run, touch_run)
+pub ruleset runs = (value_run, effect_run, touch_run)
 
 -- The first event finds 0 in the cell, and the second finds what the first has left.
 first_step : step core ((0 ∷ []) ∷ []) 0 0 (event 5) ≡ record { cells = (5 ∷ []) ∷ []; outs = [] }

@@ -1,12 +1,11 @@
 -- The core of that program, by the typing rules, and the order of its arrays.
-use Rattle.std.proofs.Common.{◌≡◌, ◌<◌, ◌^◌, ◌∙◌, ℕ, List, [], ◌∷◌, Bool, Option, true, false, None, Some, ap, arith, codes, refl, subst, sym}
+use Rattle.std.proofs.Common.{◌≡◌, ◌<◌, ◌^◌, ◌∙◌, ℕ, List, [], ◌∷◌, true, false, None, Some, ap, arith, codes, refl, subst, sym}
 use Rattle.std.proofs.lemmas.Bool.{and_from}
 use Rattle.std.specs.Prelude.{All}
 use Rattle.std.proofs.lemmas.List.Elements.{All-cons, All-nil}
 use Rattle.lucid_base.specs.Bits.{bits_of}
 use Rattle.lucid_base.specs.declared.array.ArrayName.TheVariants.{Global}
 use Rattle.lucid_base.specs.declared.memory_alu.MemArg.TheVariants.{Stored}
-use Rattle.lucid_base.specs.declared.ops.BinOp.{BinOp}
 use Rattle.lucid_base.specs.declared.ops.BinOp.TheVariants as bin
 use Rattle.lucid_base.specs.declared.ops.CmpOp.TheVariants.{Gt}
 use Rattle.lucid_core.specs.declared.body.Expr.{Expr}
@@ -57,6 +56,7 @@ use Rattle.lucid_types_spec.proofs.FewCases as few
 use Rattle.lucid_types_spec.proofs.Leaves.{Inside, inside, no_name}
 use Rattle.lucid_types_spec.proofs.Rolled as rolled
 use Rattle.lucid_top_laws.proofs.HandlerExamples.{ends}
+use Rattle.lucid_top_laws.proofs.RolledLemmas as rolls
 use Rattle.lucid_top_laws.proofs.GeneratedTree.{body_0, body_1, body_2, body_3, body_4, body_5, body_6, body_7, decls, got, i_name, late, put, sent_across, sent_here, updated, v_name, values}
 
 -- ---- statements of handlers
@@ -153,28 +153,21 @@ updated_is q above =
     rolled.choose (rolled.cmp Gt (rolled.local 1) (number_is above))
     (rolled.parts (answered_is (updated_touch q) _ _ _ (rolled.local 0) (number_is 1) (rolled.local 1)) refl) refl
 
-bin_is : (op : BinOp) (x y c d : Expr) → x ≡ c → y ≡ d → expr.Bin op x y ≡ roll-Expr (Expr-F.Bin op c d)
-bin_is op x y c d one two = ap (λ (z : Expr). expr.Bin op x z) two ∙ ap (λ (z : Expr). expr.Bin op z d) one ∙ sym (expr.rolls-Bin op c d)
-
 abbrev arguments : List Expr
 arguments = expr.Bin bin.Add (expr.Local 0) (expr.Fixed (bits_of 32 1)) ∷ expr.Local 1 ∷ []
 
 arguments_are : arguments ≡ next_index ∷ local 1 ∷ []
-arguments_are = rolled.parts (bin_is bin.Add _ _ _ _ (rolled.local 0) (number_is 1)) (rolled.parts (rolled.local 1) refl)
+arguments_are = rolled.parts (rolls.computed bin.Add (rolled.local 0) (number_is 1)) (rolled.parts (rolled.local 1) refl)
 
-gen_is : (j : ℕ) (xs cs : List Expr) (x c : Expr) (to across : Option Expr) (first : Bool) → xs ≡ cs → x ≡ c → to ≡ across →
-    core.Gen j xs (Some x) to first ≡ roll-Stmt (Stmt-F.Gen j cs (Some c) across first)
-gen_is j xs cs x c to across first one two three =
-    ap (λ (z : Option Expr). core.Gen j xs (Some x) z first) three ∙ ap (λ (z : Expr). core.Gen j xs (Some z) across first) two
-    ∙ ap (λ (zs : List Expr). core.Gen j zs (Some c) across first) one ∙ sym (core.rolls-Gen j cs (Some c) across first)
+late_is : (delay : ℕ) → Some (expr.Fixed (bits_of 32 delay)) ≡ Some (number delay)
+late_is delay = ap (λ (c : Expr). Some c) (number_is delay)
 
 here_is : (j delay : ℕ) → core.Gen j arguments (Some (expr.Fixed (bits_of 32 delay))) None false ≡ here_core j delay
-here_is j delay = gen_is j _ _ _ _ None None false arguments_are (number_is delay) refl
+here_is j delay = rolls.generated j false arguments_are (late_is delay) refl
 
 across_is : (j delay : ℕ) → core.Gen j arguments (Some (expr.Fixed (bits_of 32 delay))) (Some (expr.Bin bin.Xor expr.Me (expr.Fixed (bits_of 32 1)))) true ≡ across_core j delay
 across_is j delay =
-    gen_is j _ _ _ _ (Some (expr.Bin bin.Xor expr.Me (expr.Fixed (bits_of 32 1)))) (Some other_switch) true arguments_are (number_is delay)
-    (ap (λ (c : Expr). Some c) (bin_is bin.Xor _ _ _ _ (sym expr.rolls-Me) (number_is 1)))
+    rolls.generated j true arguments_are (late_is delay) (ap (λ (c : Expr). Some c) (rolls.computed bin.Xor (sym expr.rolls-Me) (number_is 1)))
 
 -- The statement has this core, which is the same in rolls.
 abbrev IsStatement : S → Stmt → Type 0

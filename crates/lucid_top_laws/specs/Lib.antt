@@ -7,5 +7,8 @@ pub mod Matches
 pub mod Moves
 pub mod Packet
 pub mod Room
+pub mod Snapshots
 pub mod Summaries
 pub mod Templates
+pub mod Texts
+pub mod TextsWorked

@@ -1,4 +1,4 @@
--- When first fit refuses a node of an accepted program: only where a limit is exceeded.
+-- When first fit refuses a node of an accepted program: only if no place has room for it.
 use Rattle.std.specs.Prelude.{◌≡◌, ℕ, List, [], ◌∷◌, Ok, Err, map}
 use Rattle.lucid_core.specs.Parts.{CoreParts}
 use Rattle.lucid_pass_spec.specs.Dead.{alive}

@@ -68,8 +68,8 @@ pub fn audits_run_whole(core: &Core)
     events_have_32_bits(core.handlers());
 }
 
-/// A law: first fit refuses a node of an accepted program only if a limit is exceeded, if the passes keep each node after its reads; and
-/// the four passes of the program do.
+/// A law: first fit refuses a node of an accepted program only if no place has room for it, if the passes keep each node after its reads.
+/// The four passes of the program do.
 pub fn refused_for_room(core: &Core)
     ensures room { IsAccepted core.now → RefusedForRoom core.now }
     ensures ours { OursKeepNodes }
@@ -82,8 +82,8 @@ pub fn refused_for_room(core: &Core)
     events_have_32_bits(core.handlers());
 }
 
-/// A law on the answers of commands: if the program is accepted and the passes keep each node after its reads, a node has no place only if
-/// a limit is exceeded.
+/// A law on the answers of commands: if the program is accepted and the passes keep each node after its reads, a node is refused only if no
+/// place has room for it.
 pub fn nodes_lack_room()
     ensures { NodesLackRoom }
 {
