@@ -1,5 +1,5 @@
 // The laws of first fit. Nothing runs.
-ghost use Rattle.lucid_layout_laws.specs.Laws.{FirstFitsAreAccepted, LayoutsAreOne, LayoutsAreThere, StuckForRoom};
+ghost use Rattle.lucid_layout_laws.specs.Laws.{FirstFitsAreAccepted, LayoutsAreOne, LayoutsAreThere, ProductsOnTheWayFit, StuckForRoom};
 
 /// Code has a layout within limits, or a cause for none.
 pub fn layouts_are_there()
@@ -22,4 +22,10 @@ pub fn stuck_for_room()
 #[tactic(auto, using(crate::proofs::FitsAccepted::first_fits_are_accepted))]
 pub fn first_fits_are_accepted()
     ensures { FirstFitsAreAccepted }
+{}
+
+/// A node that fits into a table needs no rule for the products on the way: each has at most as many rows as the table with the node.
+#[tactic(auto, using(crate::proofs::Growing::products_on_the_way_fit))]
+pub fn products_on_the_way_fit()
+    ensures { ProductsOnTheWayFit }
 {}

@@ -1,9 +1,12 @@
 // Laws of first fit. Code has a layout within its limits or a cause of refusal, and only one. If nodes follow their reads, a node has no
 // place only because a limit leaves no room for it. The places of a first fit keep the rules of an audit. The laws are on functions that
-// do nothing. Read specs/Laws.
+// do nothing. The rule for products on the way follows from the rule for whole tables. Read specs/Laws.
 // Used by lucid_top_fit and lucid_top_laws. Proofs may change; a law may only get stronger.
 #![tactic(auto)]
 
 mod laws;
 
-pub use laws::{first_fits_are_accepted, layouts_are_one, layouts_are_there, stuck_for_room};
+pub use laws::{
+    first_fits_are_accepted, layouts_are_one, layouts_are_there, products_on_the_way_fit,
+    stuck_for_room,
+};
