@@ -1,5 +1,5 @@
 -- Counts of faults: one for a sink, one for each name of a file. They never fall, and stop at the last u64.
-use Rattle.std.specs.Prelude.{◌≡◌, ℕ, ◌≤◌, ◌==◌, max, Bool, List, Option, IsSome}
+use Rattle.std.specs.Prelude.{◌≡◌, ℕ, ◌≤◌, ◌==◌, max, Bool, List}
 use Rattle.std.specs.List.{list_any}
 use Rattle.lucid_base.specs.Saturating.{saturating_next}
 
@@ -19,9 +19,9 @@ SameCounts before now = (name : List ℕ) → now name ≡ before name
 abbrev pub AllRose : (List ℕ → Type 0) → (List ℕ → ℕ) → (List ℕ → ℕ) → Type 0
 AllRose P before now = (name : List ℕ) → P name → Rose (before name) (now name)
 
--- the count is unchanged for each name without P whose bytes are specified
-abbrev pub OthersKept : (List ℕ → Type 0) → (List ℕ → Option (List ℕ)) → (List ℕ → ℕ) → (List ℕ → ℕ) → Type 0
-OthersKept P held before now = (name : List ℕ) → ¬ P name → IsSome (held name) → now name ≡ before name
+-- the count is unchanged for each name without P
+abbrev pub OthersKept : (List ℕ → Type 0) → (List ℕ → ℕ) → (List ℕ → ℕ) → Type 0
+OthersKept P before now = (name : List ℕ) → ¬ P name → now name ≡ before name
 
 -- A count after one more. That of a machine has 64 bits, and then this is `saturating_next`; of no number it falls.
 abbrev pub raised : ℕ → ℕ

@@ -1,25 +1,16 @@
 -- How the fields of the files in memory are seen.
-use Rattle.std.specs.Prelude.{ℕ, ◌<◌, ◌≤◌, List, length, map, Option, None, string_bytes}
+use Rattle.std.specs.Prelude.{ℕ, ◌<◌, ◌≤◌, List, [], length, map, Option, None, string_bytes}
 use Rattle.std.specs.Option.{ForSome}
 use Rattle.lucid_io.specs.MemFiles.{FileView, MemFilesView, bytes_at}
 use Rattle.lucid_io.specs.declared.mem_files.MemFile.{MemFile}
-use Rattle.lucid_io.specs.declared.mem_files.CountedFile.{CountedFile}
 
--- a file with its count, as contracts see it
-abbrev pub file_view : CountedFile → FileView
-file_view counted = record { name = string_bytes counted.file.name; bytes = counted.file.bytes.items; faults = counted.faults }
-
--- a file that has met no fault
-abbrev pub unfaulted : MemFile → CountedFile
-unfaulted file = record { file = file; faults = 0 }
-
--- such a file, as contracts see it
-abbrev pub new_file : MemFile → FileView
-new_file file = record { name = string_bytes file.name; bytes = file.bytes.items; faults = 0 }
+-- a file, as contracts see it
+abbrev pub file_view : MemFile → FileView
+file_view file = record { name = string_bytes file.name; bytes = file.bytes.items }
 
 -- files that were just made: nothing is begun, nothing given, and no call was made
 abbrev pub new_files : List MemFile → List ℕ → MemFilesView
-new_files files fails = record { files = map new_file files; absent = 0; fails = fails; calls = 0; begun = None; given = 0; reads = 0 }
+new_files files fails = record { files = map file_view files; fails = fails; calls = 0; begun = None; given = 0; reads = 0; heard = []; faulted = [] }
 
 -- the place, if it is one, has a file
 abbrev pub IsThere : List FileView → Option ℕ → Type 0

@@ -6,9 +6,13 @@
 #![tactic(auto)]
 
 mod counts;
+mod disk;
 mod files;
+mod history;
+mod machine;
 mod mem_files;
 mod mem_sink;
+mod past;
 mod reading;
 mod real_files;
 mod real_out;
@@ -17,7 +21,10 @@ mod sink;
 mod writing;
 
 pub use counts::rises_are_seen;
+pub use disk::Disk;
 pub use files::{Failed, Files};
+pub use history::histories_agree;
+pub use machine::{RealDisk, RealStream};
 pub use mem_files::{MemFile, MemFiles};
 pub use mem_sink::MemSink;
 pub use reading::{Take, read_all};

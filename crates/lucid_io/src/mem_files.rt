@@ -1,16 +1,16 @@
 // Files in memory, which fail at the calls that their maker chooses. All their contents are specified.
-ghost use Rattle.std.specs.Prelude.{◌≡◌, ◌↔◌, ◌⊎◌, ℕ, ◌+◌, ◌-◌, ◌^◌, ◌<◌, ◌≤◌, ◌++◌, List, [], Option, Some, length, map, min, take, drop, IsTrue, IsErr, IsSome, IfOk, OnOk, OnErr, MatchResult};
+ghost use Rattle.std.specs.Prelude.{◌≡◌, ◌↔◌, ◌⊎◌, ℕ, ◌+◌, ◌-◌, ◌^◌, ◌<◌, ◌≤◌, ◌++◌, List, [], ◌∷◌, Option, Some, length, map, min, take, drop, IsTrue, IsErr, IsSome, IfOk, OnOk, OnErr, MatchResult};
 ghost use Rattle.std.specs.Io.{ReadsAtMost};
 ghost use Rattle.std.specs.Io.KnownBytes.{ReadConsumes};
 ghost use Rattle.lucid_base.specs.Saturating.{saturating_sum};
 ghost use Rattle.lucid_io.specs.Contents.{SameHeld, Tells};
 ghost use Rattle.lucid_io.specs.Counts.{raised, Rose, NoneFell, SameCounts, AllRose, OthersKept, is_failing};
-ghost use Rattle.lucid_io.specs.MemFiles.{bytes_of, IsBegun, unread, faults_of, begin_fails, after_begin, after_failed_begin, after_read, after_failed_read, place_of, blamed_files, blamed_absent, left_at};
+ghost use Rattle.lucid_io.specs.History.{IsAmong, begun_now, heard_more};
+ghost use Rattle.lucid_io.specs.MemFiles.{bytes_of, IsBegun, unread, faults_of, begin_fails, after_begin, after_failed_begin, after_read, after_failed_read, place_of, left_at};
 
 use crate::counts::{next_fails, raise};
 use crate::files::{Failed, Files};
-use lucid_base::Memory;
-use std::alloc::{AllocError, Global};
+use crate::past::{Note, Past};
 use std::marker::Model;
 
 /// A file in memory: its name and its bytes.
@@ -20,26 +20,18 @@ pub struct MemFile {
     pub bytes: Vec<u8>,
 }
 
-// A file, and how many faults it has met.
-#[derive(Drop)]
-struct CountedFile {
-    file: MemFile,
-    faults: u64,
-}
-
-/// Files by name. Of two with one name the first counts. One count of faults is kept for each file, and one for all names that don't
-/// exist; a read that fails with nothing begun raises the latter.
+/// Files by name. Of two with one name the first counts. A read that fails is a fault of the name that was begun last.
 ///
 /// Contracts see a `MemFilesView` of specs/MemFiles, which also defines the effect of each call.
 #[derive(Drop)]
 pub struct MemFiles {
-    files: Vec<CountedFile>,
-    absent: u64,
+    files: Vec<MemFile>,
     fails: Vec<u64>,
     calls: u64,
     begun: Option<usize>,
     given: usize,
     reads: u64,
+    past: Past,
 }
 
 impl Model for MemFiles {
@@ -50,7 +42,7 @@ impl Model for MemFiles {
 
     ghost use Rattle.lucid_io.specs.MemFilesFields.{file_view, IsThere, IsWithin};
 
-    ghost view = { λ s. record { files = map file_view s.files.items; absent = s.absent; fails = s.fails.items; calls = s.calls; begun = s.begun; given = s.given; reads = s.reads } };
+    ghost view = { λ s. record { files = map file_view s.files.items; fails = s.fails.items; calls = s.calls; begun = s.begun; given = s.given; reads = s.reads; heard = s.past.heard; faulted = s.past.faulted } };
 
     ghost invariant = { λ s. IsThere (map file_view s.files.items) s.begun × IsWithin (map file_view s.files.items) s.begun s.given };
 }
@@ -60,18 +52,18 @@ impl MemFiles {
 
     /// Makes these files, with nothing begun and no count above 0. The calls of `begin` and `read` whose numbers are in `fails` fail;
     /// they are numbered together from 0, and the number stays at the last u64.
-    pub fn new(alloc: Global, files: Vec<MemFile>, fails: Vec<u64>) -> Result<MemFiles, Memory>
-        ensures { IfOk result (λ s. s ≡ new_files files.items fails.items) }
+    pub fn new(files: Vec<MemFile>, fails: Vec<u64>) -> MemFiles
+        ensures { result ≡ new_files files.items fails.items }
     {
-        Ok(MemFiles {
-            files: counted(alloc, files)?,
-            absent: 0,
+        MemFiles {
+            files,
             fails,
             calls: 0,
             begun: None,
             given: 0,
             reads: 0,
-        })
+            past: Past::new(),
+        }
     }
 
     // `begin`, in exact terms.
@@ -83,9 +75,10 @@ impl MemFiles {
         let place = place(&self.files, name);
         let fails = next_fails(&self.fails, &mut self.calls);
         self.given = 0;
+        self.past = self.past.then(&Note::Begun(name));
         if fails || place.is_none() {
             self.begun = None;
-            blame(&mut self.files, &mut self.absent, place);
+            self.past = self.past.then(&Note::Failed);
             return Err(Failed);
         }
         self.begun = place;
@@ -97,17 +90,18 @@ impl MemFiles {
         ensures fails { IsErr result ↔ IsTrue (is_failing self.old.fails self.old.calls) }
         ensures count { IfOk result (λ n. n ≡ min (length room.old) (length (unread self.old))) }
         ensures room { IfOk result (λ n. room.new ≡ take n (unread self.old) ++ drop n room.old) }
-        ensures ok { IfOk result (λ n. self.new ≡ after_read self.old n) }
+        ensures ok { IfOk result (λ n. self.new ≡ after_read self.old room.new n) }
         ensures err { OnErr result (self.new ≡ after_failed_read self.old) }
         ensures small { self.new.given < 2 ^ 64 }
     {
         raise(&mut self.reads);
         if next_fails(&self.fails, &mut self.calls) {
-            blame(&mut self.files, &mut self.absent, self.begun);
+            self.past = self.past.then(&Note::Failed);
             return Err(Failed);
         }
         let count = copy_rest(&self.files, self.begun, self.given, room);
         self.given += count;
+        self.past = self.past.then(&Note::Gave(room, count));
         Ok(count)
     }
 }
@@ -123,8 +117,9 @@ impl Files for MemFiles {
 
     ghost reads = { λ s. s.reads };
 
-    // names are unspecified
-    ghost tried = { λ _ name. Unit {0} };
+    ghost heard = { λ s. s.heard };
+
+    ghost tried = { λ s name. IsAmong name s.heard };
 
     ghost faults = { faults_of };
 
@@ -138,16 +133,17 @@ impl Files for MemFiles {
         // as all files
         ensures held { SameHeld (bytes_of self.old) (bytes_of self.new) }
         ensures begun { OnOk result (IsBegun self.new name.now) }
-        ensures one { OnOk result ((other : List ℕ) → IsBegun self.new other → IsSome (bytes_of self.old other) → other ≡ name.now) }
+        ensures one { OnOk result ((other : List ℕ) → IsBegun self.new other → other ≡ name.now) }
         ensures left { OnOk result (Tells (bytes_of self.old name.now) (Some (unread self.new))) }
         ensures given { self.new.given ≡ 0 }
         ensures reads { self.new.reads ≡ self.old.reads }
-        ensures tried { Unit {0} }
-        ensures no_other { (other : List ℕ) → Unit {0} → Unit {0} ⊎ (other ≡ name.now) }
+        ensures heard { self.new.heard ≡ begun_now name.now ∷ self.old.heard }
+        ensures tried { IsAmong name.now self.new.heard }
+        ensures no_other { (other : List ℕ) → IsAmong other self.new.heard → IsAmong other self.old.heard ⊎ (other ≡ name.now) }
         ensures later { NoneFell (faults_of self.old) (faults_of self.new) }
         ensures quiet { OnOk result (SameCounts (faults_of self.old) (faults_of self.new)) }
         ensures cause { OnErr result (Rose (faults_of self.old name.now) (faults_of self.new name.now)) }
-        ensures others { OthersKept (λ other. other ≡ name.now) (bytes_of self.old) (faults_of self.old) (faults_of self.new) }
+        ensures others { OthersKept (λ other. other ≡ name.now) (faults_of self.old) (faults_of self.new) }
     {
         self.turn_to(name)
     }
@@ -158,7 +154,7 @@ impl Files for MemFiles {
         ensures fails { IsErr result ↔ IsTrue (is_failing self.old.fails self.old.calls) }
         ensures count { IfOk result (λ n. n ≡ min (length room.old) (length (unread self.old))) }
         ensures room { IfOk result (λ n. room.new ≡ take n (unread self.old) ++ drop n room.old) }
-        ensures ok { IfOk result (λ n. self.new ≡ after_read self.old n) }
+        ensures ok { IfOk result (λ n. self.new ≡ after_read self.old room.new n) }
         ensures err { OnErr result (self.new ≡ after_failed_read self.old) }
 
         // as all files
@@ -169,55 +165,34 @@ impl Files for MemFiles {
         ensures bytes { ReadConsumes (Some (unread self.old)) (Some (unread self.new)) result room.new }
         ensures given { MatchResult result (λ n. self.new.given ≡ saturating_sum self.old.given n) (λ _. self.new.given ≡ self.old.given) }
         ensures reads { self.new.reads ≡ raised self.old.reads }
-        ensures untried { (name : List ℕ) → Unit {0} → Unit {0} }
+        ensures heard { MatchResult result (λ n. self.new.heard ≡ heard_more n room.new self.old.heard) (λ _. self.new.heard ≡ self.old.heard) }
+        ensures untried { (name : List ℕ) → IsAmong name self.new.heard → IsAmong name self.old.heard }
         ensures later { NoneFell (faults_of self.old) (faults_of self.new) }
         ensures quiet { OnOk result (SameCounts (faults_of self.old) (faults_of self.new)) }
         ensures cause { OnErr result (AllRose (IsBegun self.old) (faults_of self.old) (faults_of self.new)) }
-        ensures others { OthersKept (IsBegun self.old) (bytes_of self.old) (faults_of self.old) (faults_of self.new) }
+        ensures others { OthersKept (IsBegun self.old) (faults_of self.old) (faults_of self.new) }
     {
         self.give(room)
     }
 }
 
-ghost use Rattle.lucid_io.specs.MemFilesFields.{file_view, unfaulted, IsThere, IsWithin};
-
-// The files, with no fault met.
-fn counted(alloc: Global, files: Vec<MemFile>) -> Result<Vec<CountedFile>, AllocError>
-    ensures { IfOk result (λ v. v.items ≡ map unfaulted files.items) }
-{
-    files
-        .into_iter()
-        .map(|file| CountedFile { file, faults: 0 })
-        .collect(alloc)
-}
+ghost use Rattle.lucid_io.specs.MemFilesFields.{file_view, IsThere, IsWithin};
 
 // The place of the first file of this name.
-fn place(files: &Vec<CountedFile>, name: &str) -> Option<usize>
+fn place(files: &Vec<MemFile>, name: &str) -> Option<usize>
     ensures first { result ≡ place_of (map file_view files.now.items) name.now }
     ensures there { IsThere (map file_view files.now.items) result }
 {
-    for (place, counted) in files.iter().enumerate() {
-        if counted.file.name.as_str() == name {
+    for (place, file) in files.iter().enumerate() {
+        if file.name.as_str() == name {
             return Some(place);
         }
     }
     None
 }
 
-// Raises the count of the file at this place, or, with no place, that of all names that aren't there.
-fn blame(files: &mut Vec<CountedFile>, absent: &mut u64, place: Option<usize>)
-    requires { IsThere (map file_view files.old.items) place }
-    ensures files { map file_view files.new.items ≡ blamed_files (map file_view files.old.items) place }
-    ensures absent { absent.new ≡ blamed_absent absent.old place }
-{
-    match place {
-        Some(place) => raise(&mut files[place].faults),
-        None => raise(absent),
-    }
-}
-
 // Copies the unread bytes of the begun file into the front of the buffer, as many as fit, and returns their number.
-fn copy_rest(files: &Vec<CountedFile>, begun: Option<usize>, given: usize, room: &mut [u8]) -> usize
+fn copy_rest(files: &Vec<MemFile>, begun: Option<usize>, given: usize, room: &mut [u8]) -> usize
     requires there { IsThere (map file_view files.now.items) begun }
     requires within { IsWithin (map file_view files.now.items) begun given }
     ensures count { result ≡ min (length room.old) (length (left_at (map file_view files.now.items) begun given)) }
@@ -226,7 +201,7 @@ fn copy_rest(files: &Vec<CountedFile>, begun: Option<usize>, given: usize, room:
     ensures small { given + result < 2 ^ 64 }
 {
     match begun {
-        Some(place) => copy(&files[place].file.bytes, given, room),
+        Some(place) => copy(&files[place].bytes, given, room),
         None => 0,
     }
 }

@@ -1,7 +1,8 @@
 // A whole file, up to a limit.
-ghost use Rattle.std.specs.Prelude.{◌≡◌, ◌≢◌, ◌⊎◌, ◌+◌, ◌^◌, ◌<◌, ◌≤◌, ℕ, List, length, IfSome, IfOk};
+ghost use Rattle.std.specs.Prelude.{◌≡◌, ◌≢◌, ◌⊎◌, ◌+◌, ◌^◌, ◌<◌, ◌≤◌, ℕ, List, [], true, false, length, IfSome, IfOk, IfErr};
 ghost use Rattle.lucid_io.specs.Counts.{Rose, NoneFell, SameCounts, AllRose, OthersKept};
 ghost use Rattle.lucid_io.specs.Contents.{SameHeld};
+ghost use Rattle.lucid_io.specs.History.{HeardPart, HeardWhole, GavePart, gave};
 
 use crate::files::Files;
 use std::alloc::{AllocError, Global};
@@ -51,6 +52,10 @@ pub fn read_all<F: Files>(
     ensures given { IfOk result (λ v. F.given files.new ≡ length v.items) }
     ensures no_more { F.given files.new ≤ limit + 1 }
 
+    // the entry of the history: what the reads returned, whether or not the content is specified
+    ensures heard { IfOk result (λ v. HeardWhole (F.heard files.old) (F.heard files.new) name.now v.items) }
+    ensures heard_part { IfErr result (λ why. HeardPart (F.heard files.old) (F.heard files.new) name.now (F.held files.old name.now) limit why) }
+
     // the calls
     ensures reads { F.reads files.new ≤ F.reads files.old + limit + 2 }
     ensures no_other { (other : List ℕ) → F.tried files.new other → F.tried files.old other ⊎ (other ≡ name.now) }
@@ -65,7 +70,7 @@ pub fn read_all<F: Files>(
     ensures held { SameHeld (F.held files.old) (F.held files.new) }
     ensures later { NoneFell (F.faults files.old) (F.faults files.new) }
     ensures quiet { result ≢ Err Take.ReadFault → SameCounts (F.faults files.old) (F.faults files.new) }
-    ensures others { OthersKept (λ other. other ≡ name.now) (F.held files.old) (F.faults files.old) (F.faults files.new) }
+    ensures others { OthersKept (λ other. other ≡ name.now) (F.faults files.old) (F.faults files.new) }
 {
     match files.begin(name) {
         Ok(()) => take_rest(alloc, files, limit),
@@ -77,6 +82,9 @@ pub fn read_all<F: Files>(
 fn take_rest<F: Files>(alloc: Global, files: &mut F, limit: usize) -> Result<Vec<u8>, Take>
     requires small { limit < 2 ^ 32 }
     requires start { F.given files.old ≡ 0 }
+    requires fresh { F.heard files.old ≡ gave [] false (F.heard files.old) }
+    ensures heard { IfOk result (λ v. F.heard files.new ≡ gave v.items true (F.heard files.old)) }
+    ensures heard_part { IfErr result (λ why. GavePart (F.heard files.old) (F.heard files.new) (F.left files.old) limit why) }
     ensures reads { F.reads files.new ≤ F.reads files.old + limit + 2 }
     ensures untried { (other : List ℕ) → F.tried files.new other → F.tried files.old other }
     ensures bytes { IfOk result (λ v. IfSome (F.left files.old) (λ left. v.items ≡ left)) }
@@ -90,7 +98,7 @@ fn take_rest<F: Files>(alloc: Global, files: &mut F, limit: usize) -> Result<Vec
     ensures held { SameHeld (F.held files.old) (F.held files.new) }
     ensures later { NoneFell (F.faults files.old) (F.faults files.new) }
     ensures quiet { result ≢ Err Take.ReadFault → SameCounts (F.faults files.old) (F.faults files.new) }
-    ensures others { OthersKept (F.begun files.old) (F.held files.old) (F.faults files.old) (F.faults files.new) }
+    ensures others { OthersKept (F.begun files.old) (F.faults files.old) (F.faults files.new) }
 {
     let mut bytes = Vec::new(alloc);
     let mut room = [0u8; CHUNK];

@@ -1,45 +1,57 @@
-// A stream of the machine, as its standard output or error. Its content is unspecified, and every error is counted.
-ghost use Rattle.std.specs.Prelude.{◌≡◌};
+// A sink with the history of what it took: its content is all bytes that the sink below accepted.
+ghost use Rattle.std.specs.Prelude.{◌≡◌, ◌<◌, ◌≤◌, Some, [], length, IfOk, OnOk, OnErr};
+ghost use Rattle.std.specs.Io.{WritesAtMost};
+ghost use Rattle.std.specs.Io.KnownBytes.{WriteAppends};
+ghost use Rattle.lucid_io.specs.Counts.{Rose};
 
-use crate::counts::raise;
 use crate::files::Failed;
+use crate::past::{Note, Past};
 use crate::sink::Sink;
-use std::io::Write;
 
-/// A stream that is written, byte after byte, with no buffer of its own.
+/// A sink over another, with no buffer of its own. The content is specified, also where that of the other is not.
 #[derive(Drop)]
-pub struct RealOut<W: Write + Drop> {
-    stream: W,
-    faults: u64,
+pub struct RealOut<S: Sink + Drop> {
+    sink: S,
+    past: Past,
 }
 
-impl<W: Write + Drop> RealOut<W> {
-    /// Returns this stream, with a count of faults of 0.
-    pub fn new(stream: W) -> RealOut<W>
-        ensures { ⟦<RealOut<W> as Sink>⟧.faults result ≡ 0 }
+impl<S: Sink + Drop> RealOut<S> {
+    /// Returns a sink over this one, with nothing taken yet.
+    pub fn new(sink: S) -> RealOut<S>
+        ensures written { ⟦<RealOut<S> as Sink>⟧.written result ≡ Some [] }
+        ensures faults { ⟦<RealOut<S> as Sink>⟧.faults result ≡ S.faults sink }
     {
-        RealOut { stream, faults: 0 }
+        RealOut {
+            sink,
+            past: Past::new(),
+        }
     }
 }
 
-impl<W: Write + Drop> Sink for RealOut<W> {
-    ghost use Rattle.std.specs.Prelude.{None};
+impl<S: Sink + Drop> Sink for RealOut<S> {
+    ghost written = { λ s. Some s.past.taken };
 
-    ghost written = { λ _. None };
+    ghost faults = { λ s. S.faults s.sink };
 
-    ghost faults = { λ s. s.faults };
+    /// Writes to the sink below, once.
+    fn write(&mut self, piece: &[u8]) -> Result<usize, Failed>
+        // the content of the sink below grew by the bytes that are recorded here
+        ensures below { WriteAppends (S.written self.old.sink) (S.written self.new.sink) result piece.now }
 
-    /// Hands the piece to the machine. A stream that takes no byte of it has failed; an empty piece is written by doing nothing.
-    fn write(&mut self, piece: &[u8]) -> Result<usize, Failed> {
-        if piece.is_empty() {
-            return Ok(0);
-        }
-        match self.stream.write(piece) {
-            Ok(count) if count > 0 => Ok(count),
-            _ => {
-                raise(&mut self.faults);
-                Err(Failed)
+        // as every sink
+        ensures bound { WritesAtMost result piece.now }
+        ensures some { 0 < length piece.now → IfOk result (λ n. 0 < n) }
+        ensures bytes { WriteAppends (Some self.old.past.taken) (Some self.new.past.taken) result piece.now }
+        ensures later { S.faults self.old.sink ≤ S.faults self.new.sink }
+        ensures quiet { OnOk result (S.faults self.new.sink ≡ S.faults self.old.sink) }
+        ensures cause { OnErr result (Rose (S.faults self.old.sink) (S.faults self.new.sink)) }
+    {
+        match self.sink.write(piece) {
+            Ok(count) => {
+                self.past = self.past.then(&Note::Took(piece, count));
+                Ok(count)
             }
+            Err(failed) => Err(failed),
         }
     }
 }

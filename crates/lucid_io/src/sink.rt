@@ -11,7 +11,7 @@ pub trait Sink {
     /// All bytes that were written, if they are specified.
     ghost written: { Self → Option (List ℕ) };
 
-    /// The number of faults of the sink. It never falls, and stops at the last u64.
+    /// The number of faults of the sink. It never falls, and may stop at the last u64.
     ghost faults: { Self → ℕ };
 
     /// Appends the first bytes of the piece, at least one of a piece that isn't empty, and answers how many.

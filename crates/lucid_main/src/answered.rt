@@ -21,7 +21,7 @@ pub(crate) fn answered<F: Files, W: Sink, E: Sink>(
     out: &mut W,
     err: &mut E,
 ) -> Status
-    ensures { let files' = files_view F.held F.given F.faults in let out' = sink_view W.written W.faults in let err' = sink_view E.written E.faults in
+    ensures { let files' = files_view F.held F.given F.heard F.faults in let out' = sink_view W.written W.faults in let err' = sink_view E.written E.faults in
         Called (bytes_of words.now) (files' files.old) (files' files.new) (out' out.old) (out' out.new) (err' err.old) (err' err.new) result }
 {
     match called(alloc, words, files, out, err) {
@@ -38,7 +38,7 @@ fn called<F: Files, W: Sink, E: Sink>(
     out: &mut W,
     err: &mut E,
 ) -> Result<Status, Memory>
-    ensures ended { let files' = files_view F.held F.given F.faults in let out' = sink_view W.written W.faults in let err' = sink_view E.written E.faults in
+    ensures ended { let files' = files_view F.held F.given F.heard F.faults in let out' = sink_view W.written W.faults in let err' = sink_view E.written E.faults in
         IfOk result (λ s. WithOurs (bytes_of words.now) (files' files.old) (files' files.new) (out' out.old) (out' out.new) (err' err.old) (err' err.new) s) }
     ensures files_stay { OnErr result (files.new ≡ files.old) }
     ensures out_stays { OnErr result (out.new ≡ out.old) }
@@ -71,7 +71,7 @@ fn over<F: Files, W: Sink, E: Sink>(
     requires replaces { gives second ≡ copies_pass }
     requires removes { gives third ≡ dead_pass }
     requires directs { gives last ≡ direct_pass }
-    ensures ended { let files' = files_view F.held F.given F.faults in let out' = sink_view W.written W.faults in let err' = sink_view E.written E.faults in
+    ensures ended { let files' = files_view F.held F.given F.heard F.faults in let out' = sink_view W.written W.faults in let err' = sink_view E.written E.faults in
         IfOk result (λ s. WithOurs (bytes_of words.now) (files' files.old) (files' files.new) (out' out.old) (out' out.new) (err' err.old) (err' err.new) s) }
     ensures files_stay { OnErr result (files.new ≡ files.old) }
     ensures out_stays { OnErr result (out.new ≡ out.old) }

@@ -11,15 +11,15 @@ mod words;
 
 use crate::answered::answered;
 use crate::words::{classify, take_words};
-use lucid_io::{RealFiles, RealOut};
+use lucid_io::{RealDisk, RealFiles, RealOut, RealStream};
 use lucid_top::Status;
 use lucid_top_words::refuse;
 use std::env;
 use std::process::ExitCode;
 
 fn main(rt: HostRuntime) -> ExitCode {
-    let mut out = RealOut::new(rt.stdout());
-    let mut err = RealOut::new(rt.stderr());
+    let mut out = RealOut::new(RealStream::new(rt.stdout()));
+    let mut err = RealOut::new(RealStream::new(rt.stderr()));
     let words = match env::args(&rt) {
         Ok(given) => take_words(rt.alloc(), given),
         Err(error) => Err(classify(error.kind())),
@@ -28,7 +28,7 @@ fn main(rt: HostRuntime) -> ExitCode {
         Ok(words) => answered(
             rt.alloc(),
             words.as_slice(),
-            &mut RealFiles::new(rt),
+            &mut RealFiles::new(RealDisk::new(rt)),
             &mut out,
             &mut err,
         ),

@@ -134,7 +134,7 @@ fn is_among(files: &[TestFile], word: &str) -> bool {
 pub(crate) fn files(rt: &impl Abort, alloc: Global, fault: u64) -> MemFiles {
     let held = held(rt, alloc, &FILES);
     let fails = vec![in alloc; fault].expect(rt, "memory");
-    MemFiles::new(alloc, held, fails).expect(rt, "memory")
+    MemFiles::new(held, fails)
 }
 
 fn held(rt: &impl Abort, alloc: Global, files: &[TestFile]) -> Vec<MemFile> {

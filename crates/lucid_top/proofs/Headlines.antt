@@ -24,7 +24,7 @@ use Rattle.lucid_top.specs.Headline.{Accepted, AuditAccepts, FirstFitPlaces, Hol
 use Rattle.lucid_top.specs.Drive.{DriveAnswers, DriveShows}
 use Rattle.lucid_top.specs.Pipes.{IsReady, Ready, piped, ready, target}
 use Rattle.lucid_top.specs.Placed.{IsAuditedIn, IsMeasured, IsReadyPlaced, RunPlacedAnswers, RunPlacedShows, measured}
-use Rattle.lucid_top.specs.RunPipe.{RunPipeAnswers, RunPipeShows}
+use Rattle.lucid_top.specs.RunPipe.{RunPipeShows}
 use Rattle.lucid_top.specs.RunWhole.{RunWholeAnswers}
 use Rattle.lucid_top.specs.Snap.{SnapAnswers}
 use Rattle.lucid_top_fit.specs.Fit.{IsFitted, composed, fit_of, normal_of}
@@ -172,6 +172,11 @@ is-placed {texts} a {makes} passes same {text} audit =
 
 -- ---- answers, and sights
 
+-- the answer of `run pipe` over these texts
+pub answers-pipe : {names texts : Three} (a : Accepted texts) {makes : Makes} (passes : List PassView) → MakeSame makes passes → (f : FirstFitPlaces makes a) →
+    AnswersTo (command_of (run_pipe names)) (record { words = run_pipe names; texts = texts.program ∷ texts.limits ∷ texts.scenario ∷ []; passes = passes }) (Ok (network_log a))
+answers-pipe a passes same f = (Ok (ready_of passes f), is-ready a passes same f, refl)
+
 module _ {names texts : Three} {held : Held} (hold : Hold held names texts) (a : Accepted texts) where
   pub asks-whole : (passes : List PassView) → Answers (record { words = run_whole names; held = held; passes = passes }) (Ok (network_log a))
   asks-whole passes =
@@ -182,9 +187,8 @@ module _ {names texts : Three} {held : Held} (hold : Hold held names texts) (a :
 
   pub asks-pipe : {makes : Makes} (passes : List PassView) → MakeSame makes passes → (f : FirstFitPlaces makes a) → Answers (record { words = run_pipe names; held = held; passes = passes }) (Ok (network_log a))
   asks-pipe passes same f =
-      let answer : RunPipeAnswers texts.program texts.limits texts.scenario passes (Ok (network_log a)) = (Ok (ready_of passes f), is-ready a passes same f, refl) in
       over (λ ts. AnswersTo (command_of (run_pipe names)) (record { words = run_pipe names; texts = ts; passes = passes })) (Ok (network_log a))
-      (three held (run_pipe names) (program_file 2) (limits_file 3) (scenario_file 4) texts.program texts.limits texts.scenario hold.program hold.limits hold.scenario) answer
+      (three held (run_pipe names) (program_file 2) (limits_file 3) (scenario_file 4) texts.program texts.limits texts.scenario hold.program hold.limits hold.scenario) (answers-pipe {names} a passes same f)
 
   pub shows-pipe : {makes : Makes} (passes : List PassView) → MakeSame makes passes → (f : FirstFitPlaces makes a) → RunPipeShows texts.program texts.limits texts.scenario passes (Ok (network_sights a (placed_by f)))
   shows-pipe passes same f = (Ok (ready_of passes f), is-ready a passes same f, refl)

@@ -1,9 +1,9 @@
 -- What follows from how a call ended, for each clause of the top call.
-use Rattle.std.proofs.Common.{◌≡◌, ◌≢◌, ℕ, ◌+◌, ◌⊎◌, inl, inr, List, [], ◌∷◌, Option, Some, None, IsSome, Result, Ok, Err, refl, sym, ◌∙◌, ap, subst, arith, append-nil, map, take}
+use Rattle.std.proofs.Common.{◌≡◌, ◌≢◌, ℕ, ◌+◌, ◌⊎◌, inl, inr, List, [], ◌∷◌, Option, Some, None, IsSome, Result, Ok, Err, refl, sym, ◌∙◌, ap, subst, arith, append-nil, length, map, take}
 use Rattle.std.specs.Io.KnownBytes.{Appends, Keeps}
 use Rattle.std.proofs.KnownBytes.{Appends-nil, Appends-kept}
 use Rattle.lucid_io.specs.Contents.{SameHeld}
-use Rattle.lucid_io.specs.Counts.{Rose, SameCounts, OthersKept}
+use Rattle.lucid_io.specs.Counts.{Rose, SameCounts}
 use Rattle.lucid_io.specs.declared.reading.Take.{Take}
 use Rattle.lucid_io.specs.declared.reading.Take.TheVariants as take
 use Rattle.lucid_top_words.specs.declared.command.Command.{Command}
@@ -19,16 +19,16 @@ use Rattle.lucid_pipe.specs.Sights.{ShowsAll}
 use Rattle.lucid_net.specs.Wanting.{StopsAt}
 use Rattle.lucid_code.specs.Parts as code
 use Rattle.lucid_pipe.specs.declared.sight.Sight.{Sight}
-use Rattle.lucid_top.specs.Headline.{Accepted, AuditAccepts, FirstFitPlaces, Hold, Holds, NoneFailed, Three, bench_texts, drive, network_log, network_sights, placed_by, run_pipe, run_placed, run_whole, snap, snapshot_log, steps_log, steps_sights, whole_network}
+use Rattle.lucid_top.specs.Headline.{Accepted, AuditAccepts, FirstFitPlaces, Hold, Holds, NoneFailed, Three, bench_texts, drive, network_log, network_sights, placed_by, read_three, run_pipe, run_placed, run_whole, snap, snapshot_log, steps_log, steps_sights, whole_network}
 use Rattle.lucid_top.specs.Passes.{SamePasses}
 use Rattle.lucid_top.specs.Pipes.{Ready, network_of}
 use Rattle.lucid_top.specs.Room.{CallLacksRoom, CommandsLackRoom}
 use Rattle.lucid_top_pipes.specs.Watching.{Seen, Shown, ToldBefore}
 use Rattle.lucid_top_fit.specs.Passes.{KeepNodes, PassView, PassesRun}
 use Rattle.lucid_top.proofs.RoomLemmas.{call_lacks, no_place}
-use Rattle.lucid_top.proofs.Headlines.{MakeSame, Makes, Quiet, asks-drive, asks-pipe, asks-placed, asks-snap, asks-whole, audited_of, is-placed, is-ready, quiet-drive, quiet-pipe, quiet-placed, quiet-snap, quiet-whole, ready_of, shows-drive, shows-pipe, shows-placed, texts-drive, texts-pipe, texts-placed}
+use Rattle.lucid_top.proofs.Headlines.{MakeSame, Makes, Quiet, answers-pipe, asks-drive, asks-pipe, asks-placed, asks-snap, asks-whole, audited_of, is-placed, is-ready, quiet-drive, quiet-pipe, quiet-placed, quiet-snap, quiet-whole, ready_of, shows-drive, shows-pipe, shows-placed, texts-drive, texts-pipe, texts-placed}
 use Rattle.lucid_top_words.specs.Command.{command_of}
-use Rattle.lucid_top_words.specs.Files.{FilesRead, IsOneOf, Texts, contents, of_take}
+use Rattle.lucid_top_words.specs.Files.{BegunInOrder, FilesRead, IsOneOf, Texts, contents, of_take, read_whole}
 use Rattle.lucid_top_words.specs.Outcome.{Alike, End, IsTheAnswer, Outcome, SameRefusal, end_status, outcome_status}
 use Rattle.lucid_top_words.specs.Refusal.{line_of, status_of}
 use Rattle.lucid_top_words.specs.Status.{IsDetermined}
@@ -36,7 +36,8 @@ use Rattle.lucid_top_words.specs.Views.{FilesView, SinkView}
 use Rattle.lucid_top_words.specs.Words.{number_of, word_at}
 use Rattle.lucid_top_words.specs.Writing.{Performs, Refuses}
 use Rattle.lucid_top_words.proofs.Seen.{All, Part, Prefix, Nothing, Line}
-use Rattle.lucid_top_words.proofs.Readings.{Agrees, read-agrees, read-why, read-rose, read-long, read-gave_more, read-held, read-others, read-quiet}
+use Rattle.lucid_top_words.proofs.FilesLemmas.{read-begun, read-texts}
+use Rattle.lucid_top_words.proofs.Readings.{Agrees, read-agrees, read-why, read-rose, read-long, read-gave_more, read-held, read-quiet}
 
 -- ---- what is alike
 
@@ -452,9 +453,6 @@ module _ {c : Call} {err err' : SinkView} {result : Status} (e : Ended c err err
   quiet-clause not = read-quiet c.words c.files c.files' (files_named c.words) e.done.texts e.done.reads
       (λ word is. not-fault (command_of c.words) (question c) c.out c.out' e.done.texts e.end word (no-files (command_of c.words) c.words c.files c.files' e.done.texts e.done.reads) e.done.does (λ s. not (e.status ∙ s)) is)
 
-  pub others-clause : OthersKept (λ name. (file : NamedFile) × IsOneOf (files_named c.words) file × (name ≡ word_at c.words file.word)) c.files.held c.files.faults c.files'.faults
-  others-clause = read-others c.words c.files c.files' (files_named c.words) e.done.texts e.done.reads
-
   -- ---- the headline
 
   -- a text that is asked for was written, where nothing failed
@@ -492,6 +490,46 @@ module _ {c : Call} {err err' : SinkView} {result : Status} (e : Ended c err err
       ((result ≡ status.Ok) × All c.out c.out' (snapshot_log f steps)) ⊎ ((result ≡ status.Memory) × Prefix c.out c.out' (snapshot_log f steps))
   snapped-clause same names texts hold a f word steps number quiet unmet is =
       wrote (snapshot_log f steps) is (asks-snap hold a c.passes same f word steps number) (quiet-snap word steps number quiet) unmet
+
+  -- ---- by word
+
+  -- a text that is asked for, over the texts that the history has
+  pub by_word-clause : (ts : List (List ℕ)) → length ts ≡ length (files_named c.words) → c.files'.heard ≡ read_whole c.words (files_named c.words) ts c.files.heard → ¬ Rose c.out.faults c.out'.faults →
+      (text : List ℕ) → AnswersTo (command_of c.words) (given (question c) ts) (Ok text) → ((result ≡ status.Ok) × All c.out c.out' text) ⊎ ((result ≡ status.Memory) × Prefix c.out c.out' text)
+  by_word-clause ts long is unmet text asked =
+      elim (unfailed-done e.end over (λ word fault. never word (file-end (command_of c.words) (question c) c.out c.out' e.done.texts e.end word take.ReadFault (λ same. cc) e.done.does fault)) unmet text asked) [
+        | inl ok ↦ inl (e.status ∙ ok, ok-all e.end over ok text asked)
+        | inr out ↦ inr (e.status ∙ out, memory-prefix e.end over out text asked)
+      ]
+    where
+      read : (e.done.texts ≡ Ok ts) ⊎ (e.done.texts ≡ Err refusal.Memory)
+      read = read-texts c.words c.files c.files' (files_named c.words) e.done.texts ts e.done.reads long is
+
+      agrees : Agrees e.done.texts (Some (Ok ts))
+      agrees = elim read [
+        | inl ok ↦ subst (λ (t : Texts). Agrees t (Some (Ok ts))) (sym ok) refl
+        | inr out ↦ subst (λ (t : Texts). Agrees t (Some (Ok ts))) (sym out) tt
+      ]
+
+      over : Answered (IsSome (Some (Ok ts))) (λ begun. StopsOver (Some (Ok ts)) (λ texts. StopsOf (command_of c.words) (given (question c) texts) begun)) (AnswersTo (command_of c.words) (given (question c) ts)) c.out c.out' e.end
+      over = record { by = over-by (command_of c.words) (question c) c.files c.files' c.out c.out' e.done.texts e.end (Some (Ok ts)) agrees e.done.reads e.done.does }
+
+      never : (word : ℕ) → e.done.texts ≡ Err (refusal.ReadFault word) → ⊥
+      never word fault = elim read [
+        | inl ok ↦ let no : ◌≡◌ {A = Texts} (Ok ts) (Err (refusal.ReadFault word)) = sym ok ∙ fault in cc
+        | inr out ↦ let no : ◌≡◌ {A = Texts} (Err refusal.Memory) (Err (refusal.ReadFault word)) = sym out ∙ fault in cc
+      ]
+
+  pub pipe_by_word-clause : {makes : Makes} → MakeSame makes c.passes → (names texts : Three) → c.files'.heard ≡ read_three names texts c.files.heard → (a : Accepted texts) → FirstFitPlaces makes a → ¬ Rose c.out.faults c.out'.faults →
+      c.words ≡ run_pipe names → ((result ≡ status.Ok) × All c.out c.out' (network_log a)) ⊎ ((result ≡ status.Memory) × Prefix c.out c.out' (network_log a))
+  pipe_by_word-clause same names texts heard a f unmet is =
+      let ts = texts.program ∷ texts.limits ∷ texts.scenario ∷ [] in
+      by_word-clause ts (subst (λ (w : List (List ℕ)). 3 ≡ length (files_named w)) (sym is) refl)
+      (subst (λ (w : List (List ℕ)). c.files'.heard ≡ read_whole w (files_named w) ts c.files.heard) (sym is) heard) unmet (network_log a)
+      (subst (λ (w : List (List ℕ)). AnswersTo (command_of w) (record { words = w; texts = ts; passes = c.passes }) (Ok (network_log a))) (sym is) (answers-pipe {names} a c.passes same f))
+
+  pub begins-clause : BegunInOrder c.words (files_named c.words) c.files.heard c.files'.heard
+  begins-clause = read-begun c.words c.files c.files' (files_named c.words) e.done.texts e.done.reads
 
   -- ---- want of memory
 

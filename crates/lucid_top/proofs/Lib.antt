@@ -2,6 +2,7 @@ pub mod Headlines
 pub mod Laws
 pub mod Names
 pub mod PremisesLemmas
+pub mod TopLemmas
 pub mod RoomLemmas
 pub mod Runs
 pub mod Stopping

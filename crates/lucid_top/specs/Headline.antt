@@ -1,5 +1,5 @@
 -- The text of a run on pipelines is that of handlers that run whole, one event after another, in the order in which the events entered.
-use Rattle.std.specs.Prelude.{◌≡◌, ℕ, ◌≤◌, ◌⊎◌, List, [], ◌∷◌, Option, Some, Ok, codes, fold, length}
+use Rattle.std.specs.Prelude.{◌≡◌, ℕ, ◌≤◌, ◌⊎◌, true, List, [], ◌∷◌, Option, Some, Ok, codes, fold, length}
 use Rattle.std.specs.Io.KnownBytes.{Keeps}
 use Rattle.lucid_audit.specs.declared.plan.Plan.{Plan}
 use Rattle.lucid_code.specs.Nodes.{nodes}
@@ -14,6 +14,7 @@ use Rattle.lucid_gen.specs.Limits.{limits_text}
 use Rattle.lucid_gen.specs.Program.{program_text}
 use Rattle.lucid_gen.specs.Scene.{scene_text}
 use Rattle.lucid_io.specs.Counts.{Rose}
+use Rattle.lucid_io.specs.History.{Heard}
 use Rattle.lucid_io.specs.Puts.{PutsAll}
 use Rattle.lucid_stages.specs.declared.stage.Pair.{Pair}
 use Rattle.lucid_stages.specs.Counts.{CountsFit}
@@ -73,6 +74,13 @@ pub record Hold (held : Held) (names texts : Three) : Type 0 where
   pub program : Holds held names.program texts.program 1048576
   pub limits : Holds held names.limits texts.limits 1048576
   pub scenario : Holds held names.scenario texts.scenario 8388608
+
+-- the history after the three files were read whole, with these texts
+abbrev pub read_three : Three → Three → List Heard → List Heard
+read_three names texts all =
+    record { name = names.scenario; bytes = texts.scenario; ended = true }
+    ∷ record { name = names.limits; bytes = texts.limits; ended = true }
+    ∷ record { name = names.program; bytes = texts.program; ended = true } ∷ all
 
 -- no read of the three files failed: none of their counts of faults rose
 pub record NoneFailed (faults faults' : Faults) (names : Three) : Type 0 where

@@ -4,3 +4,4 @@ pub mod Parts
 pub mod Reading
 pub mod Readings
 pub mod Seen
+pub mod FilesLemmas

@@ -3,9 +3,10 @@ use Rattle.std.proofs.Common.{◌≡◌, ℕ, zero, suc, inl, inr, arith, List, 
 use Rattle.std.proofs.lemmas.List.{drop_all}
 use Rattle.lucid_top_words.specs.declared.command.NamedFile.{NamedFile}
 use Rattle.lucid_top_words.specs.declared.refusal.Refusal.{Refusal}
-use Rattle.lucid_top_words.specs.Views.{FilesView}
+use Rattle.lucid_top_words.specs.Views.{Faults, FilesView}
+use Rattle.lucid_io.specs.Counts.{OthersKept}
 use Rattle.std.specs.Prelude.{◌⊎◌}
-use Rattle.lucid_top_words.specs.Files.{Texts, FilesRead, IsOneOf, IsNameIn, ReadsOne, ReadsNone, TriesOnly, before}
+use Rattle.lucid_top_words.specs.Files.{Texts, FilesRead, IsOneOf, IsNameIn, ReadsOne, ReadsNone, TriesOnly, before, most_reads}
 use Rattle.lucid_top_words.specs.Words.{word_at}
 
 -- these texts before those of the rest
@@ -79,3 +80,33 @@ pub TriesOnly-not : {old new : FilesView} {r : Refusal} (was mid now : List ℕ 
     ReadsNone words old new file r → IsOneOf named file → TriesOnly words named was mid →
     ((name : List ℕ) → now name → mid name ⊎ (name ≡ word_at words file.word)) → TriesOnly words named was now
 TriesOnly-not was mid now words named file read one so_far step = TriesOnly-more was mid now words named file one so_far step
+
+-- one more of the files was read, and the counts of all others stayed
+OthersKept-more : (was then last : Faults) (words : List (List ℕ)) (named : List NamedFile) (file : NamedFile) → IsOneOf named file →
+    OthersKept (IsNameIn words named) was then → OthersKept (λ other. other ≡ word_at words file.word) then last → OthersKept (IsNameIn words named) was last
+OthersKept-more was then last words named file one so_far step name other = step name (λ is. other (file, one, is)) ∙ so_far name other
+
+-- the same, where the file is that of a reading: whole, or refused
+pub OthersKept-one : {old new : FilesView} (texts texts' : List (List ℕ)) (was then last : Faults) (words : List (List ℕ)) (named : List NamedFile) (file : NamedFile) →
+    ReadsOne words old new file texts texts' → IsOneOf named file → OthersKept (IsNameIn words named) was then →
+    OthersKept (λ other. other ≡ word_at words file.word) then last → OthersKept (IsNameIn words named) was last
+OthersKept-one texts texts' was then last words named file read one so_far step = OthersKept-more was then last words named file one so_far step
+
+pub OthersKept-not : {old new : FilesView} {r : Refusal} (was then last : Faults) (words : List (List ℕ)) (named : List NamedFile) (file : NamedFile) →
+    ReadsNone words old new file r → IsOneOf named file → OthersKept (IsNameIn words named) was then →
+    OthersKept (λ other. other ≡ word_at words file.word) then last → OthersKept (IsNameIn words named) was last
+OthersKept-not was then last words named file read one so_far step = OthersKept-more was then last words named file one so_far step
+
+-- ---- the number of reads
+
+-- one more of the files was read, whole
+pub reads-one : (words : List (List ℕ)) {old new : FilesView} (texts texts' : List (List ℕ)) (was then last : ℕ) (named : List NamedFile) (i : ℕ) (file : NamedFile) (rest : List NamedFile) →
+    drop i named ≡ file ∷ rest → ReadsOne words old new file texts texts' → then + most_reads (drop i named) ≤ was + most_reads named → last ≤ then + file.limit + 2 → last + most_reads rest ≤ was + most_reads named
+reads-one words texts texts' was then last named i file rest first read so_far step =
+    let split : most_reads (drop i named) ≡ file.limit + 2 + most_reads rest = ap most_reads first in omega (arith, split, so_far, step)
+
+-- one more was refused, and no other is read
+pub reads-not : {old new : FilesView} {r : Refusal} (was then last : ℕ) (words : List (List ℕ)) (named : List NamedFile) (i : ℕ) (file : NamedFile) → ReadsNone words old new file r →
+    i < length named → file ≡ get_or named i file → then + most_reads (drop i named) ≤ was + most_reads named → last ≤ then + file.limit + 2 → last ≤ was + most_reads named
+reads-not was then last words named i file read lt is so_far step =
+    let split : most_reads (drop i named) ≡ file.limit + 2 + most_reads (drop (i + 1) named) = ap most_reads (files-next named i file lt is) in omega (arith, split, so_far, step)

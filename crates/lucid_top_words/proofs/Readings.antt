@@ -3,7 +3,7 @@ use Rattle.std.proofs.Common.{◌≡◌, ℕ, suc, ◌+◌, ◌<◌, ◌≤◌, 
 use Rattle.std.specs.Prelude.{option_map}
 use Rattle.std.proofs.lemmas.Bool.{lt-ltb, le-ltb}
 use Rattle.lucid_io.specs.Contents.{SameHeld}
-use Rattle.lucid_io.specs.Counts.{Rose, SameCounts, OthersKept}
+use Rattle.lucid_io.specs.Counts.{Rose, SameCounts}
 use Rattle.lucid_io.specs.declared.reading.Take.{Take}
 use Rattle.lucid_io.specs.declared.reading.Take.TheVariants as take
 use Rattle.lucid_top_words.specs.declared.command.NamedFile.{NamedFile}
@@ -161,16 +161,6 @@ pub read-held : (words : List (List ℕ)) (old new : FilesView) (named : List Na
 read-held words old new [] texts reads name = ap (λ (t : FilesView). t.held name) reads.0
 read-held words old new (file ∷ rest) texts reads name =
     elim reads [ inl stop ↦ stop.1.1.same name | inr go ↦ read-held words go.0 new rest go.2 go.4 name ∙ go.3.same name ]
-
-pub read-others : (words : List (List ℕ)) (old new : FilesView) (named : List NamedFile) (texts : Texts) →
-    FilesRead words old new named texts →
-    OthersKept (λ name. (file : NamedFile) × IsOneOf named file × (name ≡ word_at words file.word)) (old.held) (old.faults) (new.faults)
-read-others words old new [] texts reads name other told = ap (λ (t : FilesView). t.faults name) reads.0
-read-others words old new (file ∷ rest) texts reads name other told =
-    elim reads [
-      | inl stop ↦ stop.1.1.others name (λ same. other (file, inl refl, same)) told
-      | inr go ↦ read-others words go.0 new rest go.2 go.4 name (λ later. other (later.0, inr later.1, later.2)) (subst IsSome (sym (go.3.same name)) told) ∙ go.3.quiet name
-    ]
 
 -- there are as many texts as files
 pub read-length : (words : List (List ℕ)) (old new : FilesView) (named : List NamedFile) (texts : List (List ℕ)) →

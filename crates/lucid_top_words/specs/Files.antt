@@ -1,10 +1,11 @@
 -- The files that the words name: how they are read in word order, and their specified contents. All claims about statuses 2 and 3 are on
 -- this page.
-use Rattle.std.specs.Prelude.{◌≡◌, ◌≢◌, ℕ, ◌+◌, ◌<◌, ◌≤◌, ◌⊎◌, List, [], ◌∷◌, ◌++◌, Option, Some, None, Result, Ok, Err, IfSome, if◌then◌else◌}
+use Rattle.std.specs.Prelude.{◌≡◌, ◌≢◌, ℕ, ◌+◌, ◌<◌, ◌≤◌, ◌⊎◌, true, List, [], ◌∷◌, ◌++◌, Option, Some, None, Result, Ok, Err, IfSome, if◌then◌else◌}
 use Rattle.std.specs.Prelude.{length, map, nat_lt, option_map, Vec}
 use Rattle.std.specs.declared.alloc.Global.{Global}
 use Rattle.lucid_io.specs.Contents.{SameHeld}
-use Rattle.lucid_io.specs.Counts.{Rose, NoneFell, SameCounts, OthersKept}
+use Rattle.lucid_io.specs.Counts.{Rose, NoneFell, SameCounts}
+use Rattle.lucid_io.specs.History.{Heard, HeardPart, HeardWhole}
 use Rattle.lucid_io.specs.declared.reading.Take.{Take}
 use Rattle.lucid_io.specs.declared.reading.Take.TheVariants as take
 use Rattle.lucid_top_words.specs.declared.command.NamedFile.{NamedFile}
@@ -33,6 +34,7 @@ pub record ReadsWhole (old new : FilesView) (name : Bytes) (limit : ℕ) (text :
   pub bytes : IfSome (old.held name) (λ bytes. text ≡ bytes)
   pub within : length text ≤ limit
   pub gave : new.given ≡ length text
+  pub heard : HeardWhole old.heard new.heard name text
   pub same : SameHeld old.held new.held
   pub quiet : SameCounts old.faults new.faults
 
@@ -42,10 +44,10 @@ pub record ReadsNot (old new : FilesView) (name : Bytes) (limit : ℕ) (why : Ta
   pub too_long : why ≡ take.TooLong → new.given ≡ limit + 1
   pub gave_more : new.given ≡ limit + 1 → (why ≡ take.TooLong) ⊎ (why ≡ take.Memory)
   pub longer : why ≡ take.TooLong → IfSome (old.held name) (λ bytes. limit < length bytes)
+  pub heard : HeardPart old.heard new.heard name (old.held name) limit why
   pub same : SameHeld old.held new.held
   pub later : NoneFell old.faults new.faults
   pub quiet : why ≢ take.ReadFault → SameCounts old.faults new.faults
-  pub others : OthersKept (λ other. other ≡ name) old.held old.faults new.faults
 
 -- this file was read whole, and its text comes after those before
 abbrev pub ReadsOne : List Bytes → FilesView → FilesView → NamedFile → List Bytes → List Bytes → Type 0
@@ -64,6 +66,21 @@ FilesRead words old new (file ∷ rest) end =
     ((r : Refusal) × ReadsNone words old new file r × (end ≡ Err r))
     ⊎ ((mid : FilesView) × (text : Bytes) × (later : Texts) × ReadsWhole old mid (word_at words file.word) file.limit text
     × FilesRead words mid new rest later × (end ≡ before text later))
+
+-- the history after these files were read whole in word order, with these texts
+abbrev pub read_whole : List Bytes → List NamedFile → List Bytes → List Heard → List Heard
+read_whole words (file ∷ files) (text ∷ texts) all = read_whole words files texts (record { name = word_at words file.word; bytes = text; ended = true } ∷ all)
+read_whole words files texts all = all
+
+-- at most this many reads of these files: of each, one for each byte up to its limit, one for the byte past it, and one for the end
+abbrev pub most_reads : List NamedFile → ℕ
+most_reads [] = 0
+most_reads (file ∷ files) = file.limit + 2 + most_reads files
+
+-- The files that were begun are the first of these, each once, in word order. The history has the newest first.
+abbrev pub BegunInOrder : List Bytes → List NamedFile → List Heard → List Heard → Type 0
+BegunInOrder words [] old new = new ≡ old
+BegunInOrder words (file ∷ files) old new = (new ≡ old) ⊎ ((h : Heard) × (h.name ≡ word_at words file.word) × BegunInOrder words files (h ∷ old) new)
 
 -- the texts, as the code holds them
 abbrev pub texts_in : List (Vec ℕ Global) → List Bytes

@@ -13,7 +13,7 @@ returns-in-Some-clause-count c =
     let files = map file_view c.args.files.now.items in
     let bytes_are = bytes_at-map c.args.files.now.items c.in-Some.place c.index.result.now (c.requires.there _ c.in-Some.is) c.index.ensures in
     let rest_is = ap (λ (begun : Option ℕ). left_at files begun c.args.given) c.in-Some.is ∙ ap (drop c.args.given) bytes_are in
-    c.copy.ensures.count ∙ ap (min (length c.args.room.now)) (sym (ap length rest_is ∙ length-drop c.args.given c.index.result.now.file.bytes.items))
+    c.copy.ensures.count ∙ ap (min (length c.args.room.now)) (sym (ap length rest_is ∙ length-drop c.args.given c.index.result.now.bytes.items))
 
 pub returns-in-Some-clause-room : goal.returns-in-Some-clause-room
 returns-in-Some-clause-room c =

@@ -1,5 +1,7 @@
-use Rattle.std.proofs.Common.{arith}
+use Rattle.std.proofs.Common.{◌≡◌, ◌∙◌, sym, arith}
+use Rattle.lucid_io.specs.declared.reading.Take.TheVariants.{Memory, TooLong}
 use Rattle.std.proofs.lemmas.Grind.{common_steps, elements, moves}
+use Rattle.lucid_io.proofs.HistoryLemmas.{gave_part, gave_so_far, if_err_of}
 use Rattle.lucid_io.proofs.reading.take_rest.Goals as goal
 
 pub fill-preserved : goal.fill-preserved
@@ -55,3 +57,18 @@ returns-in-Err-clause-others g c = grind (arith, elements)
 
 pub returns-in-Ok-eq0-clause-quiet : goal.returns-in-Ok-eq0-clause-quiet
 returns-in-Ok-eq0-clause-quiet g c = grind (arith, elements)
+
+pub returns-in_err-extend_from_slice-in-Ok-clause-heard_part : goal.returns-in_err-extend_from_slice-in-Ok-clause-heard_part
+returns-in_err-extend_from_slice-in-Ok-clause-heard_part g c =
+    if_err_of c.from_residual.result c.from_residual.ensures.1
+    (λ why memory. gave_part _ _ _ _ _ _ c.fill.bytes.items c.read.new.room c.in-Ok.count c.args.limit _ c.fill.invariant.heard c.in-Ok.ensures.heard
+    c.fill.invariant.so_far c.in-Ok.ensures.bytes.0 (grind (arith, moves)) (λ long. let no : Memory ≡ TooLong = sym memory ∙ long in cc))
+
+pub returns-in-Err-clause-heard_part : goal.returns-in-Err-clause-heard_part
+returns-in-Err-clause-heard_part g c =
+    gave_so_far _ _ _ _ c.fill.bytes.items c.args.limit _ (c.in-Err.ensures.heard ∙ c.fill.invariant.heard) c.fill.invariant.so_far (λ long. absurd (cc))
+
+pub returns-clause-heard_part : goal.returns-clause-heard_part
+returns-clause-heard_part g c =
+    gave_so_far _ _ _ _ c.fill.bytes.items c.args.limit _ c.fill.invariant.heard c.fill.invariant.so_far
+    (λ long. omega (arith, c.fill-test.false, c.len.ensures, c.fill.invariant.within))

@@ -1,4 +1,5 @@
-use Rattle.std.proofs.Common.{◌≡◌, ℕ, ◌+◌, ◌-◌, ◌≤◌, List, length}
+use Rattle.std.proofs.Common.{◌≡◌, ℕ, ◌+◌, ◌-◌, ◌≤◌, false, List, length}
+use Rattle.lucid_io.specs.History.{gave}
 use Rattle.std.specs.Io.KnownBytes.{Consumes}
 use Rattle.lucid_io.specs.Contents.{SameHeld}
 use Rattle.lucid_io.specs.Counts.{SameCounts}
@@ -15,6 +16,7 @@ invariant-fill g l = record {
   no_other : (name : List ℕ) → g.F.Files.begun l.files name → g.F.Files.begun l.fn.files name;
   so_far : Consumes (g.F.Files.left l.fn.files) (g.F.Files.left l.files) l.bytes.items;
   held : SameHeld (g.F.Files.held l.fn.files) (g.F.Files.held l.files);
+  heard : g.F.Files.heard l.files ≡ gave l.bytes.items false (g.F.Files.heard l.fn.files);
   quiet : SameCounts (g.F.Files.faults l.fn.files) (g.F.Files.faults l.files);
 }
 

@@ -9,7 +9,7 @@ returns-in-Ok g c = inl c.in-Ok.ensures.ended
 pub returns-in-Err : goal.returns-in-Err
 returns-in-Err g c = inr (record {
   status = c.refuse.ensures.status;
-  files_stay = ap (files_view g.F.Files.held g.F.Files.given g.F.Files.faults) c.in-Err.ensures.files_stay;
+  files_stay = ap (files_view g.F.Files.held g.F.Files.given g.F.Files.heard g.F.Files.faults) c.in-Err.ensures.files_stay;
   out_stays = ap (sink_view g.W.Sink.written g.W.Sink.faults) c.in-Err.ensures.out_stays;
   line = line_in g.E.Sink.written g.E.Sink.faults c.args.err.now c.called.new.err c.refuse.new.err _ c.in-Err.ensures.err_stays c.refuse.ensures.said;
 })

@@ -1,10 +1,11 @@
 use Rattle.std.proofs.lemmas.Grind.{common_steps}
-use Rattle.std.proofs.Common.{◌≡◌, ◌∙◌, List, length, ap, refl, subst, Some, None, rules, sym, arith}
+use Rattle.std.proofs.Common.{◌≡◌, ◌∙◌, ◌+◌, ◌≤◌, List, length, ap, refl, subst, Some, None, rules, sym, arith}
 use Rattle.std.proofs.lemmas.List.{length-map}
+use Rattle.lucid_io.specs.Counts.{OthersKept}
 use Rattle.lucid_top.specs.Answer.{MayStop, command_files}
 use Rattle.lucid_top.specs.Call.{bytes_of}
 use Rattle.lucid_top_words.specs.Command.{command_of}
-use Rattle.lucid_top_words.specs.Files.{TriesOnly, texts_in}
+use Rattle.lucid_top_words.specs.Files.{IsNameIn, TriesOnly, most_reads, texts_in}
 use Rattle.lucid_top_words.specs.declared.command.NamedFile.{NamedFile}
 use Rattle.lucid_top_words.specs.Views.{files_view}
 use Rattle.lucid_top_words.proofs.Readings.{read-length}
@@ -56,7 +57,7 @@ returns-in-Err-clause-tries g c =
 pub perform-requires : goal.perform-requires
 perform-requires g c =
     let words = bytes_of c.args.words.now in
-    let seen = files_view g.F.Files.held g.F.Files.given g.F.Files.faults in
+    let seen = files_view g.F.Files.held g.F.Files.given g.F.Files.heard g.F.Files.faults in
     let read = read-length words (seen c.args.files.now) (seen c.read_files.new.files) c.files.result.now (texts_in c.in-Ok.texts.items) c.in-Ok.ensures.reads in
     let many : length c.in-Ok.texts.items ≡ length (texts_in c.in-Ok.texts.items) = sym (length-map c.in-Ok.texts.items _) in
     record { texts = ap length c.as_slice.ensures.value ∙ many ∙ read ∙ ap length c.files.ensures.files; counted = search rules }
@@ -72,3 +73,35 @@ read_files-requires-clause-there g c = grind (arith, common_steps)
 
 pub read_files-requires-clause-small : goal.read_files-requires-clause-small
 read_files-requires-clause-small g c = grind (arith, common_steps)
+
+pub returns-in-Ok-clause-others : goal.returns-in-Ok-clause-others
+returns-in-Ok-clause-others g c =
+    let words = bytes_of c.args.words.now in
+    let is : command_of words ≡ Some c.in-Some.command = search rules in
+    subst (λ (files : List NamedFile). OthersKept (IsNameIn words files) (g.F.Files.faults c.args.files.now) (g.F.Files.faults c.read_files.new.files))
+    (c.files.ensures.files ∙ sym (ap command_files is)) c.read_files.ensures.others
+
+pub returns-in-Err-clause-others : goal.returns-in-Err-clause-others
+returns-in-Err-clause-others g c =
+    let words = bytes_of c.args.words.now in
+    let is : command_of words ≡ Some c.in-Some.command = search rules in
+    subst (λ (files : List NamedFile). OthersKept (IsNameIn words files) (g.F.Files.faults c.args.files.now) (g.F.Files.faults c.read_files.new.files))
+    (c.files.ensures.files ∙ sym (ap command_files is)) c.read_files.ensures.others
+
+pub returns-in_default-clause-others : goal.returns-in_default-clause-others
+returns-in_default-clause-others g c = λ name other. refl
+
+pub returns-in-Ok-clause-reads : goal.returns-in-Ok-clause-reads
+returns-in-Ok-clause-reads g c =
+    let is : command_of (bytes_of c.args.words.now) ≡ Some c.in-Some.command = search rules in
+    subst (λ (files : List NamedFile). g.F.Files.reads c.read_files.new.files ≤ g.F.Files.reads c.args.files.now + most_reads files)
+    (c.files.ensures.files ∙ sym (ap command_files is)) c.read_files.ensures.calls
+
+pub returns-in-Err-clause-reads : goal.returns-in-Err-clause-reads
+returns-in-Err-clause-reads g c =
+    let is : command_of (bytes_of c.args.words.now) ≡ Some c.in-Some.command = search rules in
+    subst (λ (files : List NamedFile). g.F.Files.reads c.read_files.new.files ≤ g.F.Files.reads c.args.files.now + most_reads files)
+    (c.files.ensures.files ∙ sym (ap command_files is)) c.read_files.ensures.calls
+
+pub returns-in_default-clause-reads : goal.returns-in_default-clause-reads
+returns-in_default-clause-reads g c = omega arith
