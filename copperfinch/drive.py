@@ -46,7 +46,7 @@ class Drive:
         found: List[Json] = []
         for step in self.steps:
             found += [step.json(), *(event.json() for event in step.events)]
-        found += [it.json() for its in (self.flushed, self.cells) for it in its]
+        found += [*(event.json() for event in self.flushed), *(cell.json() for cell in self.cells)]
         found.append({"kind": "end", "entered": self.entered, "left": self.left})
         if self.snap:
             found += [{"kind": "snap", "after": self.snap[0]}, *(cell.json() for cell in self.snap[1])]

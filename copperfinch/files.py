@@ -25,6 +25,10 @@ class Limits:
     bits: int
     recirc: int
 
+    def text(self) -> str:
+        """Returns the text of a limits file."""
+        return json.dumps(self.__dict__)
+
 
 @dataclass(frozen=True)
 class FileEvent:
@@ -33,7 +37,7 @@ class FileEvent:
     at: int
     switch: int
     name: str
-    args: Tuple[int, ...]
+    args: Tuple[int, ...] = ()
 
 
 @dataclass
@@ -42,13 +46,36 @@ class Scene:
 
     switches: int
     stop: int
-    links: Dict[Tuple[int, int], int]
-    down: List[Tuple[int, int, int, int]]
-    events: List[FileEvent]
+    links: Dict[Tuple[int, int], int] = field(default_factory=dict)
+    down: List[Tuple[int, int, int, int]] = field(default_factory=list)
+    events: List[FileEvent] = field(default_factory=list)
     steps: List[List[Any]] = field(default_factory=list)
 
     def is_down(self, a: int, b: int, tick: int) -> bool:
+        """Whether the link between two switches is down at a tick."""
         return any({a, b} == {c, d} and start <= tick < until for c, d, start, until in self.down)
+
+    def link(self, a: int, b: int, latency: int) -> None:
+        """Adds a link with a latency in ticks."""
+        self.links[a, b] = self.links[b, a] = latency
+
+    def text(self) -> str:
+        """Returns the text of a scenario file."""
+        links = [[a, b, latency] for (a, b), latency in self.links.items() if a < b]
+        made: Dict[str, Any] = {"version": 2, "switches": self.switches, "stop": self.stop, "links": links, "down": [list(it) for it in self.down]}
+        made["events"] = [{**event.__dict__, "args": list(event.args)} for event in self.events]
+        return json.dumps({**made, "steps": self.steps} if self.steps else made)
+
+
+@dataclass
+class Placement:
+    """A placement: the stage and the table of each node."""
+
+    nodes: List[Tuple[int, int]]
+
+    def text(self) -> str:
+        """Returns the text of a placement file."""
+        return json.dumps({"nodes": [list(pair) for pair in self.nodes]})
 
 
 def object_of(text: bytes, what: str) -> Dict[str, Any]:

@@ -2,7 +2,7 @@
 says ("What a program means"), so each arrow of a picture is computed, and a log that does not fit the two files is refused."""
 import heapq
 from dataclasses import dataclass, field
-from typing import List, Optional, Tuple
+from typing import Dict, List, Optional, Tuple
 
 from .errors import FormatError
 from .files import MOST, Limits, Scene
@@ -30,6 +30,10 @@ class Entry:
     file: Optional[int]
 
 
+# What waits at a switch: its order of entry, a number that no other has, the event, its arguments, and how it came.
+Queue = List[Tuple[Tuple[int, bool, int, int, int], int, str, Tuple[int, ...], Entry]]
+
+
 @dataclass
 class Trace:
     """A log with the way of each event. `ways[i]` are those of what event i sent; `waiting` are those that did not enter."""
@@ -38,7 +42,7 @@ class Trace:
     entries: List[Entry] = field(default_factory=list)
     ways: List[List[Way]] = field(default_factory=list)
     waiting: List[Entry] = field(default_factory=list)
-    receiver: dict = field(default_factory=dict)
+    receiver: Dict[Tuple[int, int], int] = field(default_factory=dict)
 
 
 def way_of(limits: Limits, scene: Scene, number: int, event: Event, out: int, sent: Sent) -> Way:
@@ -59,7 +63,7 @@ def trace(log: Log, limits: Limits, scene: Scene) -> Trace:
         raise FormatError("the log has no last line `entered ..`: it is cut off, or no log of `run`")
     found = Trace(log)
     # Of events that were ready at one tick those of the scenario go first, then those that were sent, by sender and number.
-    queues: List[List[Tuple[Tuple[int, bool, int, int, int], int, str, Tuple[int, ...], Entry]]] = [[] for _ in range(scene.switches)]
+    queues: List[Queue] = [[] for _ in range(scene.switches)]
     for at, event in enumerate(scene.events):
         key = (event.at, False, 0, 0, at)
         queues[event.switch].append((key, at, event.name, event.args, Entry(event.at, None, at)))
@@ -77,7 +81,7 @@ def trace(log: Log, limits: Limits, scene: Scene) -> Trace:
     return found
 
 
-def follow(found: Trace, limits: Limits, scene: Scene, queues: List[list]) -> int:
+def follow(found: Trace, limits: Limits, scene: Scene, queues: List[Queue]) -> int:
     """Runs the ticks at which something enters; returns how many events of the log entered."""
     events, turn = found.log.events, 0
     # The next tick at which each switch takes an event: its queue's first ready tick, but not before its last turn has passed.
@@ -102,7 +106,7 @@ def follow(found: Trace, limits: Limits, scene: Scene, queues: List[list]) -> in
         turn += 1
 
 
-def send(found: Trace, limits: Limits, scene: Scene, queues: List[list], turn: int, event: Event) -> None:
+def send(found: Trace, limits: Limits, scene: Scene, queues: List[Queue], turn: int, event: Event) -> None:
     """Queues what an event sends out."""
     ways: List[Way] = []
     for out, sent in enumerate(event.outs):

@@ -1,1 +1,1 @@
-"""The commands: their words, and what each prints."""
+"""The commands: the words of each, and what it prints. `copperfinch.command` calls them."""

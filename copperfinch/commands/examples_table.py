@@ -1,24 +1,24 @@
 """Prints the rows of the table in examples/README.md: the sizes of the ten applications, their speed, and the sizes in the paper.
 
-    tools/examples-table
-    tools/examples-table PROGRAM [EVENTS]
-
 The sizes are computed from the files NAME.luc and NAME.layout. Lines that are empty or only a comment are not counted. The speed is empty
-unless a PROGRAM is given, a built `lucid_main`: then it is the number of events that enter in a second of a processor in `run pipe`, on
-the scenario that `tools/scenario NAME EVENTS 1` prints (EVENTS is 10 to 20000, and 20000 if it is not given). It is the best of three
-runs, in thousands. Ends with 2 for words of another form, and with 1 if the program does not run a scenario.
+unless a built PROGRAM is given: then it is the number of events that enter in a second of a processor in `run pipe`, on the scenario that
+`scenario NAME EVENTS 1` prints (EVENTS is 10 to 20,000, and 20,000 if it is not given). It is the best of three runs, in thousands.
 """
+import argparse
 import re
 import resource
-import subprocess
-import sys
-import tempfile
 from dataclasses import dataclass
 from pathlib import Path
-from typing import List, Optional, Tuple
+from typing import Optional, Tuple
+
+from ..command import number
+from ..errors import Error
+from ..program import Program
+from ..scenarios import MOST, draw, text_of
+from ..streams import Source, write
 
 TOP = Path(__file__).resolve().parent.parent.parent
-MOST = 20000
+USAGE = "%(prog)s [PROGRAM [EVENTS]]"
 
 
 @dataclass(frozen=True)
@@ -56,7 +56,8 @@ def sizes(name: str) -> Tuple[int, ...]:
     layout = (TOP / f"examples/{name}.layout").read_text(encoding="utf-8")
     tables = [(int(stage), int(rows)) for stage, rows in re.findall(r"^stage (\d+) table \d+ rows (\d+)", layout, re.MULTILINE)]
     counts = re.search(r"^ops (\d+) bits (\d+)", layout, re.MULTILINE)
-    assert counts, f"examples/{name}.layout has no line of counts"
+    if counts is None:
+        raise Error(f"examples/{name}.layout has no line of counts")
     lines = sum(map(is_code, program.split("\n")))
     stages = len({stage for stage, _ in tables})
     rows = sum(rows for _, rows in tables)
@@ -71,15 +72,13 @@ def spent() -> float:
 
 def speed(program: str, name: str, events: int) -> int:
     """Events that enter a second in `run pipe`, in thousands: the best of three runs."""
-    with tempfile.NamedTemporaryFile("w", suffix=".json") as scenario:
-        subprocess.run([TOP / "tools/scenario", name, str(events), "1"], stdout=scenario, check=True)
-        words = [program, "run", "pipe", TOP / f"examples/{name}.luc", TOP / f"examples/{name}.limits.json", scenario.name]
-        best, entered = float("inf"), 0
-        for _ in range(3):
-            begin = spent()
-            log = subprocess.run(words, stdout=subprocess.PIPE, check=True, encoding="utf-8").stdout
-            best = min(best, spent() - begin)
-            entered = int(log.rsplit("entered ", 1)[1].split()[0])
+    lucid, scenario = Program(program), Source("scenario", text_of(draw(name, events, 1)).encode())
+    best, entered = float("inf"), 0
+    for _ in range(3):
+        begin = spent()
+        log = lucid.answer("run pipe", TOP / f"examples/{name}.luc", TOP / f"examples/{name}.limits.json", scenario)
+        best = min(best, spent() - begin)
+        entered = int(log.rsplit(b"entered ", 1)[1].split()[0])
     return int(round(entered / max(best, 0.001), -3))
 
 
@@ -90,15 +89,18 @@ def row(it: Application, speed_of_it: str) -> str:
     return "|" + "".join(f" {cell} |" if cell else " |" for cell in cells)
 
 
-def main(words: List[str]) -> None:
-    events = words[1] if len(words) == 2 else str(MOST)
-    if len(words) > 2 or not re.fullmatch("[0-9]{2,5}", events) or not 10 <= int(events) <= MOST:
-        print("usage: tools/examples-table [PROGRAM [EVENTS]]", file=sys.stderr)
-        sys.exit(2)
+def add_words(parser: argparse.ArgumentParser) -> None:
+    """Adds the words."""
+    parser.add_argument("program", nargs="?", metavar="PROGRAM")
+    parser.add_argument("events", nargs="?", type=number(10, MOST), default=MOST, metavar="EVENTS")
+
+
+def run(given: argparse.Namespace) -> int:
+    """Prints the rows."""
     for it in APPLICATIONS:
         try:
-            measured = f"{speed(words[0], it.name, int(events)):,}" if words else ""
-        except (OSError, subprocess.CalledProcessError, IndexError):
-            print(f"examples-table: {words[0]} does not run the scenario of {it.name}", file=sys.stderr)
-            sys.exit(1)
-        print(row(it, measured), flush=True)
+            measured = f"{speed(given.program, it.name, given.events):,}" if given.program else ""
+        except (Error, IndexError):
+            raise Error(f"{given.program} does not run the scenario of {it.name}") from None
+        write(row(it, measured) + "\n")
+    return 0

@@ -1,95 +1,138 @@
 """Explains a refusal of `lucid`, or shows the nodes and the layout of a program.
 
-    tools/explain PROGRAM [LIMITS [SCENARIO [PLACEMENT]]] [--nodes] [--layout] [--placement] [--json] [--lucid PATH]
-
 With PROGRAM alone the call `check` is explained, with LIMITS `layout`, with SCENARIO `run pipe`, with PLACEMENT `run placed`; where
-SCENARIO is `-` there is none, and `audit` is explained. The first line is the program's own refusal: that of the built program where
-there is one (crates/lucid_main/out/lucid_main, or PATH), or else that of the second implementation. All other lines come from that
-second implementation, copperfinch.model, which is not verified; where both differ, the call ends with 70.
+SCENARIO is `-` there is none, and `audit` is explained. The first line is the program's own refusal: that of the built program if there
+is one (--lucid, $LUCID, or that of the checkout), or else that of the second implementation. All other lines come from that second
+implementation, copperfinch.model, which is not verified; if both differ, the call ends with 70.
 
-    --nodes      the nodes: number, place, what each is and reads, its array, earliest stage, rows and bits
-    --layout     the tables of first fit, each with its nodes
-    --placement  first fit as a placement file, for `audit` and `run placed`
-    --json       all of this as one JSON object
-
-Without LIMITS the nodes are placed within the greatest limits. The exit code is that of the explained call.
+An explanation that takes more than 6 seconds of a processor, or more than 300 MB, is left out, and a line says which part. Without LIMITS
+the nodes are placed within the greatest limits. The exit code is that of the explained call.
 """
 import argparse
 import json
 import os
-import subprocess
-import sys
-from pathlib import Path
-from typing import List
+from typing import Dict, List, Optional
 
-from ..explain import Report, explain
+from ..bounded import Exceeded, deeply
+from ..command import Once
+from ..errors import Error
+from ..explain import Report, fill
 from ..model import agrees
-from ..stack import deeply, read_file
+from ..program import Ended, Program, Running, built
+from ..streams import Source, complain, printable, read_again, write
+from .where import show
 
-TOP = Path(__file__).resolve().parent.parent.parent
-
-
-def words_of(files: List[str]) -> List[str]:
-    """Returns the words of the call that is explained."""
-    if len(files) == 4:
-        return ['audit', files[0], files[1], files[3]] if files[2] == '-' else ['run', 'placed'] + files
-    return {1: ['check'], 2: ['layout'], 3: ['run', 'pipe']}[len(files)] + files
+USAGE = "%(prog)s PROGRAM [LIMITS [SCENARIO [PLACEMENT]]] [--nodes] [--layout] [--placement] [--json] [--lucid COMMAND] | PROGRAM --where REFUSAL"
+SECONDS, MEGABYTES = 6, 300
+# The most seconds of a processor and bytes of output of the program's own call.
+ITS_SECONDS, ITS_BYTES = 9, 2**20
 
 
-def shown(report: Report, a: argparse.Namespace) -> List[str]:
+def add_words(parser: argparse.ArgumentParser) -> None:
+    """Adds the words."""
+    parser.add_argument("program", metavar="PROGRAM")
+    for name in ("limits", "scenario", "placement_file"):
+        parser.add_argument(name, nargs="?", metavar=name[:9].upper())
+    parser.add_argument("--nodes", action="store_true", help="the nodes: number, place, what each is and reads, its array, stage, rows and bits")
+    parser.add_argument("--layout", action="store_true", help="the tables of first fit, each with its nodes")
+    parser.add_argument("--placement", action="store_true", help="first fit as a placement file, for `audit` and `run placed`")
+    parser.add_argument("--json", action="store_true", help="all of this as one JSON object")
+    parser.add_argument("--where", nargs="+", metavar="REFUSAL", help="the place of a refusal that `lucid` printed")
+    parser.add_argument("--lucid", action=Once, metavar="COMMAND", help="another program than the built one")
+
+
+def command_of(given: argparse.Namespace) -> str:
+    """Returns the command of the call that is explained."""
+    if given.placement_file is not None:
+        return "audit" if given.scenario == "-" else "run placed"
+    return "run pipe" if given.scenario is not None else "layout" if given.limits is not None else "check"
+
+
+def shown(report: Report, given: argparse.Namespace) -> List[str]:
     """Returns the lines that are asked for."""
-    lines: List[str] = []
-    if report.explanation is not None:
-        lines += report.explanation.lines()
-    if a.nodes:
+    lines = [] if report.explanation is None else report.explanation.lines()
+    if given.nodes:
         lines += report.table
-    if a.layout:
-        for t in report.tables:
-            arrays = ' arrays ' + ' '.join(t['arrays']) if t['arrays'] else ''
-            lines.append(f'stage {t["stage"]} table {t["table"]} rows {t["rows"]}{arrays}')
-            for n in (report.nodes[i] for i in t['nodes']):
-                lines.append(f'  node {n["node"]}: {n["what"]} ({n["line"]}:{n["column"]})')
-    if a.placement and report.placement is not None:
+    if given.layout:
+        for table in report.tables:
+            arrays = " arrays " + " ".join(table["arrays"]) if table["arrays"] else ""
+            lines.append(f"stage {table['stage']} table {table['table']} rows {table['rows']}{arrays}")
+            for node in (report.nodes[number] for number in table["nodes"]):
+                lines.append(f"  node {node['node']}: {node['what']} ({node['line']}:{node['column']})")
+    if given.placement and report.placement is not None:
         lines.append(json.dumps(report.placement))
     return lines
 
 
-def main(given: List[str]) -> int:
+def run(given: argparse.Namespace) -> int:
     """Explains the call of the command line."""
-    return deeply(lambda: work(given))  # type: ignore[return-value]
-
-
-def work(given: List[str]) -> int:
-    """Explains the call of the command line, on a stack that is deep enough."""
-    parser = argparse.ArgumentParser(description=__doc__, formatter_class=argparse.RawDescriptionHelpFormatter)
-    parser.add_argument('program', metavar='PROGRAM')
-    parser.add_argument('files', nargs='*', metavar='FILE')
-    for name in ('nodes', 'layout', 'placement', 'json'):
-        parser.add_argument('--' + name, action='store_true')
-    parser.add_argument('--lucid', default=str(TOP / 'crates/lucid_main/out/lucid_main'))
-    a = parser.parse_args(given)
-    if len(a.files) > 3:
-        parser.error('too many files')
-    words = words_of([a.program] + a.files)
-    report = explain(words, read_file)
-    answer = report.answer
-    if os.access(a.lucid, os.X_OK):
-        done = subprocess.run([a.lucid] + words, stdin=subprocess.DEVNULL, stdout=subprocess.PIPE, stderr=subprocess.PIPE)
-        if not agrees(answer, done.returncode, done.stdout, done.stderr):
-            sys.stdout.buffer.write(done.stderr)
-            other = answer.err.decode('latin-1').strip()
-            print(f'explain: the second implementation answers with {answer.status}: {other}', file=sys.stderr)
-            return 70
-        answer.err = done.stderr
-    first = answer.err.decode('utf-8', 'replace').rstrip('\n')
-    lines = [first] if first else []
-    if a.json:
-        lines = [json.dumps({'line': first or None, 'status': answer.status, **report.data()})]
-    else:
-        lines += shown(report, a) if first or a.nodes or a.layout or a.placement else ['nothing is refused']
+    if given.where is not None:
+        return show(given.program, given.where)
+    command, paths = command_of(given), [given.program, given.limits, given.scenario, given.placement_file]
+    files = [path for number, path in enumerate(paths) if path is not None and not (command == "audit" and number == 2)]
+    # Each file is read once, and its bytes go to both implementations.
+    sources = {os.fsencode(path): source_of(path) for path in files}
+    path = given.lucid or built()
+    program = Program(path) if path else None
+    running: Optional[Running] = None
+    if program is not None:
+        running = program.start(command, *(sources[os.fsencode(path)] or path for path in files), most=ITS_BYTES, seconds=ITS_SECONDS)
+    report, left_out = Report(), ""
     try:
-        sys.stdout.write(''.join(f'{line}\n' for line in lines))
-        sys.stdout.flush()
-    except BrokenPipeError:
-        os.dup2(os.open(os.devnull, os.O_WRONLY), 1)
-    return answer.status
+        words = [os.fsencode(word) for word in [*command.split(), *files]]
+        wanted = bool(given.nodes or given.layout or given.placement or given.json)
+        try:
+            deeply(lambda: fill(report, words, lambda name: sources_data(sources, name), wanted), SECONDS, MEGABYTES)
+        except Exceeded as why:
+            left_out = f"left out: {report.part}, since {why}"
+        ended = running.finish() if running else None
+    finally:
+        if running:
+            running.close()
+    return tell(report, given, ended, left_out, command)
+
+
+def source_of(path: str) -> Optional[Source]:
+    """Reads a file for both implementations; None if it cannot be read, which both then refuse."""
+    try:
+        return Source(path, read_again(os.fsencode(path)))
+    except (OSError, ValueError):
+        return None
+
+
+def sources_data(sources: Dict[bytes, Optional[Source]], name: bytes) -> bytes:
+    """Returns the bytes of a file. Raises OSError if it could not be read."""
+    source = sources[name]
+    if source is None:
+        raise OSError(name)
+    return source.data
+
+
+def tell(report: Report, given: argparse.Namespace, ended: Optional[Ended], left_out: str, command: str) -> int:
+    """Prints the explanation, below the line of the call; returns the exit code of the call."""
+    answer = report.answer
+    status, line = (answer.status, answer.err) if answer else (1, b"")
+    if ended is not None:
+        if ended.status < 0:
+            raise Error(f"lucid {command}: it takes more than {ITS_SECONDS} s of a processor, or was ended by a signal")
+        # The output of a run is not compared: it is printed after all that can be refused.
+        out = None if command.startswith("run") or ended.is_cut else ended.out
+        if answer and not agrees(answer, ended.status, out, ended.err):
+            complain(ended.err.decode("utf-8", "replace").rstrip("\n"))
+            complain(f"explain: the second implementation answers with {answer.status}: {answer.err.decode('latin-1').strip()}")
+            return 70
+        status, line = ended.status, ended.err
+    elif not answer:
+        raise Error(f"{left_out}; and no program is built")
+    first = line.decode("utf-8", "replace").rstrip("\n")
+    if given.json:
+        write(json.dumps({"line": first or None, "status": status, **report.data(), "left_out": left_out or None}) + "\n")
+        return status
+    lines = [first] if first else []
+    lines += shown(report, given)
+    if first or given.nodes or given.layout or given.placement:
+        lines += [left_out] if left_out else []
+    else:
+        lines = ["nothing is refused"]
+    write("".join(f"{printable(text)}\n" for text in lines))
+    return status

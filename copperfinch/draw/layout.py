@@ -90,7 +90,7 @@ def draw_layout(layout: Layout, limits: Limits) -> str:
             if stage:
                 arrow(picture, x - 30, x - 4, y + 56)
             x += widths[stage] + 34
-        if row[-1] < last:
+        if row and row[-1] < last:
             arrow(picture, x - 30, x - 4, y + 56)
         for stage in row:
             picture.box(1, spots[stage], y, widths[stage], low - y + 4, 'rx="6" fill="#eef3f8" stroke="#b8c8d8"')

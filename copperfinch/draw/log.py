@@ -6,6 +6,7 @@ each event a row of its own with its text at the right."""
 import bisect
 import math
 from dataclasses import dataclass, field
+from functools import cached_property
 from typing import Dict, List, Optional, Set, Tuple
 
 from ..files import Limits, Scene
@@ -119,7 +120,9 @@ class LogPicture:
         found = [it.label() for it in self.trace.log.cells if it.switch == switch]
         return found[:10] + ([f"and {len(found) - 10} more"] if len(found) > 10 else [])
 
+    @cached_property
     def tick_width(self) -> float:
+        """The width of the ticks at the left."""
         return LETTER * max([4] + [len(str(it.event.tick)) for it in self.shown.values()]) + 28
 
     def set_columns(self) -> None:
@@ -129,7 +132,7 @@ class LogPicture:
         for it in self.shown.values():
             switch = it.event.switch
             wide[switch] = max([wide[switch], width_of(it.event.label())] + [8 + width_of(text, SMALL) for text, _ in it.notes])
-        x = self.tick_width()
+        x = self.tick_width
         self.column: Dict[int, float] = {}
         self.pitch = 12.0
         for switch in self.switches:
@@ -141,7 +144,7 @@ class LogPicture:
     def set_lanes(self) -> None:
         all_slots = sum(max(1, it) for it in self.slots.values())
         self.pitch = max(2.0, min(9.0, (LANES - 8 * len(self.switches)) / max(1, all_slots)))
-        x = self.tick_width() + 10
+        x = self.tick_width + 10
         for switch in self.switches:
             self.column[switch] = x
             x += max(15.0, max(1, self.slots[switch]) * self.pitch + 6)
@@ -346,7 +349,7 @@ class LogPicture:
         right = self.texts_end - 10 if self.is_wide else self.texts - 8
         for tick, its in self.at_tick.items():
             picture.write(4, 20, its[0].y + 4, str(tick), "small grey")
-            picture.line(1, self.tick_width() - 12, its[0].y, right, its[0].y, 'stroke="#eee"')
+            picture.line(1, self.tick_width - 12, its[0].y, right, its[0].y, 'stroke="#eee"')
         for switch in self.switches:
             x = self.column[switch] + self.bar_width() / 2
             picture.line(1, x, 88, x, self.foot, f'stroke="{"#999" if self.is_wide else "#ccc"}"')

@@ -1,14 +1,14 @@
 """Explanations of refusals and of layouts, on the second implementation in copperfinch.model (not verified).
 
 `explain(words, read_file)` explains the call of `lucid` with these words; tools/explain is its command line. The modules are `words`
-for the text of each refusal, `places` for lines and columns, and `nodes` for the nodes of a program.
+for the text of each refusal, `places` for lines and columns, `nodes` for the nodes of a program, and `where` for the line of a refusal.
 """
 from __future__ import annotations
 
 from dataclasses import dataclass, field
-from typing import Any, Callable, Dict, List, Optional, Sequence, Tuple
+from typing import Any, Dict, List, Optional, Sequence, Tuple
 
-from ..model.answers import Answer, judge
+from ..model.answers import Answer, ReadFile, Word, judge
 from ..model.json_files import Limits, read_limits
 from ..model.layout import Layout
 from ..model.passes import compose
@@ -18,7 +18,6 @@ from .nodes import Described
 from .places import Place, Sources
 from .words import Words, words_of
 
-ReadFile = Callable[[bytes], bytes]
 GREATEST = Limits(stages=32, tables=64, rows=1024, arrays=64, arms=64, bits=1048576)
 
 
@@ -51,10 +50,11 @@ class Explanation:
                 'notes': [{**place.data(), 'text': text} for place, text in self.notes], 'details': self.details}
 
 
-def explanation_of(answer: Answer) -> Explanation:
+def fill_explanation(report: 'Report', answer: Answer, refused: Refused) -> None:
     """Explains the refusal of an answer."""
-    refused, sources = answer.refused, Sources(answer)
-    fault, at, more = refused.fault, refused.fault.at, {}
+    sources, fault = Sources(answer), refused.fault
+    assert fault is not None  # every refusal has one
+    at, more = fault.at, {}
     if isinstance(at, tuple):
         key = str(at[0]) if at else ''
         at, found = sources.span(refused.file, at, fault.rule == 'other key')
@@ -66,25 +66,27 @@ def explanation_of(answer: Answer) -> Explanation:
     if at is None and notes:
         at = notes[0][0]
     made = Explanation(refused.line, refused.status, words, notes=[(sources.place('program', place), text) for place, text in notes])
+    report.explanation = made
     if at is not None:
         made.place = sources.place(refused.file, at)
         made.details = sources.copies(at) if refused.file == 'program' else []
     if fault.values and isinstance(fault.values[0], Layout):
         fit = fault.values[0]
+        report.part = 'the nodes of the program'
         described = Described(fit.code, sources)
         if refused.status == 7:
             words.problem = described.problem(fit)
             made.details += described.why(fit)
         made.table = described.table(fit if refused.status == 7 else Layout(fit.code, fit.limits))
-    return made
 
 
 @dataclass
 class Report:
-    """What is said of a call: of a refusal why, and of a program that is accepted its nodes and its layout."""
+    """What is said of a call: of a refusal why, and of a program that is accepted its nodes and its layout. `part` is being computed."""
 
-    answer: Answer
-    explanation: Optional[Explanation]
+    answer: Optional[Answer] = None
+    explanation: Optional[Explanation] = None
+    part: str = 'the explanation'
     nodes: List[Dict[str, Any]] = field(default_factory=list)
     table: List[str] = field(default_factory=list)
     tables: List[Dict[str, Any]] = field(default_factory=list)
@@ -103,23 +105,34 @@ def tables_of(made: Layout) -> List[Dict[str, Any]]:
     for k, tables in enumerate(made.stages):
         for t, table in enumerate(tables):
             nodes = [i for i, pair in enumerate(made.pairs) if pair == (k, t)]
-            arrays = [made.code.core.arrays[made.nodes[i].array].name for i in nodes if made.nodes[i].array is not None]
+            called = [number for number in (made.nodes[i].array for i in nodes) if number is not None]
+            arrays = [made.code.core.arrays[number].name for number in called]
             found.append({'stage': k, 'table': t, 'rows': len(table), 'nodes': nodes, 'arrays': arrays})
     return found
 
 
-def explain(words: Sequence[str], read: ReadFile, with_nodes: bool = True) -> Report:
-    """Explains a call of `lucid`; also lists the nodes of the program, unless that is not wanted."""
-    answer = judge(list(words), read)
-    report = Report(answer, explanation_of(answer) if answer.refused is not None else None)
+def explain(words: Sequence[Word], read: ReadFile, with_nodes: bool = True) -> Report:
+    """Explains a call of `lucid`; also lists the nodes of the program, unless that is not wanted. No network runs."""
+    report = Report()
+    fill(report, words, read, with_nodes)
+    return report
+
+
+def fill(report: Report, words: Sequence[Word], read: ReadFile, with_nodes: bool) -> None:
+    """Explains a call, part by part: the answer, the explanation, and the nodes."""
+    answer = judge(list(words), read, runs=False)
+    report.answer = answer
+    if answer.refused is not None:
+        fill_explanation(report, answer, answer.refused)
     program = answer.program
     if program is None or program.core is None or not with_nodes:
-        return report
+        return
+    report.part = 'the nodes and the tables of the program'
     try:
         limits = read_limits(answer.files['limits']) if 'limits' in answer.files else GREATEST
         code = compose(program.core)
     except Refused:
-        return report
+        return
     made = Layout(code, limits)
     try:
         made.fit()
@@ -131,4 +144,3 @@ def explain(words: Sequence[str], read: ReadFile, with_nodes: bool = True) -> Re
     report.table = described.table(made)
     report.tables = tables_of(made)
     report.counts = {'ops': len(code.ops), 'bits': code.bits(), 'nodes': len(made.nodes), 'removed': code.gone, 'limits': vars(limits)}
-    return report

@@ -97,9 +97,8 @@ class Described:
         for i in range(len(self.nodes)):
             d = self.data(i, made)
             reads = ', '.join([f'node {k}' for k in d['reads']] + d['inputs']) or '-'
-            shown = lambda key: '-' if d[key] is None else str(d[key])
-            rows.append([str(i), self.where(i), d['what'], reads, shown('array'), shown('earliest'), shown('stage'),
-                         shown('table'), str(d['rows']), str(d['bits'])])
+            places = ['-' if d[key] is None else str(d[key]) for key in ('array', 'earliest', 'stage', 'table')]
+            rows.append([str(i), self.where(i), d['what'], reads, *places, str(d['rows']), str(d['bits'])])
         widths = [min(46, max(len(row[k]) for row in rows)) for k in range(len(rows[0]))]
         return ['  '.join(cell.ljust(width) for cell, width in zip(row, widths)).rstrip() for row in rows]
 

@@ -1,13 +1,17 @@
 """Places in the files of a call: line and column of a byte, of a value of a JSON file, and of the expanded program."""
+import json
 import re
 from dataclasses import dataclass
 from typing import Any, Dict, List, Optional, Tuple
 
 from ..model.answers import Answer
 from ..model.json_files import STRING
+from ..streams import printable
 
 WIDEST = 140  # of a shown line
 PIECE = re.compile(STRING + r'|[][{}:,]|[^][{}:,"\s]+', re.DOTALL)
+
+Keys = Tuple[Any, ...]  # the keys and the numbers that lead to a value
 
 
 @dataclass
@@ -36,14 +40,15 @@ class Place:
 def place_in(file: str, data: bytes, at: int) -> Place:
     """The place of a byte of a file; of a long line what stands round it is shown."""
     start = data.rfind(b'\n', 0, at) + 1
-    end = data.find(b'\n', at)
-    end = len(data) if end < 0 else end
+    end = min(found for found in (data.find(b'\n', at), data.find(b'\r', at), len(data)) if found >= 0)
     first = start if at - start <= WIDEST - 40 else at - 60
-    before = data[first:at].decode('utf-8', 'replace')
-    source = before + data[at:min(end, first + WIDEST)].decode('utf-8', 'replace')
-    clean = lambda text: ''.join(c if c == '\t' or c.isprintable() else '?' for c in text)
-    caret = ''.join('\t' if c == '\t' else ' ' for c in before) + '^'
-    return Place(file, data.count(b'\n', 0, at) + 1, at - start + 1, clean(source), caret)
+    last = min(end, first + WIDEST)
+    while at < last < end and data[last] & 0xc0 == 0x80:  # no character is cut
+        last -= 1
+    while start < first and data[first] & 0xc0 == 0x80:
+        first -= 1
+    source, before = (printable(data[first:end].decode('utf-8', 'replace')) for end in (last, at))
+    return Place(file, data.count(b'\n', 0, at) + 1, at - start + 1, source, re.sub(r'[^\t]', ' ', before) + '^')
 
 
 class Values:
@@ -52,15 +57,15 @@ class Values:
     def __init__(self, text: str) -> None:
         self.pieces = list(PIECE.finditer(text))
         self.here = 0
-        self.found: Dict[Tuple, Tuple[int, int]] = {}  # where a value begins and ends
-        self.keys: Dict[Tuple, Tuple[int, int]] = {}
+        self.found: Dict[Keys, Tuple[int, int]] = {}  # where a value begins and ends
+        self.keys: Dict[Keys, Tuple[int, int]] = {}
         self.value(())
 
     def next(self) -> str:
         """The text of the next piece."""
         return self.pieces[self.here].group()
 
-    def value(self, path: Tuple) -> None:
+    def value(self, path: Keys) -> None:
         """Finds a value and all within it."""
         start, sign = self.pieces[self.here].start(), self.next()
         self.here += 1
@@ -69,7 +74,7 @@ class Values:
             while self.next() not in (']', '}'):
                 key: Any = number
                 if sign == '{':
-                    key = self.next()[1:-1]
+                    key = json.loads(self.next())
                     self.keys[path + (key,)] = self.pieces[self.here].span()
                     self.here += 2
                 self.value(path + (key,))
@@ -85,7 +90,7 @@ class Sources:
     def __init__(self, answer: Answer) -> None:
         self.answer = answer
         program = answer.program
-        self.expanded = program.expanded if program is not None else None
+        self.expanded: Any = program.expanded if program is not None else None
         self.is_other = self.expanded is not None and self.expanded.text != program.text
 
     def place(self, file: str, at: int) -> Place:
@@ -96,7 +101,7 @@ class Sources:
         data = self.answer.files[file]
         return place_in(self.answer.call.files[file], data, min(at, len(data)))
 
-    def span(self, file: str, path: Tuple, is_key: bool) -> Tuple[int, str]:
+    def span(self, file: str, path: Keys, is_key: bool) -> Tuple[int, str]:
         """Where a value or a key is in a JSON file, and its text; what is not there is at the value round it."""
         text = self.answer.files[file].decode('latin-1')
         values = Values(text)

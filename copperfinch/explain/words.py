@@ -1,5 +1,5 @@
 """The words for each broken rule of copperfinch.model: the problem, the rule, the remedy, and what was expected and found."""
-from dataclasses import dataclass
+from dataclasses import dataclass, field
 from typing import Any, Callable, Dict, List, Optional, Tuple
 
 from ..model.nodes import Code
@@ -22,7 +22,7 @@ class Words:
     remedy: str
     expected: Optional[str] = None
     found: Optional[str] = None
-    notes: Notes = ()
+    notes: Notes = field(default_factory=list)
 
 
 def shown(t: Optional[Type]) -> str:
@@ -134,8 +134,8 @@ def too_many(what: str) -> Callable[[int, int], Words]:
 
 def bits(code: Code, limits: Limits) -> Words:
     """The bits of a packet, with the widest fields."""
-    writing = [op for op in code.ops if op.to is not None]
-    widest = {op.at: code.widths[op.to] for op in sorted(writing, key=lambda op: code.widths[op.to])}
+    written = sorted((code.widths[op.to], number) for number, op in enumerate(code.ops) if op.to is not None)
+    widest = {code.ops[number].at: width for width, number in written}
     return Words(f'a packet carries {code.bits()} bits, and `bits` is {limits.bits}',
                  'A packet carries the inputs, and each field that an operation reads or writes.',
                  'use smaller widths, and fewer locals that are joined behind an `if`',

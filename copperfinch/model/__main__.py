@@ -2,7 +2,8 @@
 import os
 import sys
 
-from ..stack import deeply, read_file
+from ..bounded import deeply
+from ..streams import read_again
 
 from .answers import Answer, judge
 
@@ -18,7 +19,7 @@ def write_all(stream: int, data: bytes) -> bool:
 
 
 if __name__ == '__main__':
-    made: Answer = deeply(lambda: judge([os.fsencode(word) for word in sys.argv[1:]], read_file))
+    made: Answer = deeply(lambda: judge([os.fsencode(word) for word in sys.argv[1:]], read_again))
     if not write_all(1, made.out):
         made = Answer(10, b'', b'write fault\n')
     write_all(2, made.err)

@@ -1,6 +1,6 @@
 """The answer of a call: its words, then its files in word order, and what is asked of each (docs/ERRORS.md)."""
 from dataclasses import dataclass, field
-from typing import Callable, Dict, List, Optional, Sequence, Union
+from typing import Any, Callable, Dict, List, Optional, Sequence, Tuple, Union
 
 from . import gen
 from .audit import audit
@@ -26,7 +26,7 @@ MOST_BYTES = {'program': 1048576, 'limits': 1048576, 'scenario': 8388608, 'place
 MOST_EVENTS = 10000
 # README, Usage: the files that follow each command, and how many numbers follow them; `once` has an event and its arguments.
 NETWORK = ['program', 'limits', 'scenario']
-FORMS = {'check': (['program'], 0), 'once': (['program'], None), 'expand': (['program'], 0), 'layout': (['program', 'limits'], 0),
+FORMS: Dict[str, Tuple[List[str], Optional[int]]] = {'check': (['program'], 0), 'once': (['program'], None), 'expand': (['program'], 0), 'layout': (['program', 'limits'], 0),
          'run whole': (NETWORK, 0), 'run pipe': (NETWORK, 0), 'run placed': (NETWORK + ['placement'], 0), 'drive': (NETWORK, 0),
          'snap': (NETWORK, 1), 'audit': (['program', 'limits', 'placement'], 0), 'gen program': ([], 2), 'gen limits': ([], 2),
          'gen scene': ([], 2), 'bench': ([], 2)}
@@ -90,7 +90,7 @@ def read_files(call: Call, read: ReadFile) -> Dict[str, bytes]:
 class Program:
     """A program that is accepted, or so much of it as was read before it was refused."""
     text: str
-    tokens: Sequence[Token] = ()
+    tokens: List[Token] = field(default_factory=list)
     expanded: Optional[Expanded] = None
     core: Optional[Core] = None
     code: Optional[Code] = None
@@ -117,9 +117,9 @@ class Answer:
     out: bytes = b''
     err: bytes = b''
     refused: Optional[Refused] = None
-    call: Optional[Call] = None
+    call: Any = None  # a Call; None of words that are none
     files: Dict[str, bytes] = field(default_factory=dict)
-    program: Optional[Program] = None
+    program: Any = None  # a Program; None of a call without one, or of a file that cannot be read
 
 
 def once(core: Core, name: str, args: List[int]) -> str:
@@ -132,8 +132,11 @@ def once(core: Core, name: str, args: List[int]) -> str:
     return block_text(core, 0, 0, event, args, [(out, False) for out in outs]) + cells_text(core, 0, cells)
 
 
-def run_call(call: Call, files: Dict[str, bytes], program: Program) -> str:
-    """Does the work of a command that reads a program, and refuses what is wrong first in the order of docs/ERRORS.md."""
+def run_call(call: Call, files: Dict[str, bytes], program: Program, runs: bool = True) -> str:
+    """Does the work of a command that reads a program, and refuses what is wrong first in the order of docs/ERRORS.md.
+
+    A network runs after all that can be refused; where `runs` is false, it does not, and there is no output.
+    """
     command = call.command
     if command == 'expand':
         return program.expand()
@@ -145,7 +148,8 @@ def run_call(call: Call, files: Dict[str, bytes], program: Program) -> str:
         return once(core, call.event, call.numbers)
     limits = read_limits(files['limits'])
     if command == 'run whole':
-        return Network(core, limits, read_scene(files['scenario'], core), None).run()
+        network = Network(core, limits, read_scene(files['scenario'], core), None)
+        return network.run() if runs else ''
     program.code = compose(core)
     placed = Layout(program.code, limits)
     placed.check_code()
@@ -157,7 +161,7 @@ def run_call(call: Call, files: Dict[str, bytes], program: Program) -> str:
     if scene is None:
         return placed.text()
     if command in ('run pipe', 'run placed'):
-        return Network(core, limits, scene, placed).run()
+        return Network(core, limits, scene, placed).run() if runs else ''
     return drive(placed, scene, call.numbers[0] if command == 'snap' else None)
 
 
@@ -172,15 +176,15 @@ def generated(call: Call) -> str:
     return f'bench seed {seed} n {count} {text.splitlines()[-1]} bytes {len(text)} fnv {fnv(text.encode()):016x}\n'
 
 
-def judge(words: Sequence[Word], read: ReadFile) -> Answer:
-    """Returns the answer of a call. Texts are `str` with one character for each byte."""
+def judge(words: Sequence[Word], read: ReadFile, runs: bool = True) -> Answer:
+    """Returns the answer of a call; `runs` says whether a network runs. Texts are `str` with one character for each byte."""
     made = Answer()
     try:
         made.call = call_of([word.encode('utf-8') if isinstance(word, str) else word for word in words])
         if made.call.files:
             made.files = read_files(made.call, read)
             made.program = Program(made.files['program'].decode('latin-1'))
-            made.out = run_call(made.call, made.files, made.program).encode('latin-1')
+            made.out = run_call(made.call, made.files, made.program, runs).encode('latin-1')
         else:
             made.out = generated(made.call).encode('latin-1')
     except Refused as refused:
@@ -188,12 +192,16 @@ def judge(words: Sequence[Word], read: ReadFile) -> Answer:
     return made
 
 
-def agrees(made: Answer, status: int, out: bytes, err: bytes) -> bool:
-    """Whether the program may answer so: byte for byte, but that the cycle of status 6 may be any that the order allows."""
-    if (made.status, made.out, made.err) == (status, out, err):
+def agrees(made: Answer, status: int, out: Optional[bytes], err: bytes) -> bool:
+    """Whether the program may answer so: byte for byte, but that the cycle of status 6 may be any that the order allows.
+
+    If `out` is None, the outputs are not compared.
+    """
+    if (made.status, made.out if out is not None else None, made.err) == (status, out, err):
         return True
-    if made.status != 6 or status != 6 or out:
+    fault = made.refused.fault if made.refused else None
+    if made.status != 6 or status != 6 or out or fault is None:
         return False
-    line, order, _ = made.refused.fault.values
+    line, order, _ = fault.values
     text = err.decode('latin-1')
     return text.startswith(line + ' ') and text.endswith('\n') and order.allows(text[len(line):].split())

@@ -51,8 +51,8 @@ def children(x: Node) -> List[Expr]:
     return found
 
 
-def sent_parts(s: Gen, parts: List[Any]) -> Tuple[List[Any], Any, Any]:
-    """Splits what the expressions of a `generate` became into the arguments, the delay and the target; None for one that is missing."""
+def sent_parts(s: Stmt, parts: List[Any]) -> Tuple[List[Any], Any, Any]:
+    """Splits what the expressions of a `Gen` became into the arguments, the delay and the target; None for one that is missing."""
     count = len(parts) - len(s.extras)
     extras = dict(zip(s.extras, parts[count:]))
     return parts[:count], extras.get('delay'), extras.get('to')

@@ -1,5 +1,5 @@
 """The typing rules of declarations, the shape of memops, and the limits (docs/LANGUAGE.md, Declarations, Memops and Limits)."""
-from typing import ChainMap, Container, List, Optional, Tuple
+from typing import Any, ChainMap, Container, List, Optional, Tuple
 
 from . import core, tree
 from .refusals import Fault, Refused
@@ -14,7 +14,7 @@ def int_width(p: tree.Param) -> int:
     """Returns the width of a parameter or a constant, whose type must be an int."""
     if p.type is None or not p.type.is_int:
         raise Fault('int', p.at, 'an array' if p.type is None else 'bool')
-    return value_type(p.type)
+    return bits(value_type(p.type))
 
 
 def most_outs(nodes: List[core.Node], funs: List[int]) -> int:
@@ -63,7 +63,7 @@ class Shape(Expressions):
         no = behind if first.no is None else first.no
         return MemAlu(self.width, self.joined(test, COMPARE), self.returned(first.yes, first.at), self.returned(no, first.at))
 
-    def returned(self, body: List[tree.Stmt], at: int) -> Tuple:
+    def returned(self, body: List[tree.Stmt], at: int) -> Tuple[Any, ...]:
         """A returned expression is a parameter, a number or a constant, or two of these joined by one of `+ - & | ^`."""
         if len(body) != 1 or not isinstance(body[0], tree.Return) or body[0].value is None:
             raise Fault('shape', body[0].at if body else at, 'a branch is one return with a value, and nothing else')
@@ -184,8 +184,8 @@ class Elaboration:
 
     def body(self, d: tree.Decl, number: int) -> core.Body:
         """Functions: a function with a value returns one on every path; a later parameter hides an earlier one of its name."""
-        answer = d.type and value_type(d.type)
-        made = core.Body(d.name.text, number, d.line, d.at, answer=answer and bits(answer))
+        answer = None if d.type is None else value_type(d.type)
+        made = core.Body(d.name.text, number, d.line, d.at, answer=None if answer is None else bits(answer))
         rules = Statements(self.names.new_child(), made, self.core.forms, answer)
         for p in d.params:
             if p.type is None:

@@ -1,6 +1,6 @@
 """A pipeline whose packets move stage by stage and run the placed operations, and the moves of one (docs/SCENARIO.md, Steps)."""
 from dataclasses import dataclass, replace
-from typing import Dict, List, Optional, Tuple
+from typing import Any, Dict, List, Optional, Tuple
 
 from .interpret import Cells, Out, block_text, cells_text, empty_cells
 from .json_files import Scene
@@ -37,8 +37,9 @@ class Pipe:
         self.slots[0] = Packet(event, args, now, me, fields + [0] * (len(self.code.widths) - len(fields)), {})
 
     def go(self, k: int) -> Optional[Packet]:
-        """Moves the packet in slot k through stage k, into the next slot, or out of the pipeline."""
+        """Moves the packet in slot k, which there must be, through stage k, into the next slot, or out of the pipeline."""
         packet, self.slots[k] = self.slots[k], None
+        assert packet is not None
         self.run_stage(k, packet)
         if k + 1 == len(self.slots):
             return packet
@@ -103,7 +104,7 @@ class Drive:
         self.pipe, self.core, self.events = Pipe(placed), placed.code.core, scene.events
         self.entered = 0
 
-    def step(self, step: Tuple) -> str:
+    def step(self, step: Tuple[Any, ...]) -> str:
         """Does a step, and returns its lines; one that cannot be done changes nothing."""
         slots = self.pipe.slots
         if step[0] == 'look':

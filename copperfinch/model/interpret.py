@@ -1,6 +1,6 @@
 """The whole step: one event runs its handler to its end (docs/LANGUAGE.md, What a program means); and the lines of a log."""
 from dataclasses import dataclass
-from typing import Dict, List, Optional, Tuple
+from typing import Any, Dict, List, Optional, Tuple
 
 from . import core
 from .values import binary, hash_of, low, unary
@@ -13,7 +13,7 @@ class Out:
     """An event that is sent, with its delay and its target, or a text that is said, which has none of these."""
     number: int
     args: List[int]
-    delay: Optional[int] = None
+    delay: Any = None
     to: Optional[int] = None
 
 
@@ -30,8 +30,8 @@ class Run:
         self.inputs = {'now': low(now, 32), 'me': me}
         self.outs: List[Out] = []
 
-    def value(self, x: core.Expr, arrays: List[core.ArrayName], held: Dict[int, int]) -> Optional[int]:
-        """Evaluates an expression; both sides of `&&` and `||` are evaluated, and no expression can fault."""
+    def value(self, x: core.Expr, arrays: List[core.ArrayName], held: Dict[int, int]) -> Any:
+        """Evaluates an expression, to None if it gives no value; both sides of `&&` and `||` are evaluated, and no expression can fault."""
         if isinstance(x, core.Fixed):
             return x.value
         if isinstance(x, core.Local):
@@ -55,7 +55,7 @@ class Run:
             return x.get.apply(old, parts[1]) if x.answers else None
         return self.block(self.core.funs[x.number].body, [a.among(arrays) for a in x.arrays], dict(enumerate(parts)))[1]
 
-    def block(self, stmts: List[core.Stmt], arrays: List[core.ArrayName], held: Dict[int, int]) -> Tuple[bool, Optional[int]]:
+    def block(self, stmts: List[core.Stmt], arrays: List[core.ArrayName], held: Dict[int, int]) -> Tuple[bool, Any]:
         """Runs statements; says whether they returned, and with which value."""
         for s in stmts:
             parts = [self.value(x, arrays, held) for x in core.children(s)]
@@ -78,8 +78,9 @@ class Run:
 def run_whole(c: core.Core, cells: Cells, now: int, me: int, event: int, args: List[int]) -> List[Out]:
     """Runs an event's handler whole on cells; an event without a handler changes nothing."""
     run = Run(c, cells, now, me)
-    if c.events[event].handler is not None:
-        run.block(c.handlers[c.events[event].handler].body, [], dict(enumerate(args)))
+    handler = c.events[event].handler
+    if handler is not None:
+        run.block(c.handlers[handler].body, [], dict(enumerate(args)))
     return run.outs
 
 

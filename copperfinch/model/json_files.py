@@ -85,20 +85,20 @@ class File:
             key, *item = line.split()
             raise self.refused(line, Fault('value', (key, *map(int, item), *path), wanted))
 
-    def number(self, key: str, least: int, most: int, default: Optional[int]) -> int:
+    def number(self, key: str, least: int, most: int, default: Optional[int]) -> Any:
         """Reads a number from the least to the most, or the default if the key is absent."""
         n = self.root.get(key, default)
         wanted = f'a number from {least} to {most}' if most < 2 ** 64 - 1 else 'a number below 2^64'
         self.ask(is_number(n) and least <= n <= most, key, wanted)
         return n
 
-    def items(self, key: str) -> List[Any]:
+    def items(self, key: str) -> Any:
         """Reads a list, which is empty if the key is absent."""
         found = self.root.get(key, [])
         self.ask(isinstance(found, list), key, 'a list')
         return found
 
-    def numbers(self, line: str, item: Any, count: int, wanted: str) -> List[int]:
+    def numbers(self, line: str, item: Any, count: int, wanted: str) -> Any:
         """Reads an item that is a list of so many numbers."""
         self.ask(isinstance(item, list) and len(item) == count and all(is_number(n) for n in item), line, wanted)
         return item
@@ -141,7 +141,7 @@ class Scene:
     links: Dict[Tuple[int, int], int] = field(default_factory=dict)
     down: List[List[int]] = field(default_factory=list)
     events: List[FileEvent] = field(default_factory=list)
-    steps: List[Tuple] = field(default_factory=list)
+    steps: List[Tuple[Any, ...]] = field(default_factory=list)
 
 
 class SceneFile(File):
@@ -187,13 +187,13 @@ class SceneFile(File):
         at, switch, name, args = item['at'], item['switch'], item['name'], item['args']
         self.ask(is_number(at), key, 'a tick', 'at')
         self.ask(is_number(switch) and switch < self.scene.switches, key, f'a switch below {self.scene.switches}', 'switch')
-        number = self.core.event_named(name) if isinstance(name, str) else None
+        number: Any = self.core.event_named(name) if isinstance(name, str) else None
         self.ask(number is not None, key, 'the name of an event of the program', 'name')
         self.ask(isinstance(args, list) and all(is_number(n) for n in args) and self.core.fits(number, args), key,
                  f'the arguments of {name}, numbers of these bits: {self.core.events[number].params}', 'args')
         return FileEvent(at, switch, number, args)
 
-    def step(self, key: str, item: Any) -> Tuple:
+    def step(self, key: str, item: Any) -> Tuple[Any, ...]:
         """Steps: ["enter"], ["go", slot] or ["look", name, cell]; of several arrays of a name the last declared is meant."""
         parts = item if isinstance(item, list) else []
         arrays = [k for k, a in enumerate(self.core.arrays) if parts[1:2] == [a.name]]

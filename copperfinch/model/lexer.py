@@ -1,18 +1,19 @@
 """Tokens of a program text (docs/LANGUAGE.md, Tokens). A text is a `str` with one character for each byte."""
 import re
-from typing import List, NamedTuple
+from typing import List, NamedTuple, Optional, Tuple
 
 from .refusals import Fault, Refused
 
 MOST_NESTING = {'open brackets': 64, 'tokens since the last `;`, `{` or `}`': 256, '`else` in a declaration': 256}
-WORDS = frozenset('const global memop event handle fun if else return generate printf int bool void true false hash SELF '
-                  'Array Event Sys match with group'.split())
-# Each piece is the longest at its place; signs are tried longest first.
+RESERVED = ('const global memop event handle fun if else return generate printf int bool void true false hash SELF '
+            'Array Event Sys match with group').split()
+SIGNS = '|+| |-| && || == != <= >= << >> -> + - & | ^ ~ ! < > = ( ) { } , ; .'.split()
+# Each piece is the longest at its place; signs are tried in their order, so longer ones come before their beginnings.
 PIECE = re.compile(r'''(?P<blank>[ \t\n\r]+|//[^\n]*|/\*.*?\*/)
     |(?P<name>[A-Za-z_][A-Za-z0-9_]*)
     |(?P<number>0x[0-9A-Fa-f]+|[0-9]+)
     |(?P<text>"[\x20\x21\x23-\x5b\x5d-\x7e]*")
-    |(?P<sign>\|\+\||\|-\||&&|\|\||==|!=|<=|>=|<<|>>|->|[-+&|^~!<>=(){},;.])''', re.DOTALL | re.VERBOSE)
+    |(?P<sign>''' + '|'.join(map(re.escape, SIGNS)) + ')', re.DOTALL | re.VERBOSE)
 
 
 class Token(NamedTuple):
@@ -31,21 +32,34 @@ def number_of(digits: str) -> int:
     return min(int(short, base), 2 ** 64) if len(short) <= 20 else 2 ** 64
 
 
-def lex(text: str) -> List[Token]:
-    """Returns the tokens of a text and then its end; refuses it at the first byte at which no blank, comment or token begins."""
+def scan(text: str) -> Tuple[List[Token], Optional[int]]:
+    """Returns the tokens of a text, and the first byte at which no blank, comment or token begins, if there is one."""
     tokens: List[Token] = []
     at = before = 0
     while at < len(text):
         found = PIECE.match(text, at)
         value = number_of(found.group()) if found is not None and found.lastgroup == 'number' else 0
         if found is None or value == 2 ** 64:
-            raise Refused(4, f'syntax: byte {at}', Fault('no token', at, text))
+            return tokens, at
         if found.lastgroup != 'blank':
-            kind = 'word' if found.group() in WORDS else found.lastgroup
+            kind = 'word' if found.group() in RESERVED else found.lastgroup or ''
             tokens.append(Token(kind, found.group(), at, before, value))
             before = found.end()
         at = found.end()
-    return tokens + [Token('end', '', at, before)]
+    return tokens, None
+
+
+def lex(text: str) -> List[Token]:
+    """Returns the tokens of a text and then its end; refuses it at the first byte at which no blank, comment or token begins."""
+    tokens, stop = scan(text)
+    if stop is not None:
+        raise Refused(4, f'syntax: byte {stop}', Fault('no token', stop, text))
+    return tokens + [end_of(text, tokens)]
+
+
+def end_of(text: str, tokens: List[Token]) -> Token:
+    """Returns the token at the end of a text."""
+    return Token('end', '', len(text), tokens[-1].at + len(tokens[-1].text) if tokens else 0)
 
 
 def depth_behind(depth: int, token: Token) -> int:

@@ -1,9 +1,9 @@
 """Code: operations with guards over fields of a packet (crates/lucid_code/specs), and its nodes (docs/ERRORS.md, The order of nodes)."""
 from dataclasses import dataclass, field
-from typing import FrozenSet, List, NamedTuple, Optional, Tuple
+from typing import Any, FrozenSet, List, NamedTuple, Optional, Tuple
 
 from .core import Core
-from .values import MemAlu, binary, hash_of, low, unary
+from .values import binary, hash_of, low, unary
 
 
 class Operand(NamedTuple):
@@ -21,7 +21,7 @@ class Literal(NamedTuple):
 
 @dataclass
 class Op:
-    """An operation: `kind` is un, bin, cast, hash, move, touch, gen or say, and `to` is the field that it writes.
+    """An operation: `kind` is un, bin, cast, hash, move, touch, gen or say, and `to` is the field that it writes, or None.
 
     `number` is that of an array, an event or a text. The operands of an event are its arguments, its delay, and then its target
     if it is `targeted`. `at` is the place in the text that it comes from, and `via` the calls through which.
@@ -30,7 +30,7 @@ class Op:
     level: int
     kind: str
     operands: Tuple[Operand, ...]
-    to: Optional[int]
+    to: Any
     at: int
     via: Tuple[int, ...] = ()
     sign: str = ''
@@ -38,8 +38,8 @@ class Op:
     width: int = 0
     number: int = 0
     slot: int = 0
-    get: Optional[MemAlu] = None
-    set: Optional[MemAlu] = None
+    get: Any = None  # the memops of a touch
+    set: Any = None
     targeted: bool = False
 
     def reads(self) -> List[int]:

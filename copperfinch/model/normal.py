@@ -21,8 +21,8 @@ class Held:
 class Frame:
     """A body that is translated: the arrays of its array parameters, what holds its locals, and what it answers."""
     arrays: List[core.ArrayName]
-    held: Optional[Dict[int, Held]]  # None behind a return
-    answer: Optional[Held] = None
+    held: Any  # a Held for each local; None behind a return
+    answer: Any = None  # a Held
 
 
 def needs_move(test: core.Expr) -> bool:
@@ -52,7 +52,7 @@ class Translation:
         self.code.widths.append(width)
         return Held(Operand(True, len(self.code.widths) - 1), width)
 
-    def emit(self, kind: str, parts: List[Held], to: Optional[Held], at: int, **more: Any) -> Optional[Held]:
+    def emit(self, kind: str, parts: List[Held], to: Optional[Held], at: int, **more: Any) -> Any:
         """Adds an operation, which writes a field if one is given, and returns that."""
         field = None if to is None else to.operand.value
         self.code.ops.append(Op(self.guard, self.place, kind, tuple(p.operand for p in parts), field, at, self.via, **more))
@@ -63,11 +63,11 @@ class Translation:
         self.emit(kind, parts, None, at, number=number, slot=self.slot, **more)
         self.slot += 1
 
-    def move(self, value: Held, at: int) -> Held:
+    def move(self, value: Held, at: int) -> Any:
         """Moves a value to a new field."""
         return self.emit('move', [value], self.new_field(value.width), at)
 
-    def value(self, x: core.Expr, f: Frame) -> Optional[Held]:
+    def value(self, x: core.Expr, f: Frame) -> Any:
         """Translates an expression; it may give no value."""
         if isinstance(x, core.Fixed):
             return number(x.value, x.width)
@@ -90,7 +90,7 @@ class Translation:
             return to
         return self.call(x, parts, f)
 
-    def call(self, x: core.Fun, args: List[Held], f: Frame) -> Optional[Held]:
+    def call(self, x: core.Fun, args: List[Held], f: Frame) -> Any:
         """Translates a call: the body, with the parameters held by the arguments."""
         callee = Frame([a.among(f.arrays) for a in x.arrays], dict(enumerate(args)))
         outer, self.via = self.via, self.via + (x.at,)

@@ -70,7 +70,7 @@ class Order:
         """Returns a shortest cycle, begun with its earliest name; None exactly if there is a numbering."""
         touched = sorted({a for pair in self.scheme.needs for a in pair if a is not None})
         cycles = [cycle for cycle in (self.cycle_from(start, touched) for start in touched) if cycle is not None]
-        return min(cycles, key=len, default=None)
+        return min(cycles, key=lambda cycle: len(cycle or []), default=None)
 
     def cycle_from(self, start: ArrayName, touched: List[ArrayName]) -> Optional[List[ArrayName]]:
         """Returns a shortest cycle through an array and later ones."""

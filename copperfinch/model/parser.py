@@ -86,11 +86,11 @@ class Reader:
         is_int = self.one_of('int', 'bool') == 'int'
         return tree.Ty(is_int, self.width() if is_int and self.token.text == '<<' else None, at)
 
-    def width(self) -> int:
+    def width(self) -> Any:
         """width = "<<" number ">>" """
         return self.read('<<', self.number, '>>')[0].value
 
-    def array(self) -> int:
+    def array(self) -> Any:
         """array = "Array" [ "." 't' ] width"""
         self.read('Array')
         if self.take('.'):
@@ -282,6 +282,19 @@ class Parser(Reader):
             word = 'delay' if self.one_of('delay', 'locate') == 'delay' else 'to'
             return tree.SentWith(word, *self.read('(', self.sent, ',', self.expr, ')'), at)
         return tree.SentCall(self.name('an event').text, self.bracketed(self.expr), at)
+
+
+def declarations(tokens: List[Token]) -> List[int]:
+    """Returns the number of tokens before each declaration, up to the first that is broken, and before that or the end."""
+    parser, found = Parser(tokens), [0]
+    while parser.token.kind != 'end':
+        parser.first = parser.here
+        try:
+            parser.decl(1)
+        except (Refused, RecursionError):
+            break
+        found.append(parser.here)
+    return found
 
 
 def parse(text: str, tokens: List[Token]) -> List[tree.Decl]:

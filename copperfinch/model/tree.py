@@ -1,8 +1,6 @@
 """The syntax tree (docs/LANGUAGE.md, The tree): a dataclass for each form, whose last field `at` is the place of its first byte."""
 from dataclasses import dataclass, make_dataclass
-from typing import Any, List, Optional
-
-from .lexer import Token
+from typing import Any
 
 
 def form(name: str, *fields: str) -> Any:
@@ -47,14 +45,14 @@ Printf = form('Printf', 'text', 'args')
 
 @dataclass
 class Decl:
-    """A declaration: `kind` is its first word, and the rest is what that kind has."""
+    """A declaration: `kind` is its first word, and the rest is what that kind has, or else None."""
     kind: str
     at: int
     line: int
-    name: Optional[Token] = None
-    type: Optional[Ty] = None
+    name: Any = None  # its token
+    type: Any = None
     width: int = 0
     size: Any = None  # the number of a constant, or the size of an array: a number or a name
-    params: Optional[List[Any]] = None
-    body: Optional[List[Stmt]] = None
-    members: Optional[List[Any]] = None
+    params: Any = None  # and the rest are lists
+    body: Any = None
+    members: Any = None

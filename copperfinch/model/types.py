@@ -1,6 +1,6 @@
 """The typing rules of expressions (docs/LANGUAGE.md, Expressions): each place asks for a type, or is free."""
 from dataclasses import dataclass, field
-from typing import ChainMap, List, Optional, Tuple, Union
+from typing import Any, ChainMap, List, Optional, Tuple, Union
 
 from . import core, tree
 from .refusals import Fault
@@ -14,19 +14,19 @@ LOGIC = {'&&': '&', '||': '|'}
 
 @dataclass
 class Entry:
-    """The meaning of a visible name, by its kind: constant, array, memop, event, fun, group or local."""
+    """The meaning of a visible name, by its kind: constant, array, memop, event, fun, group or local; None is what its kind has not."""
     kind: str
-    type: Optional[Type] = None
+    type: Any = None
     number: int = 0
-    array: Optional[core.ArrayName] = None
-    alu: Optional[MemAlu] = None
+    array: Any = None  # an ArrayName
+    alu: Any = None  # a MemAlu
     params: List[Tuple[bool, Type]] = field(default_factory=list)  # of an array or not, and its type
     members: List[int] = field(default_factory=list)
 
 
 def bits(t: Type) -> int:
     """Returns the bits of a value of a type."""
-    return 1 if t == BOOL else t
+    return t if isinstance(t, int) else 1
 
 
 def check_width(width: int, at: int) -> int:
@@ -61,7 +61,7 @@ class Expressions:
             raise Fault('name', at, name, ' or '.join(kinds), found and found.kind)
         return found
 
-    def leaf_width(self, e: tree.Expr) -> Optional[int]:
+    def leaf_width(self, e: tree.Expr) -> Any:
         """Free places: returns the width of the first leaf that is no number; None if all are numbers."""
         if isinstance(e, tree.Number):
             return None
@@ -77,7 +77,7 @@ class Expressions:
             raise Fault('free type', e.at, found)
         return found
 
-    def own_type(self, e: tree.Expr) -> Optional[Type]:
+    def own_type(self, e: tree.Expr) -> Any:
         """Casts, hashes, the switch and the time: returns the type of what has one of its own; None if it gives no value."""
         if isinstance(e, tree.Name):
             return self.entry(e.name, e.at, 'local', 'constant').type
@@ -100,7 +100,7 @@ class Expressions:
         """Free places: types an expression at a place of its own."""
         return self.value(self.free_width(e), e)
 
-    def value(self, asked: Type, e: tree.Expr) -> core.Expr:
+    def value(self, asked: Any, e: tree.Expr) -> core.Expr:
         """Types and places: types an expression at a place that expects a type."""
         if isinstance(e, tree.Paren):
             return self.value(asked, e.inner)
@@ -137,7 +137,7 @@ class Expressions:
                 raise Fault('type', at, asked, BOOL)
             if sign == '!':
                 return core.Un('~', 0, self.value(BOOL, e.arg), 1, at)
-            width = BOOL if sign in LOGIC else self.free_width(e.left, e.right)
+            width: Type = BOOL if sign in LOGIC else self.free_width(e.left, e.right)
             return core.Bin(LOGIC.get(sign, sign), self.value(width, e.left), self.value(width, e.right), bits(width), at)
         if asked == BOOL:
             raise Fault('type', e.at, BOOL, self.free_width(e))

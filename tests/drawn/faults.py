@@ -28,7 +28,7 @@ sys.dont_write_bytecode = True
 sys.path[:0] = [str(TOP / 'tests'), os.environ.get('LUCID_MODEL', str(TOP))]
 import copperfinch.model  # noqa: E402, F401; before the cases, which look for it in the checkout
 from drawn.cases import Case, draw_case  # noqa: E402
-from copperfinch.stack import deeply  # noqa: E402
+from copperfinch.bounded import deeply  # noqa: E402
 
 Given = Tuple[int, bytes, bytes]  # an exit code and both streams
 STEP = 200

@@ -9,7 +9,7 @@ from __future__ import annotations
 from pathlib import Path
 from typing import Dict, List, Tuple
 
-from harness import PROGRAM, TOP, Group, call
+from harness import PROGRAM, TOP, Group, call, with_variables
 
 # Each page with the folder that its calls write to, if any.
 PAGES = {
@@ -65,7 +65,7 @@ def check_page(group: Group, page: str, folder: str, lucid: Path) -> None:
     files, calls = parts((TOP / page).read_text())
     group.check(f"{page} has calls", bool(calls))
     for command, wanted in calls:
-        ended = call(["sh", "-c", f"{{ {command}\n}} 2>&1"], cwd=room)
+        ended = call(["sh", "-c", f"{{ {command}\n}} 2>&1"], cwd=room, env=with_variables(LUCID=group.options.program))
         group.check(f"{page}: {command.strip()}", ended.out == wanted.encode(), ended)
     other = sorted(name for name, text in files.items() if not (room / name).exists() or (room / name).read_text() != text)
     group.check(f"{page}: its first call writes its files", not other, other)

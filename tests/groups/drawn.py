@@ -23,7 +23,7 @@ from drawn.cases import COMMANDS, Case, draw_case
 from harness import Ended, Group
 from copperfinch.model import Answer, agrees
 from copperfinch.model.nodes import Literal
-from copperfinch.stack import deeply
+from copperfinch.bounded import deeply
 
 RUNS, STEP, SHOWN, MOST_TRIES = 3000, 50, 3, 1500
 # What is left out of a file that is made smaller: lines, brackets with what is before and within them, statements, and tokens.

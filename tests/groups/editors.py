@@ -16,10 +16,10 @@ from typing import Any, Dict, List, Tuple
 
 from harness import EXAMPLES, TOP, Group, call
 
-from copperfinch.tokens import RESERVED, Token, position, scan
+from copperfinch.model.lexer import RESERVED, Token, lex
 
 # The beginnings of the scopes that an editor shows each sort of token in.
-SORTS = {"reserved": ("storage", "keyword.control", "constant.language", "support"), "name": ("entity", "variable"),
+SORTS = {"word": ("storage", "keyword.control", "constant.language", "support"), "name": ("entity", "variable"),
          "number": ("constant.numeric",), "text": ("string",), "sign": ("keyword.operator", "punctuation")}
 GROUPS = {"number": "lucidNumber", "text": "lucidString", "comment": "lucidComment", "name": "", "sign": ""}
 VIM = TOP / "tools/editor/lucid.vim"
@@ -44,7 +44,7 @@ COMPLETE = 'source "$0"; COMP_WORDS=("$@"); COMP_CWORD=$(($# - 1)); f=$(complete
 
 def run(group: Group) -> None:
     listed = re.search(r"Reserved words: `([^`]*)`", (TOP / "docs/LANGUAGE.md").read_text())
-    group.check("the reserved words are those of the page", listed is not None and listed[1].split() == list(RESERVED))
+    group.check("the reserved words are those of the page", listed is not None and listed[1].split() == RESERVED)
     group.check("vim has the reserved words", set(keywords()) == set(RESERVED), set(keywords()) ^ set(RESERVED))
     scopes(group)
     in_vim(group)
@@ -85,7 +85,7 @@ def scopes(group: Group) -> None:
     for path in sorted(EXAMPLES.glob("*.luc")):
         text = path.read_text()
         found = scopes_of(grammar, text)
-        wrong = [it for it in scan(text.encode()).tokens if not found.get(it.start, "").startswith(SORTS[it.sort])]
+        wrong = [it for it in lex(text)[:-1] if not found.get(it.at, "").startswith(SORTS[it.kind])]
         group.check(f"scopes of {path.name}", text.isascii() and not wrong, wrong[:3])
     text = '/* if */ // event\nprintf("if %d", ifs);'
     found = scopes_of(grammar, text)
@@ -102,7 +102,7 @@ def in_vim(group: Group) -> None:
     words = group.file("words.luc", '/* if\n event */ // event\nprintf("if %d", ifs, 0x1F, 12); event e1(int<<3>> global_);\n')
     for path in [*sorted(EXAMPLES.glob("*.luc")), words]:
         # Of the file made here also two places in its comment.
-        comments = [(Token("comment", "", 0), it) for it in ((1, 4), (2, 2)) if path == words]
+        comments = [(Token("comment", "", 0, 0), it) for it in ((1, 4), (2, 2)) if path == words]
         tokens = places_of(path.read_bytes()) + comments
         found, wanted = groups_in_vim(group, vim, path, [place for _, place in tokens]), [group_of(it) for it, _ in tokens]
         wrong = [it for it in zip(tokens, found, wanted) if it[1] != it[2]]
@@ -111,14 +111,15 @@ def in_vim(group: Group) -> None:
 
 def places_of(text: bytes) -> List[Tuple[Token, Tuple[int, int]]]:
     """The tokens of a text, each with its line and its column."""
-    return [(it, position(text, it.start)) for it in scan(text).tokens]
+    lines = text.decode("latin-1")
+    return [(it, (lines.count("\n", 0, it.at) + 1, it.at - lines.rfind("\n", 0, it.at))) for it in lex(lines)[:-1]]
 
 
 def group_of(it: Token) -> str:
     """The group of vim that a token belongs to."""
-    if it.sort == "reserved":
+    if it.kind == "word":
         return keywords()[it.text]
-    return "lucidOperator" if it.sort == "sign" and it.text[0] in "-+&|^~!<>=" else GROUPS[it.sort]
+    return "lucidOperator" if it.kind == "sign" and it.text[0] in "-+&|^~!<>=" else GROUPS[it.kind]
 
 
 def groups_in_vim(group: Group, vim: str, path: Path, places: List[Tuple[int, int]]) -> List[str]:

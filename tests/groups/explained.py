@@ -18,7 +18,7 @@ from harness import EXAMPLES, TOP, Ended, Group, call
 from copperfinch.explain import Report, explain
 from copperfinch.model import agrees
 from copperfinch.model.lexer import lex
-from copperfinch.stack import deeply
+from copperfinch.bounded import deeply
 from rowfile import Row, all_rows
 
 PLACED = {4, 5, 6, 7, 8, 9, 12, 13}

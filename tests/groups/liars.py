@@ -12,7 +12,7 @@ from typing import Callable, Dict, List, Tuple
 
 from drawn.cases import draw_case
 from harness import TESTS, Group, Stopped, compile_c
-from copperfinch.stack import deeply
+from copperfinch.bounded import deeply
 
 from . import drawn, generated, refused, rows, streams, words
 

@@ -10,7 +10,7 @@ from typing import List, Tuple
 
 from harness import Ended, Group
 from copperfinch.model import agrees, judge
-from copperfinch.stack import deeply
+from copperfinch.bounded import deeply
 from rowfile import Row, all_rows
 
 PIECES = 16

@@ -11,7 +11,7 @@ from typing import Dict, Iterable, List
 
 from harness import Ended, Group, call
 from copperfinch.model import judge
-from copperfinch.stack import deeply
+from copperfinch.bounded import deeply
 from rowfile import ROWS, Row, read_rows, sum_of, write_sums
 
 
