@@ -40,6 +40,7 @@ _lucid() {
 
 _lucid_tool() {
     local at=$COMP_CWORD tool=${COMP_WORDS[0]##*/}
+    tool=${tool#lucid-}
     COMPREPLY=()
     case $tool-$at in
         json-1) _lucid_words log layout audit drive snap ;;

@@ -1,6 +1,7 @@
-"""Child processes that end with this one, signals, and a line of progress each few seconds."""
+"""Words of the tools, child processes that end with this one, signals, and a line of progress each few seconds."""
 from __future__ import annotations
 
+import argparse
 import contextlib
 import os
 import signal
@@ -9,13 +10,24 @@ import sys
 import threading
 import time
 from pathlib import Path
-from typing import Any, Iterator, NoReturn, Sequence, Set, Union
+from typing import Any, Iterator, NoReturn, Optional, Sequence, Set, Union
 
 Word = Union[str, bytes, Path]
 # Seconds between two lines of progress.
 PERIOD = 5.0
 ENDS = (signal.SIGTERM, signal.SIGHUP, signal.SIGINT, signal.SIGQUIT)
 children: "Set[subprocess.Popen[bytes]]" = set()
+
+
+class Words(argparse.ArgumentParser):
+    """A parser that answers wrong words by one line of usage."""
+
+    def __init__(self, description: Optional[str]) -> None:
+        name = os.path.relpath(os.path.realpath(sys.argv[0]), Path(__file__).resolve().parent.parent.parent)
+        super().__init__(prog=name, description=description, formatter_class=argparse.RawDescriptionHelpFormatter)
+
+    def error(self, message: str) -> NoReturn:
+        self.exit(2, " ".join(self.format_usage().split()) + "\n")
 
 
 def say(text: str) -> None:
