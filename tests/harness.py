@@ -1,7 +1,7 @@
-"""What all groups of tests share: calls of the built program, checks that are counted, measured calls, and work side by side.
+"""What all tests share: calls of the built program, checks that are counted, measured calls, and work side by side.
 
-A group is a module of tests/groups with a function `run(group)`. It calls the program with `group.call` and counts each of its checks with
-`group.check`; `group.note` prints a line of its result. It writes its files into `group.room`, which is removed afterwards.
+A test of tests/groups is a function `run(group)` or `test_NAME(group)`. It calls the program with `group.call` and counts each of its checks
+with `group.check`; `group.note` prints a line of its result. It writes its files into `group.room`, which is removed afterwards.
 """
 from __future__ import annotations
 
@@ -58,7 +58,6 @@ class Options:
     large: bool = False
     fill: bool = False
     runs: Optional[int] = None
-    jobs: Optional[int] = None
     seed: int = 0
     only: Sequence[str] = ()
 
@@ -69,31 +68,31 @@ class Stopped(Exception):
 
 @dataclass
 class Group:
-    """One group while it runs: the program under test, a temporary folder, and the checks so far."""
+    """A test while it runs: the program under test, a temporary folder, and the checks so far; `notes` are printed at the end."""
 
     name: str
     options: Options
     room: Path
-    quiet: bool = False
     stops: bool = False
     passed: int = 0
     failed: int = 0
+    failures: List[str] = field(default_factory=list)
+    notes: List[str] = field(default_factory=list)
     lock: Any = field(default_factory=threading.Lock)
 
     def check(self, name: str, holds: bool, detail: object = "") -> bool:
-        """Counts a check, and prints its name if it failed; after 20 failures a group prints no more of them."""
+        """Counts a check, and keeps its name if it failed; after 20 failures no more of them."""
         with self.lock:
             self.passed += bool(holds)
             self.failed += not holds
-            if not holds and not self.quiet and self.failed <= 20:
-                print(f"{self.name}: failed: {name}{': ' if detail else ''}{detail}", flush=True)
+            if not holds and self.failed <= 20:
+                self.failures.append(f"{self.name}: failed: {name}{': ' if detail else ''}{detail}")
         if self.stops and not holds:
             raise Stopped(name)
         return bool(holds)
 
     def note(self, text: str) -> None:
-        if not self.quiet:
-            print(text, flush=True)
+        self.notes.append(text)
 
     def call(self, *words: Word, **how: Any) -> Ended:
         return call([self.options.program, *words], **how)
@@ -113,13 +112,13 @@ class Group:
         return path
 
     def side_by_side(self, work: Callable[[Any], Any], items: Iterable[Any]) -> List[Any]:
-        """Applies a function to all items, as many at a time as there are processors; the results are in the order of the items."""
-        with ThreadPoolExecutor(os.cpu_count() or 1) as pool:
+        """Applies a function to all items, as many at a time as this process has processors; the results are in the order of the items."""
+        with ThreadPoolExecutor(max(1, (os.cpu_count() or 1) // int(os.environ.get("PYTEST_XDIST_WORKER_COUNT", 1)))) as pool:
             return list(pool.map(work, items))
 
     def under(self, **options: Any) -> "Group":
         """A group of other options with a count and a folder of its own, which prints nothing and stops at its first failure."""
-        return Group(self.name, replace(self.options, **options), Path(tempfile.mkdtemp(dir=self.room)), quiet=True, stops=True)
+        return Group(self.name, replace(self.options, **options), Path(tempfile.mkdtemp(dir=self.room)), stops=True)
 
 
 def call(
@@ -201,14 +200,3 @@ def table(group: Group, titles: Sequence[str], rows: Iterable[Sequence[object]])
     """Prints a table of Markdown."""
     for cells in [titles, ["---"] * len(titles), *rows]:
         group.note("|" + "|".join(str(cell) if cell == "---" else f" {cell} " for cell in cells) + "|")
-
-
-def run_group(name: str, work: Callable[[Group], None], options: Options) -> Group:
-    """Runs a group in a temporary folder of its own."""
-    room = Path(tempfile.mkdtemp(prefix=f"lucid-{name}-"))
-    group = Group(name, options, room)
-    try:
-        work(group)
-    finally:
-        shutil.rmtree(room, ignore_errors=True)
-    return group

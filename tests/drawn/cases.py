@@ -1,6 +1,6 @@
 """Draws calls of all commands with their files: limits, scenarios with moves, placements, and changed texts.
 
-`draw_case(seed, number)` is the call of a number. Limits are often at what a program takes, or one below it; windows of links often begin or
+`cases()` is a strategy of hypothesis, which also makes a case smaller; `draw_case(seed, number)` is the call of a number. Limits are often at what a program takes, or one below it; windows of links often begin or
 end at a tick at which something departs; placements are often first fit with nodes moved. One call in five has a file whose tokens or
 bytes are changed: its own, or one of tests/rows and of the examples.
 """
@@ -11,9 +11,10 @@ import os
 from dataclasses import dataclass
 from pathlib import Path
 from random import Random
-from typing import Any, Dict, List, Optional
+from typing import Any, Callable, Dict, List, Optional
 
 from harness import Ended, call
+from hypothesis import strategies
 from copperfinch.model import Answer, judge
 from copperfinch.model.json_files import Limits, read_limits
 from copperfinch.model.layout import Layout
@@ -24,9 +25,10 @@ from .expressions import EDGES, draw_number
 from .mutated import JSON_WORDS, WORDS, bases, mutated
 from .programs import Program
 
-COMMANDS = {'check': 60, 'once': 80, 'expand': 40, 'layout': 120, 'run whole': 120, 'run pipe': 160, 'run placed': 120, 'drive': 100,
-            'snap': 80, 'audit': 120, 'gen': 8, 'bench': 2}
+COMMANDS = {'bench': 2, 'gen': 8, 'audit': 120, 'snap': 80, 'drive': 100, 'run placed': 120, 'run pipe': 160, 'run whole': 120,
+            'layout': 120, 'expand': 40, 'once': 80, 'check': 60}
 LONGEST = 60
+BYTES = {count: strategies.binary(min_size=count, max_size=count) for count in range(1, 40)}
 # Ticks of events, of which a handler sees the low 32 bits; a drive may begin at any.
 LATE = [100, 70000, *EDGES]
 
@@ -184,9 +186,33 @@ def change(r: Random, files: Dict[str, bytes], name: str) -> None:
     files[name] = mutated(r, files[name], WORDS if name == next(iter(files)) else JSON_WORDS)
 
 
+class Choices(Random):
+    """A source of choices that hypothesis makes, evenly; the smallest are the first of a list and what is not likely to come about."""
+
+    def __init__(self, draw: Callable[[Any], bytes]) -> None:
+        super().__init__(0)
+        self.draw = draw
+
+    def random(self) -> float:
+        return 1 - (int.from_bytes(self.draw(BYTES[2]), 'big') + 1) / 65537
+
+    def getrandbits(self, k: int) -> int:
+        return int.from_bytes(self.draw(BYTES[(k + 7) // 8]), 'big') >> (-k % 8)
+
+
+@strategies.composite
+def cases(draw: Callable[[Any], bytes]) -> Case:
+    """A case by choices of hypothesis."""
+    return draw_by(Choices(draw))
+
+
 def draw_case(seed: int, number: int) -> Case:
     """The case of this number."""
-    r = Random(seed * 10 ** 9 + number)
+    return draw_by(Random(seed * 10 ** 9 + number))
+
+
+def draw_by(r: Random) -> Case:
+    """A case by the choices of a source."""
     if r.random() < 0.1:
         base = r.choice(r.choice(bases()))
         case = Case(list(base.words), dict(base.files), True)

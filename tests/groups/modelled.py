@@ -5,15 +5,15 @@ order allows. Leaves out full outputs and memory that ends, which it cannot have
 """
 from __future__ import annotations
 
-from concurrent.futures import ProcessPoolExecutor
 from typing import List, Tuple
 
+import pytest
 from harness import Ended, Group
 from copperfinch.model import agrees, judge
 from copperfinch.bounded import deeply
 from rowfile import Row, all_rows
 
-PIECES = 16
+PIECES = 8
 OTHER_STREAMS = {10, 11}
 
 
@@ -32,11 +32,11 @@ def differs(rows: List[Row]) -> List[Tuple[str, str]]:
     return deeply(work)
 
 
-def run(group: Group) -> None:
+@pytest.mark.parametrize("piece", range(PIECES))
+def test_modelled(group: Group, piece: int) -> None:
     rows = [row for row in all_rows() if row.status not in OTHER_STREAMS]
-    with ProcessPoolExecutor(group.options.jobs) as pool:
-        failed = [pair for pairs in pool.map(differs, [rows[at::PIECES] for at in range(PIECES)]) for pair in pairs]
+    group.check("there are 2,000 rows", len(rows) >= 2000, len(rows))
+    failed = differs(rows[piece::PIECES])
     for name, ended in failed:
         group.check(name, False, ended)
-    group.passed += len(rows) - len(failed)
-    group.check("there are 2,000 rows", len(rows) >= 2000, len(rows))
+    group.passed += len(rows[piece::PIECES]) - len(failed)

@@ -28,17 +28,18 @@ def make(group: Group, row: Row, links: Dict[str, Path] = {}) -> Ended:
     return ended
 
 
-def check_row(group: Group, row: Row, links: Dict[str, Path] = {}) -> None:
-    ended = make(group, row, links)
+def check_row(group: Group, row: Row) -> None:
+    ended = make(group, row)
     group.check(f"{row.name}: {row.title}", row.holds(ended), ended)
 
 
-def run(group: Group) -> None:
-    rows = read_all(group, [ROWS / name for name in group.options.only] or sorted(ROWS.glob("*.rows")))
+def test_sums(group: Group) -> None:
+    """Each accepted text has its length and its hash; `--fill` writes those that are missing."""
+    missing = [row for row in read_all(group, sorted(ROWS.glob("*.rows"))) if row.accepts and row.sum is None]
     if group.options.fill:
-        fill(group, [row for row in rows if row.accepts and row.sum is None])
+        fill(group, missing)
     else:
-        group.side_by_side(lambda row: check_row(group, row), rows)
+        group.check("each accepted text has its sum: tests/run rows --fill", not missing, [row.name for row in missing])
 
 
 def read_all(group: Group, paths: Iterable[Path]) -> List[Row]:

@@ -1,4 +1,4 @@
-"""The tools of tools/: the calls of tests/tools.rows, byte by byte, and refusals that a tool is given as one word.
+"""The tools of tools/: refusals that a tool is given as one word. The calls of tests/tools.rows are items of their own, byte by byte.
 
 Fails on another output, error line or status of a tool. The groups printed, pictures, page, schemas, editors, script and builds test what
 the tools show. Sees no tool that has no row. Seen to fail, by titles of rows:
@@ -11,20 +11,10 @@ the tools show. Sees no tool that has no row. Seen to fail, by titles of rows:
 """
 from __future__ import annotations
 
-from harness import EXAMPLES, TESTS, TOP, Group
-
-from .rows import check_row, read_all
-
-LINKS = ("docs", "examples", "tools")
+from harness import EXAMPLES, Group
 
 
-def run(group: Group) -> None:
-    links = {"lucid": group.options.program, **{name: TOP / name for name in LINKS}}
-    group.side_by_side(lambda row: check_row(group, row, links), read_all(group, [TESTS / "tools.rows"]))
-    one_word(group)
-
-
-def one_word(group: Group) -> None:
+def test_one_word(group: Group) -> None:
     """`where` takes a refusal as one word, below the line of an unproved build, too; and shows all places of a cycle."""
     path = group.file("a file", '// \\ "\n  event\t$ e();')
     mark = f"{path}:2:9\n  event\t$ e();\n       \t^\n".encode()
