@@ -11,6 +11,8 @@ from typing import Callable, Dict, List, NamedTuple, Optional, Set, Tuple
 NAME = r'[^\s(){}.;,@"«»]+'
 TAIL = rf"(?:\.(?:{NAME}|«[^»\n]*»))"
 STRING = r'"(?:[^"\\]|\\.)*"'
+# The members of a trait at a type, as `⟦<RealOut<S> as Sink>⟧`.
+AT_TYPE = re.compile(r"⟦<([^⟦⟧]*)>⟧")
 # A string; the fields of a term in brackets; a name with what stands behind its dots; any other sign.
 TOKEN = re.compile(rf"{STRING}|(?<=[)\]}}]){TAIL}+|{NAME}{TAIL}*|\S")
 PLAIN = re.compile(r"[^\W\d][\w'-]*")
@@ -22,7 +24,7 @@ REFUSED = set("module open package axiom use mod ruleset unfold deriving coe fco
 MODULE = r"[A-Za-z_]\w*(?:\.[A-Za-z_]\w*)+"
 USE = re.compile(rf"(pub )?use ({MODULE})(?:\.\{{([^{{}}]*)\}}| as ([\w-]+))")
 # Where the whole path of a module may begin.
-ROOTS = ("Rattle", "denote")
+ROOTS = ("Rattle", "base", "denote")
 
 
 class Import(NamedTuple):
@@ -93,6 +95,7 @@ def replace_names(text: str, meaning: Meaning, refuse: Callable[[str, str], None
     `meaning` gets a name, what stands behind its dot, and the tokens before and behind it. It returns the whole name, if there is one, and
     whether that stands for the part behind the dot, too.
     """
+    text = AT_TYPE.sub(lambda at: "(" + " ".join(PLAIN.findall(at.group(1))) + ")", text)
     tokens = list(TOKEN.finditer(text))
     out: List[str] = []
     at = 0
