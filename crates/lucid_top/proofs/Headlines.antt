@@ -173,9 +173,9 @@ is-placed {texts} a {makes} passes same {text} audit =
 -- ---- answers, and sights
 
 -- the answer of `run pipe` over these texts
-pub answers-pipe : {names texts : Three} (a : Accepted texts) {makes : Makes} (passes : List PassView) → MakeSame makes passes → (f : FirstFitPlaces makes a) →
+pub answers-pipe : (names : Three) {texts : Three} (a : Accepted texts) {makes : Makes} (passes : List PassView) → MakeSame makes passes → (f : FirstFitPlaces makes a) →
     AnswersTo (command_of (run_pipe names)) (record { words = run_pipe names; texts = texts.program ∷ texts.limits ∷ texts.scenario ∷ []; passes = passes }) (Ok (network_log a))
-answers-pipe a passes same f = (Ok (ready_of passes f), is-ready a passes same f, refl)
+answers-pipe names a passes same f = (Ok (ready_of passes f), is-ready a passes same f, refl)
 
 module _ {names texts : Three} {held : Held} (hold : Hold held names texts) (a : Accepted texts) where
   pub asks-whole : (passes : List PassView) → Answers (record { words = run_whole names; held = held; passes = passes }) (Ok (network_log a))
@@ -188,7 +188,7 @@ module _ {names texts : Three} {held : Held} (hold : Hold held names texts) (a :
   pub asks-pipe : {makes : Makes} (passes : List PassView) → MakeSame makes passes → (f : FirstFitPlaces makes a) → Answers (record { words = run_pipe names; held = held; passes = passes }) (Ok (network_log a))
   asks-pipe passes same f =
       over (λ ts. AnswersTo (command_of (run_pipe names)) (record { words = run_pipe names; texts = ts; passes = passes })) (Ok (network_log a))
-      (three held (run_pipe names) (program_file 2) (limits_file 3) (scenario_file 4) texts.program texts.limits texts.scenario hold.program hold.limits hold.scenario) (answers-pipe {names} a passes same f)
+      (three held (run_pipe names) (program_file 2) (limits_file 3) (scenario_file 4) texts.program texts.limits texts.scenario hold.program hold.limits hold.scenario) (answers-pipe names a passes same f)
 
   pub shows-pipe : {makes : Makes} (passes : List PassView) → MakeSame makes passes → (f : FirstFitPlaces makes a) → RunPipeShows texts.program texts.limits texts.scenario passes (Ok (network_sights a (placed_by f)))
   shows-pipe passes same f = (Ok (ready_of passes f), is-ready a passes same f, refl)

@@ -25,6 +25,8 @@ use Rattle.lucid_top.specs.Pipes.{Ready, network_of}
 use Rattle.lucid_top.specs.Room.{CallLacksRoom, CommandsLackRoom}
 use Rattle.lucid_top_pipes.specs.Watching.{Seen, Shown, ToldBefore}
 use Rattle.lucid_top_fit.specs.Passes.{KeepNodes, PassView, PassesRun}
+use Rattle.lucid_top.proofs.PremisesLemmas.{logged-pipe}
+use Rattle.lucid_top.proofs.TopLemmas.{read-entries}
 use Rattle.lucid_top.proofs.RoomLemmas.{call_lacks, no_place}
 use Rattle.lucid_top.proofs.Headlines.{MakeSame, Makes, Quiet, answers-pipe, asks-drive, asks-pipe, asks-placed, asks-snap, asks-whole, audited_of, is-placed, is-ready, quiet-drive, quiet-pipe, quiet-placed, quiet-snap, quiet-whole, ready_of, shows-drive, shows-pipe, shows-placed, texts-drive, texts-pipe, texts-placed}
 use Rattle.lucid_top_words.specs.Command.{command_of}
@@ -37,7 +39,7 @@ use Rattle.lucid_top_words.specs.Words.{number_of, word_at}
 use Rattle.lucid_top_words.specs.Writing.{Performs, Refuses}
 use Rattle.lucid_top_words.proofs.Seen.{All, Part, Prefix, Nothing, Line}
 use Rattle.lucid_top_words.proofs.FilesLemmas.{read-begun, read-texts}
-use Rattle.lucid_top_words.proofs.Readings.{Agrees, read-agrees, read-why, read-rose, read-long, read-gave_more, read-held, read-quiet}
+use Rattle.lucid_top_words.proofs.Readings.{Agrees, read-agrees, read-why, read-rose, read-long, read-gave_more, read-held, read-length, read-quiet}
 
 -- ---- what is alike
 
@@ -348,6 +350,28 @@ ran-same runs old new end ran = elim ran [
   | inr on ↦ record { names = on.3.names; gives = on.3.same }
 ]
 
+-- a run on pipelines that ended well read three accepted texts, and wrote their log
+safe-over : (names : Three) (q : Question) (files files' : FilesView) (out out' : SinkView) (texts : Texts) (end : End) → FilesRead (run_pipe names) files files' (command_files (Some command.RunPipe)) texts →
+    PerformsOver (Some command.RunPipe) q out out' texts end → end_status end ≡ status.Ok →
+    (three : Three) × (files'.heard ≡ read_three names three files.heard) × (a : Accepted three) × All out out' (network_log a)
+safe-over names q files files' out out' (Err r) end reads does ok = absurd (never_ok r (sym (ap end_status does.0) ∙ ok))
+safe-over names q files files' out out' (Ok texts) (Err r) reads does ok = absurd (never_ok r ok)
+safe-over names q files files' out out' (Ok texts) (Ok u) reads does ok = at texts (read-length (run_pipe names) files files' (command_files (Some command.RunPipe)) texts reads) reads does
+  where
+    at : (ts : List (List ℕ)) → length ts ≡ 3 → FilesRead (run_pipe names) files files' (command_files (Some command.RunPipe)) (Ok ts) → PerformsOver (Some command.RunPipe) q out out' (Ok ts) (Ok u) →
+        (three : Three) × (files'.heard ≡ read_three names three files.heard) × (a : Accepted three) × All out out' (network_log a)
+    at [] long reads does = absurd (omega (arith, long))
+    at (p ∷ []) long reads does = absurd (omega (arith, long))
+    at (p ∷ l ∷ []) long reads does = absurd (omega (arith, long))
+    at (p ∷ l ∷ s ∷ []) long reads does =
+        let logged = logged-pipe p l s q.passes does.0 does.1.is in (
+          record { program = p; limits = l; scenario = s },
+          read-entries (run_pipe names) files files' (command_files (Some command.RunPipe)) (p ∷ l ∷ s ∷ []) reads,
+          logged.0,
+          subst (All out out') logged.1 does.2,
+        )
+    at (p ∷ l ∷ s ∷ t ∷ more) long reads does = absurd (omega (arith, long))
+
 -- ---- the clauses of the top call
 
 -- no count of a named file rose
@@ -511,7 +535,7 @@ module _ {c : Call} {err err' : SinkView} {result : Status} (e : Ended c err err
         | inr out ↦ subst (λ (t : Texts). Agrees t (Some (Ok ts))) (sym out) tt
       ]
 
-      over : Answered (IsSome (Some (Ok ts))) (λ begun. StopsOver (Some (Ok ts)) (λ texts. StopsOf (command_of c.words) (given (question c) texts) begun)) (AnswersTo (command_of c.words) (given (question c) ts)) c.out c.out' e.end
+      over : Answered (IsSome {T = Texts} (Some (Ok ts))) (λ begun. StopsOver (Some (Ok ts)) (λ texts. StopsOf (command_of c.words) (given (question c) texts) begun)) (AnswersTo (command_of c.words) (given (question c) ts)) c.out c.out' e.end
       over = record { by = over-by (command_of c.words) (question c) c.files c.files' c.out c.out' e.done.texts e.end (Some (Ok ts)) agrees e.done.reads e.done.does }
 
       never : (word : ℕ) → e.done.texts ≡ Err (refusal.ReadFault word) → ⊥
@@ -526,10 +550,18 @@ module _ {c : Call} {err err' : SinkView} {result : Status} (e : Ended c err err
       let ts = texts.program ∷ texts.limits ∷ texts.scenario ∷ [] in
       by_word-clause ts (subst (λ (w : List (List ℕ)). 3 ≡ length (files_named w)) (sym is) refl)
       (subst (λ (w : List (List ℕ)). c.files'.heard ≡ read_whole w (files_named w) ts c.files.heard) (sym is) heard) unmet (network_log a)
-      (subst (λ (w : List (List ℕ)). AnswersTo (command_of w) (record { words = w; texts = ts; passes = c.passes }) (Ok (network_log a))) (sym is) (answers-pipe {names} a c.passes same f))
+      (subst (λ (w : List (List ℕ)). AnswersTo (command_of w) (record { words = w; texts = ts; passes = c.passes }) (Ok (network_log a))) (sym is) (answers-pipe names a c.passes same f))
 
   pub begins-clause : BegunInOrder c.words (files_named c.words) c.files.heard c.files'.heard
   begins-clause = read-begun c.words c.files c.files' (files_named c.words) e.done.texts e.done.reads
+
+  -- ---- safety on its own
+
+  pub safe-clause : (names : Three) → c.words ≡ run_pipe names → result ≡ status.Ok → (three : Three) × (c.files'.heard ≡ read_three names three c.files.heard) × (a : Accepted three) × All c.out c.out' (network_log a)
+  safe-clause names is ok =
+      safe-over names (question c) c.files c.files' c.out c.out' e.done.texts e.end
+      (subst (λ (w : List (List ℕ)). FilesRead w c.files c.files' (command_files (command_of w)) e.done.texts) is e.done.reads)
+      (subst (λ (w : List (List ℕ)). PerformsOver (command_of w) (question c) c.out c.out' e.done.texts e.end) is e.done.does) (sym e.status ∙ ok)
 
   -- ---- want of memory
 

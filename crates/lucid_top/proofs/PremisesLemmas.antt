@@ -8,12 +8,16 @@ use Rattle.lucid_stages.specs.Counts.{CountsFit}
 use Rattle.lucid_layout.specs.Layout.{IsLayout}
 use Rattle.lucid_pass.specs.Through.{through}
 use Rattle.lucid_top.specs.Premises.{HasCore}
-use Rattle.lucid_top.specs.Headline.{Accepted, AuditAccepts, FirstFitPlaces, Three, code_by, placed_by}
+use Rattle.lucid_net_spec.specs.Log.{log, whole}
+use Rattle.lucid_top.specs.Headline.{Accepted, AuditAccepts, FirstFitPlaces, Three, code_by, network_log, placed_by, whole_network}
+use Rattle.lucid_top.specs.Pipes.{IsPiped, IsPlacedIn, IsReady, IsSet, IsTarget, IsUnder, Piped, Ready, Target, network_of, piped, ready, target}
+use Rattle.lucid_top.specs.RunPipe.{RunPipeAnswers}
 use Rattle.lucid_top.specs.PremisesLaws.{IsAccepted}
 use Rattle.lucid_top_fit.specs.Fit.{Composed, Fit, IsComposed, IsFitted, IsPlaced, composed, fit_of, normal_of}
 use Rattle.lucid_top_fit.specs.Passes.{PassView}
 use Rattle.lucid_top_fit.specs.Placing.{IsAudited, IsPlan}
 use Rattle.lucid_top_program.specs.Program.{AreTokens, IsElaborated, IsExpanded, IsOrdered, IsParsed, IsProgram, IsProgramFrom, IsProgramOf, IsRead, IsSource}
+use Rattle.lucid_top_program.specs.Settings.{IsLimits, IsScenario}
 use Rattle.lucid_top_words.specs.declared.refusal.Refusal.{Refusal}
 use Rattle.lucid_top_words.specs.Outcome.{After, FollowedBy}
 use Rattle.lucid_types_spec.specs.Makes.{IsTyped}
@@ -50,6 +54,34 @@ has-core text core is =
       typed = subst (λ (c : CoreParts). IsTyped tree.0 c) same typed.1;
       ordered = subst (λ (c : CoreParts). order.IsAccepted c) same typed.2.0;
     }
+
+ok-same : {X : Type 0} {x y : X} → ◌≡◌ {A = Result X Refusal} (Ok x) (Ok y) → x ≡ y
+ok-same is = cc
+
+-- the text that is the answer of `run pipe` is the log of accepted texts
+pub logged-pipe : (program limits scenario : List ℕ) (passes : List PassView) (text : List ℕ) → RunPipeAnswers program limits scenario passes (Ok text) →
+    (a : Accepted (record { program = program; limits = limits; scenario = scenario })) × (text ≡ network_log a)
+logged-pipe program limits scenario passes text is =
+    let run = first-of (IsReady program limits scenario passes) (λ r o. o ≡ Ok (log (network_of r))) text is in
+    let set = first-of (IsPiped program limits passes) (IsSet scenario) run.0 run.1 in
+    let scene = first-of (IsScenario set.0.under.core scenario) (λ x o. o ≡ Ok (ready set.0 x)) run.0 set.2 in
+    let under = first-of (IsTarget program limits) (IsPlacedIn passes) set.0 set.1 in
+    let fitted = first-of (IsFitted under.0.core under.0.limits passes) (λ x o. o ≡ Ok (piped under.0 x)) set.0 under.2 in
+    let core = first-of (IsProgram program) (λ x. IsUnder x limits) under.0 under.1 in
+    let limit = first-of (IsLimits limits) (λ x o. o ≡ Ok (target core.0 x)) under.0 core.2 in
+    let run_is : run.0 ≡ ready set.0 scene.0 = ok-same scene.2 in
+    let set_is : set.0 ≡ piped under.0 fitted.0 = ok-same fitted.2 in
+    let under_is : set.0.under ≡ target core.0 limit.0 = ap (λ (p : Piped). p.under) set_is ∙ ok-same limit.2 in
+    let a : Accepted (record { program = program; limits = limits; scenario = scenario }) = record {
+      core = core.0;
+      program_is = has-core program core.0 core.1;
+      limits = limit.0;
+      limits_are = limit.1;
+      scene = scene.0;
+      scenario_is = subst (λ (t : Target). IsScenario t.core scenario (Ok scene.0)) under_is scene.1;
+    } in
+    let net : network_of run.0 ≡ whole_network a = ap network_of run_is ∙ ap (λ (t : Target). whole t.core scene.0 t.limits) under_is in
+    (a, ok-same run.2 ∙ ap log net)
 
 -- What passes make is what their functions make.
 views-same : (passes : List PassView) → MakeSame (map (λ p. p.gives.makes) passes) passes

@@ -72,7 +72,12 @@ pub fn lucid<F: Files, W: Sink, E: Sink, V: Watch>(
         FirstFitPlaces (map (λ p. (gives p).makes) passes.old.items) a →
         NoneFailed (F.faults files.old) (F.faults files.new) names → ¬ Rose (W.faults out.old) (W.faults out.new) →
         bytes_of words.now ≡ run_pipe names → Wrote W.written W.faults out.old out.new result (network_log a) }
-    // the same by word, for files of which each word gave a text of its own
+    // Safety on its own, with no premise on texts or layout: if `run pipe` ends with status 0, it read three accepted texts whole, and wrote
+    // exactly the log of their handlers.
+    ensures safe { (names : Three) → bytes_of words.now ≡ run_pipe names → result ≡ Status.Ok →
+        (texts : Three) × (F.heard files.new ≡ read_three names texts (F.heard files.old)) × (a : Accepted texts) ×
+        PutsAll W.written W.faults out.old out.new (network_log a) }
+    // the headline by word, for files of which each word gave a text of its own
     ensures pipe_by_word { (names texts : Three) → F.heard files.new ≡ read_three names texts (F.heard files.old) → (a : Accepted texts) →
         FirstFitPlaces (map (λ p. (gives p).makes) passes.old.items) a → ¬ Rose (W.faults out.old) (W.faults out.new) →
         bytes_of words.now ≡ run_pipe names → Wrote W.written W.faults out.old out.new result (network_log a) }

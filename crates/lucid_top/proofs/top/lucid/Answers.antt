@@ -146,3 +146,8 @@ returns-clause-by_word g c = λ texts long heard unmet text asked.
 pub returns-clause-pipe_by_word : goal.returns-clause-pipe_by_word
 returns-clause-pipe_by_word g c = λ names texts heard a f unmet is.
     wrote-of g.W.Sink.written g.W.Sink.faults c.args.out.now c.call.new.out c.call.result _ (laws.pipe_by_word-clause c.call.ensures.ended (make-same (λ b. (goal.Pass-dyn g (b.vtable, b.value)).called b.value) (λ b. (goal.Pass-dyn g (b.vtable, b.value)).gives b.value) (λ b. (goal.Pass-dyn g (b.vtable, b.value)).count b.value) c.args.passes.now.items) names texts heard a f unmet is)
+
+pub returns-clause-safe : goal.returns-clause-safe
+returns-clause-safe g c = λ names is ok.
+    let wrote = laws.safe-clause c.call.ensures.ended names is ok in
+    (wrote.0, wrote.1, wrote.2, seen.all-of g.W.Sink.written g.W.Sink.faults c.args.out.now c.call.new.out _ wrote.3)
