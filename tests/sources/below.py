@@ -398,6 +398,9 @@ class Repository:
                     whole, below = self.with_whole_names(_bare(clause.text), scope, by, extra=extra)
                     text += f"\n{clause.kind} {clause.name} {whole}"
                     found += below
+            elif member.kind == "type":
+                whole, below = self._rust_names(member.text, file, by)
+                text, found = f"{text}\n{whole}", found + below
             else:
                 self.notes.refuse(file.path, member.number, "a member of a trait that is not known", member.text)
         return Content(text, lines, tuple(dict.fromkeys(it for it in found if it != node)))
