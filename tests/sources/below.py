@@ -445,10 +445,6 @@ class Repository:
                 waiting += self.content(node).below[::-1]
         return list(seen)
 
-    def sum_of(self, root: Root) -> str:
-        """Returns the digest of a clause: its text with whole names, its signature, and all that it rests on."""
-        return digest("\n".join([root.text, *sorted(f"{node} {self.content(node).digest}" for node in root.nodes)]))
-
 
 def _bare(text: str) -> str:
     return "\n".join(line.strip() for line in text.split("\n") if line.strip())

@@ -125,13 +125,21 @@ class Trusted:
     def page_of(self, node: Node) -> Page:
         return self.repository.page(f"Rattle.{node.crate}.specs.{node.place}")
 
-    def page_rows(self, nodes: Iterable[Node], described: Set[Tuple[str, str]]) -> List[str]:
-        """Returns a row for each page of these definitions; only the first row of a page describes it."""
+    def by_page(self, nodes: Iterable[Node]) -> Dict[Tuple[str, str], List[Node]]:
+        """Returns these definitions by the crate and the page that they are in."""
         per: Dict[Tuple[str, str], List[Node]] = {}
         for node in nodes:
             per.setdefault((node.crate, node.place), []).append(node)
+        return per
+
+    def pages_in_short(self, nodes: Iterable[Node]) -> str:
+        """Returns the pages of these definitions, each with its lines."""
+        return ", ".join(f"{crate.replace('lucid_', '', 1)} {place} {self.lines(its)}" for (crate, place), its in self.by_page(nodes).items())
+
+    def page_rows(self, nodes: Iterable[Node], described: Set[Tuple[str, str]]) -> List[str]:
+        """Returns a row for each page of these definitions; only the first row of a page describes it."""
         rows = []
-        for where, its in per.items():
+        for where, its in self.by_page(nodes).items():
             head = self.page_of(its[0]).head
             what = "" if where in described or not head else summary_of(head)
             described.add(where)
@@ -145,7 +153,6 @@ class Trusted:
             number(self.lines(part.root.read)),
             number(self.lines(part.adds)) if part.adds else "",
             *(number(self.lines(of[kind])) if of[kind] else "" for kind in ("type", "trait", "kit")),
-            f"`{self.repository.sum_of(part.root)}`",
         ]
         return f"| {' | '.join(cells)} |"
 
@@ -168,28 +175,28 @@ class Trusted:
 
     def sections(self) -> List[str]:
         described: Set[Tuple[str, str]] = set()
-        large, small = [], ["## What the others add", "", "| Clause or law | Page | What it says | Lines |", "|---|---|---|---|"]
+        large, small = [], ["## What the others add", "", "| Clause or law | Pages, each with its lines | Lines |", "|---|---|---|"]
         for part in self.parts:
-            rows = self.page_rows(part.adds, described)
-            if len(rows) > SMALL:
+            if len({(node.crate, node.place) for node in part.adds}) > SMALL:
+                rows = self.page_rows(part.adds, described)
                 title = f"{part.title} rests on" if not large else f"{part.title} adds"
                 large.append("\n".join([f"## What {title}: {number(self.lines(part.adds))} lines", "", "| Page | What it says | Lines |", "|---|---|---|", *rows]))
-            else:
-                small += [f"| {part.title} {row}" for row in rows]
+            elif part.adds:
+                small.append(f"| {part.title} | {self.pages_in_short(part.adds)} | {number(self.lines(part.adds))} |")
         models = without(self.of("definition", self.nodes), self.read)
         types = ["## Types, traits and JSON", "", "A type has the lines that declare it and those of its model, which says what a clause sees of it.", "", "| Crate | Types, each with its lines | Lines |", "|---|---|---|"]
         for crate in dict.fromkeys(node.crate for node in self.of("type", self.nodes)):
             its = [node for node in self.of("type", self.nodes) if node.crate == crate]
             types.append(f"| {crate.replace('lucid_', '', 1)} | {', '.join(f'`{node.name}` {self.lines([node])}' for node in its)} | {self.lines(its)} |")
-        below = ["| Named by a model or a trait alone: page | What it says | Lines |", "|---|---|---|", *self.page_rows(models, described)]
-        kit = ["| Of the kit: page | What it says | Lines |", "|---|---|---|", *self.page_rows(self.of("kit", self.nodes), described)]
-        return [*large, "\n".join(small), "\n".join(types), "\n".join(below), "\n".join(kit)]
+        below = f"Pages that a model or a trait alone names, each with its lines: {self.pages_in_short(models)}."
+        kit = f"Pages of the kit: {self.pages_in_short(self.of('kit', self.nodes))}."
+        return [*large, "\n".join(small), "\n".join(types), below, kit]
 
     def text(self) -> str:
         """Returns docs/TRUSTED.md."""
         rows = {part.root.title: self.row(part) for part in self.parts}
-        titles = "| Clause or law | Alone | Adds | Types | Traits | JSON | Digest |"
-        under = lambda roots: [titles, "|---|---|---|---|---|---|---|", *(rows[root.title] for root in roots)]  # noqa: E731
+        titles = "| Clause or law | Alone | Adds | Types | Traits | JSON |"
+        under = lambda roots: [titles, "|---|---|---|---|---|---|", *(rows[root.title] for root in roots)]  # noqa: E731
         out = [
             "# What is to be read",
             "",
@@ -198,9 +205,9 @@ class Trusted:
             "",
             "- *Alone*: the definitions that it names, and those that these name. *Adds*: those of them that no row above has.",
             "- *Types*: the types of the sources that these name, with their models. *Traits*: the clauses of the traits that it speaks of. *JSON*: the kit's definitions of JSON texts.",
-            "- *Digest*: 128 bits of all this, of the signature and of the clause itself, with each name replaced by its whole name. [tests/trusted.sums](../tests/trusted.sums) has the digest of each definition.",
             "",
-            f"[tests/pages](../tests/pages) makes this page. It fails on a form of the sources that it does not know, and on a page of definitions of more than {HOUR} lines. "
+            "[tests/trusted.sums](../tests/trusted.sums) has digests of 128 bits: of each clause with its signature, and of each definition, type and trait below, with each name replaced by its whole name. "
+            f"[tests/pages](../tests/pages) makes both. It fails on a form of the sources that it does not know, and on a page of definitions of more than {HOUR} lines. "
             "The gate fails if a digest differs. [README](../README.md#what-is-trusted) has the rest of what is trusted.",
             "",
             "## The clauses of `lucid`",
