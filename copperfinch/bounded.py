@@ -31,6 +31,7 @@ def deeply(work: Callable[[], T], seconds: Optional[float] = None, megabytes: Op
         except BaseException as fault:  # raised again by the caller
             failed.append(fault)
 
+    depth = sys.getrecursionlimit()
     sys.setrecursionlimit(10**6)
     threading.stack_size(STACK)
     thread = threading.Thread(target=on_stack, daemon=True)
@@ -47,6 +48,7 @@ def deeply(work: Callable[[], T], seconds: Optional[float] = None, megabytes: Op
                 raise Exceeded(f"it takes more than {seconds:g} s of a processor")
     finally:
         resource.setrlimit(resource.RLIMIT_AS, (soft, hard))
+        sys.setrecursionlimit(depth)
     if failed:
         raise failed[0]
     return found[0]

@@ -44,6 +44,22 @@ class Trace:
     waiting: List[Entry] = field(default_factory=list)
     receiver: Dict[Tuple[int, int], int] = field(default_factory=dict)
 
+    def sender(self, number: int) -> Optional[int]:
+        """Returns the number of the event that sent an event, or None if that is of the scenario. Events are counted from 0."""
+        way = self.entries[number].way
+        return way.sender if way else None
+
+    def received(self, number: int) -> List[int]:
+        """Returns the numbers of the events that an event sent and that entered."""
+        return [self.receiver[number, out] for out in range(len(self.log.events[number].outs)) if (number, out) in self.receiver]
+
+    def follow(self, number: int) -> List[int]:
+        """Returns the numbers of an event and of all that it caused, in the order of entry."""
+        found = [number]
+        for caused in found:  # which grows
+            found += self.received(caused)
+        return sorted(found)
+
 
 def way_of(limits: Limits, scene: Scene, number: int, event: Event, out: int, sent: Sent) -> Way:
     """The way of an event: it departs `stages` and `recirc` and its delay after its sender entered, and takes the latency of its link."""

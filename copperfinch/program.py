@@ -8,6 +8,7 @@ A file is a path, or the `Limits`, `Scene`, `Placement` or `Source` itself. A re
 import os
 import re
 import resource
+import shutil
 import subprocess
 import tempfile
 from dataclasses import dataclass
@@ -102,12 +103,12 @@ class Running:
 
 
 class Program:
-    """The built program: `command` if it is given, else $LUCID, else the one of the checkout, which its script names."""
+    """The built program: `command` if it is given, else $LUCID, else the one of the checkout, which its script names, or `lucid` on PATH."""
 
     def __init__(self, command: Optional[str] = None) -> None:
         self.command, self.is_proved, self.is_kept = command or os.environ.get("LUCID") or "", True, True
         if not self.command:
-            self.command, self.is_proved, self.is_kept = of_checkout()
+            self.command, self.is_proved, self.is_kept = found()
 
     def start(self, command: str, *files: File, more: Sequence[str] = (), most: int = ANSWER, seconds: Optional[int] = None) -> Running:
         """Begins a call: a command as `run pipe`, its files, and the words after them. It may take so many seconds of a processor."""
@@ -182,17 +183,18 @@ def source_of(file: File) -> Union[str, Source]:
     return file if isinstance(file, Source) else Source(type(file).__name__.lower(), file.text().encode())
 
 
-def of_checkout() -> Tuple[str, bool, bool]:
-    """Returns the program of this checkout, whether it is proved, and whether it is kept. The script compiles one if there is none."""
-    script = TOP / "lucid"
-    if not os.access(script, os.X_OK):
+def found() -> Tuple[str, bool, bool]:
+    """Returns the program of this checkout or of PATH, whether it is proved, and whether it is kept. The script compiles one if there is none."""
+    script, path = TOP / "lucid", shutil.which("lucid")
+    if os.access(script, os.X_OK):
+        named = subprocess.run([script, "--program"], stdin=subprocess.DEVNULL, stdout=subprocess.PIPE)
+        path = os.fsdecode(named.stdout).rstrip("\n")
+        if named.returncode or not os.access(path, os.X_OK):
+            return str(script), True, False  # the script compiles it again for each call, or says why there is none
+    elif path is None:
         raise ProgramError("there is no program: name one by --lucid or in LUCID", 70)
-    named = subprocess.run([script, "--program"], stdin=subprocess.DEVNULL, stdout=subprocess.PIPE)
-    path = os.fsdecode(named.stdout).rstrip("\n")
-    if named.returncode == 0 and os.access(path, os.X_OK):
-        version = subprocess.run([script, "--version"], stdin=subprocess.DEVNULL, stdout=subprocess.PIPE)
-        return path, version.stdout.rstrip().endswith(b"program proved"), True
-    return str(script), True, False  # the script compiles it again for each call, or says why there is none
+    version = subprocess.run([script if path.startswith(str(TOP)) else path, "--version"], stdin=subprocess.DEVNULL, stdout=subprocess.PIPE)
+    return path, b"not proved" not in version.stdout, True
 
 
 def built() -> Optional[str]:
