@@ -1,4 +1,4 @@
-"""The JSON Schemas of tools/schema: the files of the examples and those below fit as the program accepts them.
+"""The JSON Schemas of tools/schema, by jsonschema: the files of the examples and those below fit as the program accepts them.
 
 Sees no other files; a schema says less than the program. Seen to fail: each type, bound, key, pattern and count of the three schemas, left
 out or one greater or less, but for the greatest tick at which a window begins and the most arguments less one; other bounds in files.py.
@@ -7,16 +7,19 @@ from __future__ import annotations
 
 import json
 import re
-from typing import Any, List, Tuple
+from typing import Any, Iterator, List, Tuple
 
 from harness import EXAMPLES, TOP, Group
+from jsonschema import Draft202012Validator, validators
 from samples import HITS
 
 from copperfinch.files import LIMITS
 from copperfinch.layout import read_layout
 
-KEYWORDS = set("$schema title description default type enum const minimum maximum pattern properties required additionalProperties items"
-               " prefixItems minItems maxItems anyOf if then".split())
+# In JSON Schema 1.0 is an integer; in the program's files it is none.
+TYPES = Draft202012Validator.TYPE_CHECKER.redefine("integer", lambda checker, value: type(value) is int)
+CHECKER = validators.extend(Draft202012Validator, type_checker=TYPES)
+KNOWN = [*Draft202012Validator.VALIDATORS, "$schema", "title", "description", "default", "then"]
 SCENE = {"stop": 3, "switches": 3, "events": [{"at": 0, "switch": 0, "name": "hit", "args": [1]}]}
 EVENT = SCENE["events"][0]
 # Keys in place of those of the scenario above, and what is in place of all of it.
@@ -38,6 +41,8 @@ BAD_EVENTS: List[Any] = [{"args": 5}, {"args": [-1]}, {"args": ["1"]}, {"x": 1},
 
 def run(group: Group) -> None:
     schema = {name: json.loads((TOP / f"tools/schema/{name}.schema.json").read_text()) for name in ("limits", "scenario", "placement")}
+    for found in schema.values():
+        Draft202012Validator.check_schema(found)
     for path in sorted(EXAMPLES.glob("*.json")):
         kind = "scenario" if ".scenario." in path.name else "limits"
         group.check(f"schema of {path.name}", fits(schema[kind], json.loads(path.read_text())))
@@ -77,27 +82,16 @@ def scenes() -> List[Tuple[Any, bool]]:
 
 
 def fits(schema: Any, value: Any) -> bool:
-    """Whether a value fits a schema, by the keywords that the schemas of tools/schema use; another keyword is a failure."""
-    assert set(schema) <= KEYWORDS, set(schema) - KEYWORDS
-    is_number = isinstance(value, int) and not isinstance(value, bool)
-    kinds = {"object": isinstance(value, dict), "array": isinstance(value, list), "string": isinstance(value, str), "integer": is_number}
-    same = lambda one: type(one) is type(value) and one == value
-    holds = [kinds[schema["type"]] if "type" in schema else True]
-    holds += ["enum" not in schema or any(map(same, schema["enum"])), "const" not in schema or same(schema["const"])]
-    if is_number:
-        holds.append(schema.get("minimum", value) <= value <= schema.get("maximum", value))
-    if isinstance(value, str) and "pattern" in schema:
-        holds.append(re.search(schema["pattern"], value) is not None)
-    if isinstance(value, list):
-        heads = schema.get("prefixItems", [])
-        holds.append(schema.get("minItems", 0) <= len(value) <= schema.get("maxItems", len(value)))
-        holds += [fits(*it) for it in zip(heads, value)] + [fits(schema.get("items", {}), it) for it in value[len(heads):]]
-    if isinstance(value, dict):
-        own = schema.get("properties", {})
-        holds.append(set(schema.get("required", [])) <= set(value) and (schema.get("additionalProperties", True) or set(value) <= set(own)))
-        holds += [fits(own[key], it) for key, it in value.items() if key in own]
-    if "anyOf" in schema:
-        holds.append(any(fits(it, value) for it in schema["anyOf"]))
-    if "if" in schema and fits(schema["if"], value):
-        holds.append(fits(schema["then"], value))
-    return all(holds)
+    """Whether a value fits a schema; a keyword that JSON Schema does not have is a failure."""
+    for part in parts_of(schema):
+        unknown = set(part) - set(KNOWN)
+        assert not unknown, unknown
+    return CHECKER(schema).is_valid(value)
+
+
+def parts_of(schema: Any) -> Iterator[Any]:
+    """A schema and all schemas within it."""
+    yield schema
+    within = [*schema.get("properties", {}).values(), *schema.get("prefixItems", []), *schema.get("anyOf", [])]
+    for part in within + [schema[key] for key in ("items", "if", "then") if isinstance(schema.get(key), dict)]:
+        yield from parts_of(part)
