@@ -4,15 +4,17 @@ Sees no answers but those of the examples and of the calls below. Seen to fail:
 - round_trip: a delay that is always 0, a text in capitals, no arrays of a table, passes in reverse, no cells of a snapshot, no `ahead`
 - cut_texts: a last line without its line feed, CRLF as the end of a line, tables without sums, lines behind the tables
 - grammar: another word in a rule, a rule for too much (no line feed, a line `busy 0`, two blanks), no rule for `snap`
+- keys: a key or a kind in the table that is not printed, and one that is printed and not there
+- options: an option that is not on tools/README.md, and one there that no tool has
 - read_cells: the first block taken for the last, a log without blocks that is refused
 """
 from __future__ import annotations
 
 import json
 import re
-from typing import Any, Dict, Iterator, List, Tuple
+from typing import Any, Dict, Iterator, List, Set, Tuple
 
-from harness import TOP, Group
+from harness import TOP, Group, call
 from samples import answer_of, example, moves, printed
 
 from copperfinch.log import read_cells, read_log
@@ -111,3 +113,40 @@ def grammar(group: Group) -> None:
                  "with a leading zero": re.sub("([0-9])", r"0\1", text, count=1)}
         for change, other in wrong.items():
             group.check(f"{name} {change} is no {kind}", other == text or re.fullmatch(forms[kind], other) is None, other[:200])
+
+
+def listed_keys() -> Dict[str, Set[str]]:
+    """The keys of each kind of object by the table of docs/OUTPUT.md."""
+    found: Dict[str, Set[str]] = {}
+    for row in re.search(r"^\| `kind` .*?\n(?=\n)", (TOP / "docs/OUTPUT.md").read_text(), re.S | re.M)[0].splitlines()[2:]:
+        kinds, _, keys = row.strip("| ").split(" | ")
+        names = [name for name in re.findall(r"`(\w+)`", kinds) if name != "outs"]
+        parts = keys.split("; ") if len(names) > 1 else [keys]
+        found.update({name: set(re.findall(r"`(\w+)`", part)) - {"generate", "say", "null"} for name, part in zip(names, parts)})
+    return found
+
+
+def test_keys(group: Group) -> None:
+    """Each key that tools/json prints is in the table of docs/OUTPUT.md under its kind, and each key of the table is printed."""
+    printed_keys: Dict[str, Set[str]] = {}
+    found = [*answers(group), ("a log", "run", LOG)]
+    found.append(("no, empty, ahead", "drive", b"enter 0\nbusy\nempty 1\ngo 0\nenter 1\nahead 0\nlook x[0] = 1\nnone\n[0] s0 e()\n[0] s0 e()\nentered 2 left 0\n"))
+    for _, kind, text in found:
+        if kind != "check":
+            out = group.tool("json", {"run": "log", "once": "log"}.get(kind, kind), given=text).out.decode()
+            objects = [json.loads(line) for line in out.splitlines()]
+            for it in objects + [part for it in objects for part in it.get("outs", [])]:
+                printed_keys.setdefault(it["kind"], set()).update(set(it) - {"kind"})
+    group.check("the keys of docs/OUTPUT.md are those that tools/json prints", printed_keys == listed_keys(), (printed_keys, listed_keys()))
+
+
+def test_options(group: Group) -> None:
+    """Each option of a tool is on tools/README.md, and each option there is one of a tool or of the script."""
+    page = set(re.findall(r"--[a-z][a-z-]*", (TOP / "tools/README.md").read_text()))
+    known = set(re.findall(r"--[a-z][a-z-]*", call([TOP / "lucid", "--help"]).out.decode()))
+    for path in sorted(TOP.glob("tools/*")):
+        if path.is_file() and path.read_bytes().startswith((b"#!/usr/bin/env python3", b"#!/usr/bin/env -S python3")):
+            options = set(re.findall(r"--[a-z][a-z-]*", group.tool(path.name, "--help").out.decode())) - {"--help"}
+            known |= options
+            group.check(f"tools/README.md has the options of {path.name}", options <= page, sorted(options - page))
+    group.check("tools/README.md has no other options", page <= known | {"--help"}, sorted(page - known))
