@@ -6,7 +6,7 @@ answers with those of the built program, byte for byte. copperfinch.explain has 
 
 `judge(words, read_file)` returns the exit code and the bytes of both streams, and the refusal itself. The head of a module names the
 page that it follows, and the comment of a function the section. The modules in reading order: lexer, expand, tree, parser,
-values, core, types, statements, declarations, order, nodes, normal, inline, passes, json_files, layout, audit, interpret, drive,
+values, core, types, statements, declarations, order, nodes, normal, inline, passes, more_passes, json_files, layout, audit, interpret, drive,
 network, gen, answers.
 """
 from .answers import Answer, agrees, judge

@@ -1,0 +1,48 @@
+"""Further passes, which bring code to fewer stages: `casts` and `lift` (crates/lucid_pass_more_spec/specs)."""
+from collections import defaultdict
+from dataclasses import replace
+from typing import Callable, DefaultDict, List, Set, Tuple
+
+from .nodes import Code, Literal, Op
+from .passes import PASSES, dead
+
+PURE = ('un', 'bin', 'cast', 'hash', 'move')
+
+
+def casts(code: Code) -> List[Op]:
+    """A cast becomes a move, which writes the same bits; so the other passes see through it."""
+    return [replace(op, kind='move') if op.kind == 'cast' else op for op in code.ops]
+
+
+def contradicts_itself(guard: Tuple[Literal, ...]) -> bool:
+    """Whether two literals of a guard never hold together."""
+    values = {x.field: x.value for x in guard if x.equal}
+    return any((values[x.field] == x.value) != x.equal for x in guard if x.field in values)
+
+
+def used_by(op: Op) -> Set[int]:
+    """Returns the fields that an operation reads, and the one that it writes."""
+    return set(op.reads()) | ({op.to} if op.to is not None else set())
+
+
+def lift(code: Code) -> List[Op]:
+    """What only writes a field no longer waits for the literals that all operations on this field require; that of the event stays."""
+    users: DefaultDict[int, List[Set[Literal]]] = defaultdict(list)
+    for op in code.ops:
+        required = set() if contradicts_itself(op.guard) else set(op.guard)
+        for field in used_by(op):
+            users[field].append(required)
+
+    def lifted(op: Op) -> Op:
+        if op.kind not in PURE or op.to is None:
+            return op
+        shared = set.intersection(*users[op.to])
+        return replace(op, guard=tuple(x for x in op.guard if x.field == 0 or x not in shared))
+
+    return [lifted(op) for op in code.ops]
+
+
+# The four passes with the further ones between and behind them.
+FOUR = dict(PASSES)
+MORE: List[Tuple[str, Callable[[Code], List[Op]]]] = [
+    ('fold', FOUR['fold']), ('casts', casts), ('copies', FOUR['copies']), ('dead', dead), ('direct', FOUR['direct']), ('dead', dead), ('lift', lift)]
