@@ -10,7 +10,7 @@ from .definitions import Page
 from .theorems import clauses_of_lucid, clauses_of_main, laws_of_theorems
 
 STEP = Node("definition", "lucid_core", "Step", "step")  # the meaning of an event
-SMALL = 10  # a clause that adds more pages has a table of its own
+DESCRIBED = 2  # the first clauses, of safety and of the headline, have tables that say what each page is about
 HOUR = 250  # a page of definitions has at most so many lines, so that a reader reads it in an hour
 SUMS = "tests/trusted.sums"
 
@@ -176,8 +176,8 @@ class Trusted:
     def sections(self) -> List[str]:
         described: Set[Tuple[str, str]] = set()
         large, small = [], ["## What the others add", "", "| Clause or law | Pages, each with its lines | Lines |", "|---|---|---|"]
-        for part in self.parts:
-            if len({(node.crate, node.place) for node in part.adds}) > SMALL:
+        for at, part in enumerate(self.parts):
+            if at < DESCRIBED:
                 rows = self.page_rows(part.adds, described)
                 title = f"{part.title} rests on" if not large else f"{part.title} adds"
                 large.append("\n".join([f"## What {title}: {number(self.lines(part.adds))} lines", "", "| Page | What it says | Lines |", "|---|---|---|", *rows]))
