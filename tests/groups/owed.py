@@ -89,7 +89,7 @@ CHECKS: Dict[str, Callable[[Item], bool]] = {
     "type": lambda it: re.search(rf"^pub (?:struct|enum|trait) {it.name}\b", it.text(), re.M) is not None and exported(it, it.name),
     "definition": lambda it: re.search(rf"^(?:abbrev |unfoldable )*pub (?:record |data )?{it.name}\b", it.text(), re.M) is not None,
     "test": lambda it: re.search(rf"#\[test\]\s+fn {it.name}\b", it.text()) is not None,
-    "proved": lambda it: re.search(rf"^(?:pub )?fn {it.name}\b", it.text(), re.M) is not None and "ensures" in it.text(),
+    "proved": lambda it: re.search(rf"^(?:pub(?:\(crate\))? )?fn {it.name}\b", it.text(), re.M) is not None and "ensures" in it.text(),
     "check": lambda it: re.search(rf"^(?:def|class) {it.name}\b", it.text(), re.M) is not None,
     "bound": lambda it: f'"{it.name}"' in it.text(),
     "lie": lambda it: f'"{it.name}"' in it.text(),
