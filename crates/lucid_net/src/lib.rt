@@ -9,8 +9,8 @@
 // The files of specs/ to read are `Seen` (the model of a network), `Holds` (the pipeline of a switch), `Rows` (its stages, each with its
 // cells and its packet), `Sights` (what a watch is shown), `Writes` (the written text) and `Wanting` (when memory may run out). The others
 // describe functions within the crate.
-// Used by lucid_top_pipes and lucid_top. The promises of Copperfinch rest on the definitions of this crate (docs/TRUSTED.md). Bodies and
-// proofs may change; a public clause may only get stronger.
+// Used by lucid_top_pipes, lucid_top and lucid_top_laws. The promises of Copperfinch rest on the definitions of this crate
+// (docs/TRUSTED.md). Bodies and proofs may change; a public clause may only get stronger.
 #![tactic(auto)]
 
 mod ending;

@@ -5,7 +5,8 @@
 // For placed code that represents a program, a traversal of all stages does one step of the program (specs/Does.antt, Rows.antt,
 // PipeStages.antt).
 // It has no code but the functions that state the laws.
-// Used by lucid_net. Promises of the program rest on its definitions (docs/TRUSTED.md). Proofs may change; a law may only get stronger.
+// Used by lucid_net and lucid_top_laws. Promises of the program rest on its definitions (docs/TRUSTED.md). Proofs may change; a law may
+// only get stronger.
 #![tactic(auto)]
 
 mod laws;
