@@ -1,12 +1,14 @@
-"""Copperfinch for Python: reads what `lucid` reads and prints, explains refusals, and draws runs. Standard library only.
+"""Copperfinch for Python: reads what `lucid` reads and prints, calls it, explains its refusals, and draws runs. Standard library only.
 
-| Module | What it has |
-|---|---|
-| `log`, `layout`, `drive` | readers of the answers of `lucid` |
-| `files` | limits files and scenarios |
-| `network` | the queues of a network: where each event of a log came from, and when it was ready |
-| `draw`, `page` | pictures and pages of runs |
-| `model` | a second implementation of `lucid`, which is not verified |
-| `explain` | explanations of refusals, on that implementation |
-| `commands` | the commands of tools/ |
+docs/PYTHON.md has examples. The modules:
+
+    program                  calls of the built program
+    log, layout, drive       readers of its answers; `lines` has what they share
+    files, scenarios         limits, scenarios and placements; scenarios that are drawn
+    network                  the queues of a network: where each event of a log came from, and when it was ready
+    explain                  explanations of refusals, on the second implementation
+    model                    that implementation of all commands; it is not verified
+    draw, page               pictures and pages of runs
+    command, commands        the command `lucid-tools` and the scripts of tools/
+    errors, streams, bounded faults, files and streams, and work with a bound
 """

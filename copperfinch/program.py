@@ -200,8 +200,8 @@ def found() -> Tuple[str, bool, bool]:
 def built() -> Optional[str]:
     """Returns a program that is there already, if one is."""
     given = os.environ.get("LUCID")
-    built_ones = [given] if given else [str(TOP / f"crates/lucid_main/out/{name}") for name in ("lucid_main", "lucid_unproved")]
-    return next((path for path in built_ones if os.access(path, os.X_OK)), None)
+    names = ("lucid_main", "crates/lucid_main/out/lucid_main", "crates/lucid_main/out/lucid_unproved")  # installed, proved, unproved
+    return next((path for path in ([given] if given else [str(TOP / name) for name in names]) if os.access(path, os.X_OK)), None)
 
 
 def place_of(program: File, line: str) -> Optional[Place]:
