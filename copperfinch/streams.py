@@ -55,8 +55,10 @@ def write(text: str) -> None:
     """Writes to standard output. Raises Error if it is closed or full; nothing more is then written to it."""
     if sys.stdout is None:
         raise Error("the output can not be written: it is closed")
+    data = memoryview(text.encode("utf-8", "replace"))
     try:
-        sys.stdout.buffer.write(text.encode("utf-8", "replace"))
+        while data:  # without a buffer, as with PYTHONUNBUFFERED, a write may take a part
+            data = data[sys.stdout.buffer.write(data) or 0:]
         sys.stdout.buffer.flush()
     except (OSError, ValueError) as fault:
         os.dup2(os.open(os.devnull, os.O_WRONLY), 1)
