@@ -40,7 +40,15 @@ _lucid() {
 
 _lucid_tool() {
     local at=$COMP_CWORD tool=${COMP_WORDS[0]##*/}
-    tool=${tool#lucid-}
+    # `lucid-tools json` completes as tools/json does
+    if [ "$tool" = lucid-tools ]; then
+        if [ "$at" -eq 1 ]; then
+            COMPREPLY=()
+            _lucid_words explain where page picture json scenario
+            return
+        fi
+        tool=${COMP_WORDS[1]} at=$((at - 1))
+    fi
     COMPREPLY=()
     case $tool-$at in
         json-1) _lucid_words log layout audit drive snap ;;
@@ -71,4 +79,4 @@ _lucid_tool() {
 }
 
 complete -F _lucid lucid ./lucid
-complete -F _lucid_tool tools/where tools/explain tools/json tools/picture tools/page tools/scenario
+complete -F _lucid_tool lucid-tools tools/where tools/explain tools/json tools/picture tools/page tools/scenario

@@ -1,6 +1,6 @@
-"""Installations by tools/install, in folders of the group: a part of the group `script`.
+"""Installations by tools/install, in folders of the group, and a Debian package in another root.
 
-Seen to fail: an unproved program that is installed unasked, a file that stays after the removal or that the removal takes from others, a
+Sees no other systems than this one. Seen to fail: an unproved program that is installed unasked, a file that stays after the removal or that the removal takes from others, a
 program that was changed afterwards and is called proved, a man page with a warning, a package that lintian refuses.
 """
 from __future__ import annotations
@@ -13,8 +13,7 @@ from typing import Dict, List
 from harness import FIRST_LOG, Ended, Group, Word, call
 from standin import Checkout
 
-COPIED = ("tools/install", "tools/completion.bash", "tools/schema", "tools/editor", "README.md", "LICENSE", "docs", "examples")
-TOOLS = tuple(f"tools/{name}" for name in ("explain", "json", "page", "picture", "scenario", "where", "lucid_tools", "lucid_model", "lucid_explain"))
+COPIED = ("tools/install", "tools/completion.bash", "tools/schema", "tools/editor", "README.md", "LICENSE", "docs", "examples", "copperfinch")
 UNPROVED = b"lucid: unproved: this answer comes from a build whose proofs were not checked\n"
 
 
@@ -29,7 +28,7 @@ def tree(folder: Path) -> Dict[str, bytes]:
 
 def run(group: Group) -> None:
     it = Checkout(group.room / "install")
-    it.copy(*COPIED, *TOOLS)
+    it.copy(*COPIED)
     prefix = it.room / "a prefix"
     for name in ("bin/other", "share/man/man1/other.1"):
         (prefix / name).parent.mkdir(parents=True)
@@ -87,10 +86,12 @@ def installed(group: Group, room: Path, prefix: Path, sums: str) -> None:
         group.expect("--help on a full device", call([lucid, "--help"], stdout=full), 10, b"", b"write fault\n")
     log = room / "log"
     log.write_bytes(FIRST_LOG)
-    ended = without_kit(room, prefix / "bin/lucid-json", "log", log)
-    group.check("lucid-json", ended.status == 0 and ended.out.startswith(b'{"kind":"event","at":0,'), ended)
-    ended = without_kit(room, prefix / "bin/lucid-explain", examples / "crossed.luc")
-    group.check("lucid-explain", ended.status == 6 and ended.out.startswith(b"order: declaration 4 line 5 cycle x y\n"), ended)
+    ended = without_kit(room, prefix / "bin/lucid-tools", "json", "log", log)
+    group.check("lucid-tools json", ended.status == 0 and ended.out.startswith(b'{"kind":"event","at":0,'), ended)
+    ended = without_kit(room, prefix / "bin/lucid-tools", "explain", examples / "crossed.luc")
+    group.check("lucid-tools explain", ended.status == 6 and ended.out.startswith(b"order: declaration 4 line 5 cycle x y\n"), ended)
+    page = without_kit(room, prefix / "bin/lucid-tools", "page", *(examples / f"heavy.{it}" for it in ("luc", "limits.json", "scenario.json")))
+    group.check("lucid-tools page", page.status == 0 and b"</html>" in page.out and b"not proved" not in page.out, page)
     modes = [oct(path.stat().st_mode & 0o777) for path in (prefix / "lib/copperfinch/lucid_main", first)]
     group.check("the modes of files", modes == ["0o755", "0o644"], modes)
 

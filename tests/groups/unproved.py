@@ -6,18 +6,22 @@ and 21 words. Compiles once, so it takes a minute or two. Sees no programs of ot
 """
 from __future__ import annotations
 
+import re
 import resource
 import shutil
 import signal
 from typing import List
 
 from harness import FIRST, FIRST_LOG, TOP, Ended, Group, call, with_variables
+from rowfile import ROWS
 
 from . import rows
 from .script import SAYS
 
 # The seconds of a processor that the quickest of some calls may take, by the script.
 LATER = 0.02
+# The processor seconds of the first call, as many times those of the kit's front end alone.
+WHOLE = 2.5
 SOURCE = "crates/lucid_main/src/words.rt"
 END = "    Ok(words)\n"
 BROKEN = """    if words.len() == 20 && words[words.len()].len() == 0 {
@@ -51,9 +55,11 @@ def run(group: Group) -> None:
     before = spent()
     ended = lucid("--program")
     program = top / "crates/lucid_main/out/lucid_unproved"
-    group.note(f"unproved: the first call took {spent() - before:.0f} s of processors")
     if not group.check("the program is compiled and kept", (ended.status, ended.out) == (0, f"{program}\n".encode()), ended):
         return
+    group.note(f"unproved: the first call took {spent() - before:.0f} s of processors")
+    steps = [float(it) for it in re.findall(r"([0-9.]+) s of processors", (top / "out/compile.log").read_text())]
+    group.check(f"it takes at most {WHOLE} times the processor seconds of its front end", sum(steps) <= WHOLE * steps[0], steps)
     group.expect("an answer without proofs", lucid("once", "a file", "pkt", "5"), 0, FIRST_LOG, SAYS)
     group.expect("a refusal without proofs", lucid("check", "no file"), 2, b"", SAYS + b"read fault: no file\n")
     group.check("it is not proved", lucid("--version").out.endswith(b"\nprogram not proved\n"))
@@ -68,5 +74,5 @@ def run(group: Group) -> None:
         group.expect(f"{name} stops it", ended, -signal.SIGILL, b"", SAYS)
     below = group.under(program=program)
     below.stops = False
-    rows.run(below)
-    group.check("its answers in all rows", not below.failed and below.passed > 500, f"{below.failed} of {below.passed + below.failed} differ")
+    group.side_by_side(lambda row: rows.check_row(below, row), rows.read_all(group, sorted(ROWS.glob("*.rows"))))
+    group.check("its answers in all rows", not below.failed and below.passed > 500, below.failures[:5])

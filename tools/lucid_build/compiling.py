@@ -54,7 +54,7 @@ def finish(child: "subprocess.Popen[bytes]", tool: str) -> bytes:
 
 def read_module(kit: Kit, path: Path) -> str:
     """Returns the text of a module."""
-    words = [kit.clang, *TARGET, "-S", "-emit-llvm", "-Xclang", "-disable-llvm-passes", "-x", "ir", path, "-o", "-"]
+    words: List[Word] = [kit.clang, *TARGET, "-S", "-emit-llvm", "-Xclang", "-disable-llvm-passes", "-x", "ir", path, "-o", "-"]
     return finish(running.start(words, stdout=subprocess.PIPE, stderr=subprocess.DEVNULL), "clang").decode()
 
 
@@ -77,7 +77,7 @@ def compile_parts(kit: Kit, room: Path, texts: Sequence[str]) -> List[Path]:
 
 def link(kit: Kit, room: Path, objects: Sequence[Path]) -> Path:
     made = room / NAME
-    words = [kit.folder / "bin/rattle-link", "--target", "x86_64-unknown-linux-gnu", "--toolchain", kit.folder / "toolchain"]
+    words: List[Word] = [kit.folder / "bin/rattle-link", "--target", "x86_64-unknown-linux-gnu", "--toolchain", kit.folder / "toolchain"]
     finish(running.start([*words, "-o", made, *objects, *kit.archives()], stdout=subprocess.PIPE, stderr=subprocess.STDOUT), "rattle-link")
     ran = subprocess.run([made], stdin=subprocess.DEVNULL, stdout=subprocess.PIPE, stderr=subprocess.PIPE)
     if (ran.returncode, ran.stdout, ran.stderr) != (1, b"", b"usage\n"):
@@ -87,18 +87,18 @@ def link(kit: Kit, room: Path, objects: Sequence[Path]) -> Path:
 
 def build(kit: Kit, top: Path, room: Path, progress: Progress) -> Path:
     """Returns the compiled program, in the folder `room`."""
-    progress.step = "reading the sources"
+    progress.begin("reading the sources")
     path = make_module(kit, top, room)
-    progress.step = "splitting the module"
+    progress.begin("splitting the module")
     try:
         hints = module.read_hints([top / "crates", kit.folder / "rattle"])
         texts = module.split(read_module(kit, path), hints, {it.name for it in (top / "crates").iterdir()})
     except module.UnknownModule as error:
         raise Failed(f"its module is of an unknown form: {error}") from error
     path.unlink()
-    progress.step = "compiling the module"
+    progress.begin("compiling the module")
     objects = compile_parts(kit, room, texts)
-    progress.step = "linking"
+    progress.begin("linking")
     return link(kit, room, objects)
 
 
@@ -132,6 +132,7 @@ def compile_in(top: Path, keep: Path, work: Path) -> None:
                 if kept.take_compiled_sums() != sums:
                     raise Stopped("the sources changed while the program was compiled: call again")
                 kept.keep(made, program, sums)
+                kept.write_whole(work / "compile.log", progress.log)
             except (Failed, OSError, subprocess.SubprocessError) as error:
                 is_full = isinstance(error, OSError) and error.errno in FULL
                 if is_full or min(free_bytes(room), free_bytes(keep)) < ROOM // 100:

@@ -5,6 +5,7 @@ import contextlib
 import gzip
 import hashlib
 import os
+import re
 import shutil
 import subprocess
 import tempfile
@@ -16,15 +17,13 @@ from typing import Dict, Iterable, Iterator, List, Optional, Set, Union
 from . import manual, running
 from .kept import TOP
 
-# The tools become commands: `tools/json` is `lucid-json`.
-TOOLS = ("explain", "json", "page", "picture", "scenario", "where")
-PACKAGES = ("tools/lucid_tools", "tools/lucid_model", "tools/lucid_explain")
 HOME = "lib/copperfinch"
 SHARE = "share/copperfinch"
 DOCUMENTS = "share/doc/copperfinch"
 VIM = "share/vim/vimfiles"
 COMPLETIONS = "share/bash-completion/completions"
 MAN = "share/man/man1/lucid.1"
+MAN_OF_TOOLS = "share/man/man1/lucid-tools.1"
 # The files that an installation has made, a line each; a folder ends with a slash.
 LIST = f"{HOME}/installed"
 
@@ -96,7 +95,8 @@ def read_program(allow_unproved: bool) -> Files:
 def read_help() -> str:
     """Returns the help of the installed program: that of the script, without what needs a checkout."""
     lines = call(TOP / "lucid", "--help").splitlines(True)
-    return "".join(line for line in lines if not line.startswith("  --prove ")).replace("./lucid ", "lucid ")
+    text = "".join(line for line in lines if not line.startswith("  --prove "))
+    return re.sub(r" \(a first call .*\)", "", text).replace("./lucid ", "lucid ").replace("JSON are in tools/.", "JSON: lucid-tools --help.")
 
 
 def collect(allow_unproved: bool, prefix: str) -> Files:
@@ -106,12 +106,10 @@ def collect(allow_unproved: bool, prefix: str) -> Files:
     files[f"{HOME}/help"] = Text(help_text.encode())
     files[f"{HOME}/lucid"] = Text((TOP / "tools/lucid_build/installed.sh").read_bytes(), True)
     files["bin/lucid"] = Link(f"../{HOME}/lucid")
-    for name in TOOLS:
-        files[f"{HOME}/tools/{name}"] = Text((TOP / "tools" / name).read_bytes(), True)
-        files[f"bin/lucid-{name}"] = Link(f"../{HOME}/tools/{name}")
-        files[f"{COMPLETIONS}/lucid-{name}"] = Link("lucid")
-    for package in PACKAGES:
-        files.update(read_folder(TOP / package, f"{HOME}/{package}"))
+    files[f"{HOME}/lucid-tools"] = Text((TOP / "tools/lucid_build/installed_tools.py").read_bytes(), True)
+    files["bin/lucid-tools"] = Link(f"../{HOME}/lucid-tools")
+    files.update(read_folder(TOP / "copperfinch", f"{HOME}/copperfinch"))
+    files[f"{COMPLETIONS}/lucid-tools"] = Link("lucid")
     files[f"{COMPLETIONS}/lucid"] = Text((TOP / "tools/completion.bash").read_bytes())
     files.update(read_folder(TOP / "tools/schema", f"{SHARE}/schema"))
     files[f"{SHARE}/editor/lucid.tmLanguage.json"] = Text((TOP / "tools/editor/lucid.tmLanguage.json").read_bytes())
@@ -119,6 +117,7 @@ def collect(allow_unproved: bool, prefix: str) -> Files:
     files[f"{VIM}/ftdetect/lucid.vim"] = Text(b"au BufRead,BufNewFile *.luc set filetype=lucid\n")
     date = time.strftime("%Y-%m-%d", time.gmtime((TOP / "VERSION").stat().st_mtime))
     files[MAN] = Text(manual.page(help_text, version, date, f"{prefix}/{DOCUMENTS}").encode())
+    files[MAN_OF_TOOLS] = Link("lucid.1")
     files[f"{DOCUMENTS}/README.md"] = Text((TOP / "README.md").read_bytes())
     for folder in ("docs", "examples"):
         files.update(read_folder(TOP / folder, f"{DOCUMENTS}/{folder}"))
@@ -255,6 +254,8 @@ def debian_files(files: Files, maintainer: str) -> Files:
     version, text = (TOP / "VERSION").read_text().strip(), files.pop(MAN)
     assert isinstance(text, Text)
     files[f"{MAN}.gz"] = zipped(text.data.decode())
+    files.pop(MAN_OF_TOOLS)
+    files[f"{MAN_OF_TOOLS}.gz"] = Link("lucid.1.gz")
     licence = (TOP / "LICENSE").read_text().partition("\n\n")[2].partition("\n\n")[2]
     indented = "".join(f" {line.strip() or '.'}\n" for line in licence.strip().splitlines())
     files[f"{DOCUMENTS}/copyright"] = Text((COPYRIGHT + indented).encode())

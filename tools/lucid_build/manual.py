@@ -7,13 +7,20 @@ from typing import List
 SECTIONS = {"  check": "FORMS", "  P  ": "WORDS", "  --": "OPTIONS"}
 HEAD = """.TH LUCID 1 "{date}" "Copperfinch {version}" "User Commands"
 .SH NAME
-lucid \\- compile and simulate Lucid programs for switches
+lucid, lucid\\-tools \\- compile and simulate Lucid programs for switches
 .SH SYNOPSIS
 .B lucid
 .I WORDS
+.br
+.B lucid\\-tools
+.I COMMAND WORDS
 .SH DESCRIPTION
 Checks a program in Lucid, places it in the stages of a target, and simulates networks of switches that run it. The words have one of the
 forms below.
+.B lucid\\-tools
+explains refusals, draws runs, and writes JSON; its option
+.B \\-\\-help
+lists its commands.
 """
 TAIL = """.SH FILES
 The pages that the text above names are in

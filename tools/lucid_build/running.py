@@ -78,11 +78,12 @@ def end_all() -> None:
 
 
 class Progress:
-    """Prints what is being done, and for how many seconds, each few seconds; on a terminal also at once."""
+    """Prints what is being done, and for how many seconds, each few seconds; on a terminal also at once. `log` has the times of the steps."""
 
     def __init__(self, task: str) -> None:
-        self.task, self.step = task, ""
-        self.began = time.monotonic()
+        self.task, self.step, self.log = task, "", ""
+        self.began = self.last = time.monotonic()
+        self.spent = sum(os.times()[:4])
         self.done = threading.Event()
         self.thread = threading.Thread(target=self._tell, daemon=True)
 
@@ -93,8 +94,16 @@ class Progress:
         return self
 
     def __exit__(self, *_: object) -> None:
+        self.begin("")
         self.done.set()
         self.thread.join()
+
+    def begin(self, step: str) -> None:
+        """Begins a step, and notes the time of the one before: by the clock, and of processors."""
+        now, spent = time.monotonic(), sum(os.times()[:4])
+        if self.step:
+            self.log += f"{self.step}: {now - self.last:.1f} s, {spent - self.spent:.1f} s of processors\n"
+        self.step, self.last, self.spent = step, now, spent
 
     def _tell(self) -> None:
         while not self.done.wait(PERIOD):
