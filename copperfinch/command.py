@@ -15,6 +15,7 @@ from .streams import complain, write
 COMMANDS = {
     "explain": "explains a refusal, or shows nodes, tables and first fit",
     "where": "shows the place of a refusal",
+    "stages": "shows how many stages a program needs, and why",
     "page": "writes a run as one HTML file",
     "picture": "draws a log, a layout or a drive",
     "json": "turns an answer into JSON",

@@ -59,7 +59,8 @@ _lucid_tool() {
                 *) _lucid_files json log ;;
             esac
             ;;
-        where-1 | page-1 | explain-1) _lucid_files luc ;;
+        where-1 | page-1 | explain-1 | stages-1) _lucid_files luc ;;
+        stages-2) _lucid_files json ;;
         scenario-1) _lucid_words aging countmin dns firewall flowcache gateways nat reroute rip sro ;;
         explain-*)
             case ${COMP_WORDS[COMP_CWORD]} in
@@ -79,4 +80,4 @@ _lucid_tool() {
 }
 
 complete -F _lucid lucid ./lucid
-complete -F _lucid_tool lucid-tools tools/where tools/explain tools/json tools/picture tools/page tools/scenario
+complete -F _lucid_tool lucid-tools tools/where tools/stages tools/explain tools/json tools/picture tools/page tools/scenario
