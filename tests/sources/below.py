@@ -16,9 +16,11 @@ from .notes import Notes
 from .rattle import File, Item, closed, contract, inner_items, read_file, take_ghost_use
 from .terms import Scope, operators, replace_names
 
-ALL = ("definition", "type", "constant", "trait", "kit")
+ALL = ("definition", "type", "constant", "trait", "impl", "kit")
 # Libraries of the kit whose definitions are counted: those that say what a JSON text is.
 JSON = ("serde_json", "json", "fast_float")
+# The trait and the type of an impl.
+IMPL = re.compile(r"(?:#\[[^\]]*\]\s*)*(?:unsafe )?impl(?:<[^{]*?>)? (\w+)(?:<[^{]*?>)? for (\w+)")
 # The members of a model that say what a clause sees of a type.
 MODEL = ("Value", "view", "invariant")
 
@@ -26,7 +28,7 @@ MODEL = ("Value", "view", "invariant")
 class Node(NamedTuple):
     """Something that a clause rests on."""
 
-    kind: str  # definition, type, constant, trait, kit
+    kind: str  # definition, type, constant, trait, impl, kit
     crate: str
     place: str  # a page of specs/, or a module of src/
     name: str
@@ -228,8 +230,11 @@ class Repository:
 
     # ---- texts
 
-    def with_whole_names(self, text: str, scope: Scope, by: str, page: Optional[Page] = None, extra: Dict[str, List[Node]] = {}) -> Tuple[str, List[Node]]:
-        """Returns a term with whole names, and the nodes that it names. `extra` has names that come from elsewhere than an import."""
+    def with_whole_names(self, text: str, scope: Scope, by: str, page: Optional[Page] = None, extra: Dict[str, List[Node]] = {}, file: Optional[File] = None) -> Tuple[str, List[Node]]:
+        """Returns a term with whole names, and the nodes that it names. `extra` has names that come from elsewhere than an import.
+
+        A term of a file of src/ may also name the ghost members of an `impl`.
+        """
         found: Dict[Node, None] = {}
         own = page.blocks if page else {}
         made = page.made_by if page else {}
@@ -275,7 +280,17 @@ class Repository:
             if page is None or page.module.split(".")[1] in self.crates:
                 self.notes.add(f"{by}: {why}: {what.strip()[:80]}")
 
-        replaced = replace_names(text, meaning, refuse)
+        def quoted(type_text: str, trait: str) -> str:
+            if file is None:
+                refuse("a form that is not known", f"⟦<{type_text} as {trait}>⟧")
+                return ""
+            whole, types = self._rust_names(type_text, file, by)
+            named = self.used(file, trait.strip(), by)
+            for node in [*types, *([named] if named else []), *self._impls(types, named)]:
+                note(node)
+            return f"{whole} as {named or trait}"
+
+        replaced = replace_names(text, meaning, quoted, refuse)
         if re.search(r"(?:^|[\s(])do\s", text):
             bind = "◌>>=◌"
             whole = of_own(bind) if bind in own else of_import(bind) if bind in scope.names else None
@@ -300,7 +315,7 @@ class Repository:
         """Returns the text of a node with whole names, its lines, and the nodes that it names."""
         if node not in self._content:
             self._content[node] = Content()  # for types that name each other
-            reads = {"definition": self._definition, "kit": self._definition, "type": self._type, "constant": self._constant, "trait": self._trait}
+            reads = {"definition": self._definition, "kit": self._definition, "type": self._type, "constant": self._constant, "trait": self._trait, "impl": self._impl}
             self._content[node] = reads[node.kind](node)
         return self._content[node]
 
@@ -319,7 +334,11 @@ class Repository:
     def _type(self, node: Node) -> Content:
         file, item = self._item(node, ("struct", "enum", "type"))
         by = f"{file.path.relative_to(self.top)}: {node.name}"
-        text, found = self._rust_names(item.text, file, by, set(re.findall(r"<([^{(;]*)>", item.text.split("{")[0])))
+        declared, ghosts = _without_ghosts(item.text)
+        text, found = self._rust_names(declared, file, by)
+        for name, term in ghosts:
+            whole, below = self.with_whole_names(_bare(term), file.scope, by, extra=self._rust_scope(file, by), file=file)
+            text, found = f"{text}\nghost {name}: {whole}", found + below
         lines = _count(re.sub(r"^#\[[^\n]*\]$", "", item.text, flags=re.M))
         models = [(f, it) for f in self.files(node.crate) for it in f.items if it.kind == "impl" and re.search(rf"\bModel for {node.name}\b", it.text.split("{")[0])]
         for model_file, model in models:
@@ -337,7 +356,7 @@ class Repository:
                 if member.name not in MODEL:
                     text += "\n" + member.text
                     continue
-                whole, below = self.with_whole_names(_value(member.text), scope, by, extra=self._rust_scope(model_file, by))
+                whole, below = self.with_whole_names(_value(member.text), scope, by, extra=self._rust_scope(model_file, by), file=model_file)
                 text += f"\n{member.name} = {whole}"
                 found += below
         return Content(text, lines, tuple(dict.fromkeys(it for it in found if it != node)))
@@ -348,7 +367,7 @@ class Repository:
         nodes = {name: self.used(file, name, by) for name in names if name}
         return {name: [node] for name, node in nodes.items() if node and node.kind != "trait"}
 
-    def _rust_names(self, text: str, file: File, by: str, parameters: Iterable[str] = ()) -> Tuple[str, List[Node]]:
+    def _rust_names(self, text: str, file: File, by: str) -> Tuple[str, List[Node]]:
         """Returns the text of a declaration with whole names, and the nodes that it names."""
         found: Dict[Node, None] = {}
 
@@ -387,7 +406,7 @@ class Repository:
                 continue
             lines += _count(member.text)
             if member.kind == "ghost":
-                whole, below = self.with_whole_names(_value(member.text), scope, by, extra=extra)
+                whole, below = self.with_whole_names(_value(member.text), scope, by, extra=extra, file=file)
                 text += f"\nghost {member.name}: {whole}"
                 found += below
             elif member.kind == "fn":
@@ -395,7 +414,7 @@ class Repository:
                 whole, below = self._rust_names(signature, file, by)
                 text, found = f"{text}\n{whole}", found + below
                 for clause in clauses:
-                    whole, below = self.with_whole_names(_bare(clause.text), scope, by, extra=extra)
+                    whole, below = self.with_whole_names(_bare(clause.text), scope, by, extra=extra, file=file)
                     text += f"\n{clause.kind} {clause.name} {whole}"
                     found += below
             elif member.kind == "type":
@@ -404,6 +423,53 @@ class Repository:
             else:
                 self.notes.refuse(file.path, member.number, "a member of a trait that is not known", member.text)
         return Content(text, lines, tuple(dict.fromkeys(it for it in found if it != node)))
+
+    def _impls(self, types: Iterable[Node], trait: Optional[Node]) -> List[Node]:
+        """Returns the impls of traits of this repository for these types, in the crates of the types and of this trait."""
+        found = []
+        for node in types:
+            for crate in dict.fromkeys([node.crate, *([trait.crate] if trait else [])]):
+                for file in self.files(crate):
+                    for item in file.items:
+                        head = IMPL.match(item.text) if item.kind == "impl" else None
+                        if head and self.used(file, head.group(2), "an impl") == node:
+                            of = self.used(file, head.group(1), "an impl")
+                            if of and of.kind == "trait":
+                                found.append(Node("impl", crate, file.module, " for ".join(head.groups())))
+        return found
+
+    def _impl(self, node: Node) -> Content:
+        """Reads the ghost members of an impl: what a clause sees of the type by the trait."""
+        trait, _, name = node.name.partition(" for ")
+        impls = [(file, item, IMPL.match(item.text)) for file in self.files(node.crate) if file.module == node.place for item in file.items if item.kind == "impl"]
+        file, item = next((file, item) for file, item, head in impls if head and head.groups() == (trait, name))
+        by = f"{file.path.relative_to(self.top)}: {node.name}"
+        head = item.text.split("{")[0]
+        text, found = self._rust_names(head, file, by)
+        lines, scope = 1, file.scope
+        extra = self._rust_scope(file, by)
+        self._take_bounds(head, file, by, [it for it in found if it.kind == "trait"], extra)
+        for member in inner_items(item):
+            if member.kind == "ghost use":
+                inner = Scope()
+                take_ghost_use(member, inner, file.path, self.notes)
+                scope = scope.with_more(inner)
+        for member in inner_items(item):
+            if member.kind == "ghost" and "=" in member.text:
+                whole, below = self.with_whole_names(_value(member.text), scope, by, extra=extra, file=file)
+                text, found, lines = f"{text}\nghost {member.name} = {whole}", found + below, lines + _count(member.text)
+        return Content(text, lines, tuple(dict.fromkeys(it for it in found if it != node)))
+
+    def _take_bounds(self, head: str, file: File, by: str, traits: Iterable[Node], extra: Dict[str, List[Node]]) -> None:
+        """Adds the ghost members of these traits that a term may name: by a type parameter that has the trait as a bound, or of a `dyn`."""
+        for trait in traits:
+            members = [member.name for member in inner_items(self._item(trait, ("trait",))[1]) if member.kind == "ghost"]
+            bounded = [parameter for parameter, bounds in _bounds(head) if any(self.used(file, bound, by) == trait for bound in bounds)]
+            for member in members:
+                if not bounded or re.search(rf"\bdyn {trait.name}\b", head):
+                    extra.setdefault(member, []).append(trait)
+                for parameter in bounded:
+                    extra.setdefault(f"{parameter}.{member}", []).append(trait)
 
     # ---- clauses
 
@@ -414,18 +480,11 @@ class Repository:
         whole_signature, of_signature = self._rust_names(signature, file, by)
         whole_signature = re.sub(r"\s+", " ", re.sub(r"#\[[^\]]*\]", "", whole_signature))
         extra = self._rust_scope(file, by)
-        for trait in [node for node in of_signature if node.kind == "trait"]:
-            members = [member.name for member in inner_items(self._item(trait, ("trait",))[1]) if member.kind == "ghost"]
-            bounded = [parameter for parameter, bounds in _bounds(signature) if any(self.used(file, bound, by) == trait for bound in bounds)]
-            for member in members:
-                if not bounded or re.search(rf"\bdyn {trait.name}\b", signature):
-                    extra.setdefault(member, []).append(trait)
-                for parameter in bounded:
-                    extra.setdefault(f"{parameter}.{member}", []).append(trait)
+        self._take_bounds(signature, file, by, [node for node in of_signature if node.kind == "trait"], extra)
         typed = {parameter: [node for node in self._rust_names(of, file, by)[1] if node.kind == "type"] for parameter, of in _parameters(signature)}
         found = []
         for clause in clauses:
-            text, nodes = self.with_whole_names(_bare(clause.text), file.scope, f"{by}.{clause.name}", extra=extra)
+            text, nodes = self.with_whole_names(_bare(clause.text), file.scope, f"{by}.{clause.name}", extra=extra, file=file)
             for parameter in dict.fromkeys(re.findall(r"[\w']+", clause.text)):
                 nodes += typed.get(parameter, [])
             root = Root(file.crate, name or item.name, clause.name, file.path, f"{whole_signature}\n{clause.kind} {clause.name} {text}", _count(clause.text))
@@ -444,6 +503,18 @@ class Repository:
                 seen[node] = None
                 waiting += self.content(node).below[::-1]
         return list(seen)
+
+
+def _without_ghosts(text: str) -> Tuple[str, List[Tuple[str, str]]]:
+    """Returns a declaration without the terms of its ghost fields, and these by name."""
+    ghosts = []
+    while True:
+        field = re.search(r"\bghost (\w+): (?=\{)", text)
+        if not field:
+            return text, ghosts
+        end = closed(text, field.end())
+        ghosts.append((field.group(1), text[field.end() + 1:end - 1]))
+        text = f"{text[:field.start()]}{field.group(1)}{text[end:]}"
 
 
 def _bare(text: str) -> str:
@@ -469,5 +540,5 @@ def _parameters(signature: str) -> List[Tuple[str, str]]:
 
 def _bounds(signature: str) -> List[Tuple[str, List[str]]]:
     """Returns the type parameters of a function, each with the names of its bounds."""
-    parameters = re.search(r"fn \w+<(.*?)>\s*\(", signature, re.S)
+    parameters = re.search(r"(?:fn \w+|^impl)<(.*?)>\s*(?:\(|\w+(?:<.*?>)? for )", signature, re.S)
     return [(name, re.findall(r"\w+", bounds)) for name, bounds in re.findall(r"(\w+)\s*:\s*([^,]*)", parameters.group(1))] if parameters else []

@@ -12,9 +12,9 @@ NAME = r'[^\s(){}.;,@"«»]+'
 TAIL = rf"(?:\.(?:{NAME}|«[^»\n]*»))"
 STRING = r'"(?:[^"\\]|\\.)*"'
 # The members of a trait at a type, as `⟦<RealOut<S> as Sink>⟧`.
-AT_TYPE = re.compile(r"⟦<([^⟦⟧]*)>⟧")
-# A string; the fields of a term in brackets; a name with what stands behind its dots; any other sign.
-TOKEN = re.compile(rf"{STRING}|(?<=[)\]}}]){TAIL}+|{NAME}{TAIL}*|\S")
+QUOTE = re.compile(r"⟦<(.*) as ([^<>]*)(?:<.*>)?>⟧", re.S)
+# A string; the ghost members of an impl; the fields of a term in brackets; a name with what stands behind its dots; any other sign.
+TOKEN = re.compile(rf"{STRING}|⟦[^⟦⟧]*⟧{TAIL}*|(?<=[)\]}}]){TAIL}+|{NAME}{TAIL}*|\S")
 PLAIN = re.compile(r"[^\W\d][\w'-]*")
 NUMERAL = re.compile(r"\d[\w]*")
 # Signs that need no import.
@@ -23,7 +23,7 @@ BUILT_IN = set("→ × ↦ = | : [ ] _ ← λ ∀ ↔ ¬ ⊥ ∗ ⌜ ⌝".split(
 REFUSED = set("module open package axiom use mod ruleset unfold deriving coe fcoe tcoe hcom com Rattle Prim".split())
 MODULE = r"[A-Za-z_]\w*(?:\.[A-Za-z_]\w*)+"
 USE = re.compile(rf"(pub )?use ({MODULE})(?:\.\{{([^{{}}]*)\}}| as ([\w-]+))")
-# Where the whole path of a module may begin.
+# Where the whole path of a module may begin: with Rattle's crates, or a library of its logic.
 ROOTS = ("Rattle", "base", "denote")
 
 
@@ -50,9 +50,11 @@ class Scope:
         if not read:
             return "a form of import that is not known"
         again, module, names, alias = read.groups()
-        if module.split(".")[0] not in ROOTS:
+        if module.split(".")[0] not in ROOTS or module.split(".")[0] in self.modules:
             return "an import from a module that is not named in full"
         if alias:
+            if alias in ROOTS:
+                return "a module that has the name of a library"
             return None if self.modules.setdefault(alias, module) == module else "a name of two modules"
         for item in names.split(", "):
             there, renamed, here = item.partition(" as ")
@@ -89,13 +91,12 @@ def lines_without_strings(text: str) -> str:
 Meaning = Callable[[str, Optional[str], Tuple[str, str]], Tuple[Optional[str], bool]]
 
 
-def replace_names(text: str, meaning: Meaning, refuse: Callable[[str, str], None]) -> str:
+def replace_names(text: str, meaning: Meaning, quoted: Callable[[str, str], str], refuse: Callable[[str, str], None]) -> str:
     """Returns the text with each name replaced by what it means.
 
     `meaning` gets a name, what stands behind its dot, and the tokens before and behind it. It returns the whole name, if there is one, and
-    whether that stands for the part behind the dot, too.
+    whether that stands for the part behind the dot, too. `quoted` gets the type and the trait of `⟦<Type as Trait>⟧`.
     """
-    text = AT_TYPE.sub(lambda at: "(" + " ".join(PLAIN.findall(at.group(1))) + ")", text)
     tokens = list(TOKEN.finditer(text))
     out: List[str] = []
     at = 0
@@ -106,7 +107,11 @@ def replace_names(text: str, meaning: Meaning, refuse: Callable[[str, str], None
         if word[0] in '"(){}.;,@' or NUMERAL.fullmatch(word.split(".")[0]):
             out.append(word)
             continue
-        if word[0] in "«»":
+        quote = QUOTE.match(word)
+        if quote:
+            out.append(f"«{quoted(quote.group(1), quote.group(2))}»{word[quote.end():]}")
+            continue
+        if word[0] in "«»⟦⟧":
             refuse("an escaped name", text)
             continue
         head, dot, tail = word.partition(".")

@@ -25,23 +25,39 @@ def clauses_of_lucid(repository: Repository) -> List[Root]:
 
 
 def clauses_of_main(repository: Repository) -> List[Root]:
-    """Returns the clauses of the functions that `main` calls, but for `lucid` itself."""
+    """Returns the clauses of the functions that `main` calls, but for `lucid` itself.
+
+    If one of these does no more than call another, its clauses follow.
+    """
     mains = repository.found(MAIN, "main", ("fn",))
     if len(mains) != 1:
         repository.notes.add(f"crates/{MAIN}: {len(mains)} functions main")
         return []
-    file, item = mains[0]
-    roots = repository.roots(file, item)
+    roots = repository.roots(*mains[0])
+    waiting = _called(repository, *mains[0])
+    seen = set()
+    while waiting:
+        file, item = waiting.pop(0)
+        if (file.crate, item.name) in seen or (file.crate, item.name) == LUCID:
+            continue
+        seen.add((file.crate, item.name))
+        roots += repository.roots(file, item)
+        if re.fullmatch(r"\{\s*\w+\([\w\s,&.]*\)\s*\}", body_of_function(item)):
+            waiting = _called(repository, file, item) + waiting
+    return roots
+
+
+def _called(repository: Repository, file: File, item: Item) -> List[Tuple[File, Item]]:
+    """Returns the functions of this repository that a function calls by name."""
+    found: List[Tuple[File, Item]] = []
     for name in dict.fromkeys(re.findall(r"(?<![\w.:!])(\w+)(?:::<[^()]*>)?\(", body_of_function(item))):
         path = file.uses.get(name, ["crate", name])
-        crate = MAIN if path[0] in ("crate", "super", "self") else path[0]
-        called = repository.found(crate, path[-1], ("fn",)) if crate in repository.crates else []
-        if len(called) > 1:
-            repository.notes.add(f"crates/{crate}: {len(called)} functions {path[-1]}")
-        for place in called[:1]:
-            if (crate, path[-1]) != LUCID:
-                roots += repository.roots(*place)
-    return roots
+        crate = file.crate if path[0] in ("crate", "super", "self") else path[0]
+        places = repository.found(crate, path[-1], ("fn",)) if crate in repository.crates else []
+        if len(places) > 1:
+            repository.notes.add(f"crates/{crate}: {len(places)} functions {path[-1]}")
+        found += places[:1]
+    return found
 
 
 def exported(repository: Repository, crate: str) -> Set[str]:

@@ -147,7 +147,8 @@ class Trusted:
         return rows
 
     def row(self, part: Part) -> str:
-        of = {kind: self.of(kind, part.root.nodes) for kind in ("type", "trait", "kit")}
+        of = {kind: self.of(kind, part.root.nodes) for kind in ("type", "kit")}
+        of["trait"] = self.of("trait", part.root.nodes) + self.of("impl", part.root.nodes)
         cells = [
             part.title,
             number(self.lines(part.root.read)),
@@ -157,7 +158,7 @@ class Trusted:
         return f"| {' | '.join(cells)} |"
 
     def totals(self) -> List[str]:
-        of = {kind: self.of(kind, self.nodes) for kind in ("definition", "type", "constant", "trait", "kit")}
+        of = {kind: self.of(kind, self.nodes) for kind in ("definition", "type", "constant", "trait", "impl", "kit")}
         clauses = list(dict.fromkeys(node for root in self.lucid for node in root.read))
         step = self.repository.closure([STEP], ("definition",))
         rows = [
@@ -168,6 +169,7 @@ class Trusted:
             ("types of the sources, with their models", of["type"]),
             ("constants of the sources", of["constant"]),
             ("traits: the clauses and signatures of " + ", ".join(f"`{node.name}`" for node in of["trait"]), of["trait"]),
+            ("what types record of themselves by these: " + ", ".join(f"`{node.name}`" for node in of["impl"]), of["impl"]),
             ("definitions of the kit that say which value a JSON text has", of["kit"]),
         ]
         out = ["| What | Number | Lines |", "|---|---|---|", *(f"| {what} | {number(len(nodes))} | {number(self.lines(nodes))} |" for what, nodes in rows if nodes)]
