@@ -178,7 +178,7 @@ def seen(top: Path, edit: Edit) -> str:
             changed += [change.make(top) for change in edit.then]
             ended = pages(top, "--check")
     finally:
-        for path in changed:
+        for path in dict.fromkeys(changed):
             source = TOP / path.relative_to(top)
             shutil.copyfile(source, path) if source.is_file() else path.unlink()
         for path, content in before.items():

@@ -44,6 +44,8 @@ def all_pages(top: Path, kit: Optional[Path]) -> Tuple[Dict[str, str], List[str]
     """Returns the pages that the sources give, what is wrong with the sources, and what differs from tests/trusted.sums."""
     repository = Repository(top, kit)
     trusted = Trusted(repository)
+    if not trusted.lucid:
+        return {}, repository.notes.found, []
     texts = {"docs/TRUSTED.md": trusted.text(), "docs/CRATES.md": crates_page(top), SUMS: trusted.sums_text()}
     makes: Makes = {"libraries": lambda _: libraries(top), "definitions": lambda _: trusted.in_short(), "lines": trusted.lines_of}
     for path in [top / "README.md", *sorted((top / "docs").glob("*.md"))]:

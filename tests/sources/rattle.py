@@ -62,7 +62,12 @@ def without_comments(text: str) -> Tuple[str, str, Optional[int]]:
         at = stop.end()
         if word.startswith("/*") or re.match(r"b?r#*\"", word):
             unknown = stop.start() if unknown is None else unknown
-        if word.startswith("//"):
+        if word.startswith("/*"):
+            at = text.find("*/", at) + 2 if "*/" in text[at:] else len(text)
+            word = "\n" * text.count("\n", stop.start(), at)
+            bare.append(word)
+            masked.append(word)
+        elif word.startswith("//"):
             bare.append(" " * len(word))
             masked.append(" " * len(word))
         else:
