@@ -20,8 +20,9 @@ from .script import SAYS
 
 # The seconds of a processor that the quickest of some calls may take, by the script.
 LATER = 0.02
-# The processor seconds of the first call, as many times those of the kit's front end alone.
-WHOLE = 2.5
+# The processor seconds of the first call, at most as many times those of the kit's front end alone. Other work on the processors adds to the
+# steps unevenly: it was 2.64 beside four times as many processes as there are processors.
+WHOLE = 3
 SOURCE = "crates/lucid_main/src/words.rt"
 END = "    Ok(words)\n"
 BROKEN = """    if words.len() == 20 && words[words.len()].len() == 0 {
