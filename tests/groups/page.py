@@ -100,7 +100,7 @@ def cells(group: Group) -> None:
     if not group.check("a page of steps", bool(data), made.err):
         return
     stage = {array: table["stage"] for table in data["layout"]["tables"] for array in table["arrays"]}
-    written = lambda tick, array, cell: [(at, value) for at, name, index, value in data["cells"][0]
+    written = lambda tick, array, cell: [(at, int(value)) for at, name, index, value in data["cells"][0]
                                          if (name, index) == (array, cell) and at <= tick - stage[array] - 1]
     seen = [(cell, max(written(tick, array, cell), default=(0, 0))[1]) for tick in range(10) for array, cell in CELLS]
     group.check("cells of stages are those of a pipeline", seen == looks and stage == {"x": 1, "y": 2}, (seen, looks))
