@@ -66,7 +66,7 @@ def of(words_: str, text: str) -> str:
 
 NO_WINDOWS = r"""sed 's/"down" *: *\[\(\[[^]]*\][, ]*\)*\]/"down":[]/' "$5" >"$t/s"; set -- "$1" "$2" "$3" "$4" "$t/s" """
 WHOLE = '"$program" layout "$3" "$4" >/dev/null 2>&1 && { shift 2; set -- run whole "$@"; }'
-SWAPPED = 'sed "1{\$!{h;d}};2G" "$t/out" >"$t/new" && mv "$t/new" "$t/out"'
+SWAPPED = r'sed "1{\$!{h;d}};2G" "$t/out" >"$t/new" && mv "$t/new" "$t/out"'
 NO_LAST_CELL = 'tac "$t/out" | sed "0,/^s[0-9]/{/^s[0-9]/d}" | tac >"$t/new" && mv "$t/new" "$t/out"'
 BUFFERED = 't=$(mktemp) || exit 99; "$program" "$@" >"$t"; code=$?; cat "$t"; rm "$t"; exit $code'
 BY_LINES = r"""t=$(mktemp) || exit 99; "$program" "$@" >"$t"; code=$?

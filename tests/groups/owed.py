@@ -19,8 +19,8 @@ from rowfile import read_rows
 
 OWED = TESTS / "owed"
 LEAST = 250
-# All pages of docs/ together, in bytes, but the one that only lists definitions of the sources.
-PAGES, LISTED = 200_000, "TRUSTED.md"
+# All pages of docs/ together, in bytes.
+PAGES = 200_000
 
 
 @dataclass(frozen=True)
@@ -126,7 +126,7 @@ def run(group: Group) -> None:
             group.check(f"{item.what}: {item.kind} {item.name} is in {item.file}", holds)
     lost = earlier() - {item.what for item in items}
     group.check("no item of an earlier commit is lost", not lost, sorted(lost))
-    whole = sum(len(path.read_bytes()) for path in (TOP / "docs").glob("*.md") if path.name != LISTED)
-    group.check(f"docs/ has at most {PAGES} bytes of pages beside {LISTED}", whole <= PAGES, whole)
+    whole = sum(len(path.read_bytes()) for path in (TOP / "docs").glob("*.md"))
+    group.check(f"docs/ has at most {PAGES} bytes of pages", whole <= PAGES, whole)
     unbounded = {f"docs/{path.name}" for path in (TOP / "docs").glob("*.md")} - {item.file for item in items if item.kind == "page"}
     group.check("each page has a bound", not unbounded, sorted(unbounded))
