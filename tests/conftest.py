@@ -158,13 +158,21 @@ class Counts:
 
 def pytest_configure(config: pytest.Config) -> None:
     config.counts = Counts()
-    if not hasattr(config, "workerinput"):
+    if hasattr(config, "workerinput"):
+        config.option.program = config.workerinput["program"]
+    else:
         config.pluginmanager.register(config.counts)
         asked = [Path(word.split("::")[0]).stem for word in config.args]
         if config.option.program is None and not config.option.collectonly:
             config.option.program = str(TOP) if all(name in WITHOUT for name in asked) else find_program()
         if config.option.program and not Path(config.option.program).exists():
             raise pytest.UsageError(f"there is no program {config.option.program}")
+
+
+@pytest.hookimpl(optionalhook=True)
+def pytest_configure_node(node: Any) -> None:
+    """Gives the program to each process of `-n`, which gets only the words of the call."""
+    node.workerinput["program"] = node.config.option.program
 
 
 def pytest_unconfigure(config: pytest.Config) -> None:
