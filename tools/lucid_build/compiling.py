@@ -15,7 +15,7 @@ from pathlib import Path
 from typing import Iterator, List, Sequence
 
 from . import kept, module, running
-from .front import Failed, Kit, Stopped, find_kit, make_module
+from .front import Failed, Kit, Stopped, ended_by_signal, find_kit, make_module
 from .running import Progress, Word, say
 
 SERIES = "rattle-kit-13"
@@ -45,7 +45,7 @@ def finish(child: "subprocess.Popen[bytes]", tool: str) -> bytes:
     out = child.communicate()[0] or b""
     running.children.discard(child)
     if child.returncode < 0:
-        raise Stopped(f"no program could be compiled: signal {-child.returncode} ended {tool}, as when memory is short: 4 GB are needed")
+        raise ended_by_signal(tool, child.returncode)
     if child.returncode:
         last = (out.decode(errors="replace").strip().splitlines() or ["it said nothing"])[-1]
         raise Failed(f"{tool} ended with {child.returncode}: {last[:300]}")
@@ -133,10 +133,12 @@ def compile_in(top: Path, keep: Path, work: Path) -> None:
                     raise Stopped("the sources changed while the program was compiled: call again")
                 kept.keep(made, program, sums)
                 kept.write_whole(work / "compile.log", progress.log)
-            except (Failed, OSError, subprocess.SubprocessError) as error:
+            except (Failed, OSError) as error:
                 is_full = isinstance(error, OSError) and error.errno in FULL
                 if is_full or min(free_bytes(room), free_bytes(keep)) < ROOM // 100:
                     raise no_room(work) from error
+                if isinstance(error, OSError) and not str(error.filename).startswith(str(kit.folder)):
+                    raise
                 say(f"this kit's programs cannot be kept ({error}), so each call compiles anew")
                 kept.write_whole(refused, f"{sums}\n{error}\n")
 
@@ -147,6 +149,8 @@ def compile_once(top: Path, keep: Path, work: Path) -> None:
         keep.mkdir(parents=True, exist_ok=True)
         work.mkdir(parents=True, exist_ok=True)
         compile_in(top, keep, work)
+    except subprocess.SubprocessError as error:
+        raise Stopped(f"no program could be compiled: {error}") from error
     except OSError as error:
         if error.errno in FULL:
             raise no_room(work if work.is_dir() else top) from error
