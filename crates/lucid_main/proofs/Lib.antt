@@ -1,1 +1,2 @@
 mod AnsweredLemmas
+mod RunningLemmas

@@ -1,5 +1,9 @@
 -- The call that the program makes: `lucid` with the four passes in their order, and a watch that sees nothing.
-use Rattle.std.specs.Prelude.{◌≡◌, ◌⊎◌, List, [], ◌∷◌, None, codes, map}
+use Rattle.std.specs.Prelude.{◌≡◌, ◌≢◌, ◌⊎◌, ℕ, List, [], ◌∷◌, Option, None, codes, map}
+use Rattle.std.specs.declared.io.ErrorKind.{ErrorKind}
+use Rattle.std.specs.declared.io.ErrorKind.TheVariants as kinds
+use Rattle.lucid_code.specs.Parts.{CodeParts}
+use Rattle.lucid_io.specs.Puts.{PutsAll}
 use Rattle.lucid_pass_spec.proofs.DirectRuns.{direct_replaces}
 use Rattle.lucid_pass_spec.proofs.Gone.{dead_replaces}
 use Rattle.lucid_pass_spec.proofs.Looking.{copies_replaces, fold_replaces}
@@ -9,13 +13,14 @@ use Rattle.lucid_pass_spec.specs.Looks.{copies, folded}
 use Rattle.lucid_pass_spec.specs.Replace.{Rewrite}
 use Rattle.lucid_top.specs.Call.{Ended}
 use Rattle.lucid_top_fit.specs.Passes.{PassView}
+use Rattle.lucid_top_words.specs.declared.refusal.Refusal.{Refusal}
 use Rattle.lucid_top_words.specs.declared.refusal.Refusal.TheVariants as refusal
 use Rattle.lucid_top_words.specs.declared.status.Status.{Status}
 use Rattle.lucid_top_words.specs.declared.status.Status.TheVariants as status
-use Rattle.lucid_top_words.specs.Refusal.{line_of}
+use Rattle.lucid_top_words.specs.Refusal.{line_of, status_of}
 use Rattle.lucid_top_words.specs.Views.{FilesView, SinkView}
 use Rattle.lucid_top_words.specs.Words.{Bytes}
-use Rattle.lucid_top_words.specs.Writing.{Said}
+use Rattle.lucid_top_words.specs.Writing.{PutsSome, Said}
 
 -- The meaning of each pass: its function, with the law that this may replace valid code.
 abbrev pub fold_pass : Rewrite
@@ -30,10 +35,14 @@ dead_pass = record { makes = alive; keeps = dead_replaces }
 abbrev pub direct_pass : Rewrite
 direct_pass = record { makes = direct; keeps = direct_replaces }
 
+-- the functions of the four passes, in their order
+abbrev pub our_makes : List (CodeParts → CodeParts)
+our_makes = folded ∷ copies ∷ alive ∷ direct ∷ []
+
 -- These are the four passes in the order in which they run, by their names and their functions.
 pub record AreOurs (passes : List PassView) : Type 0 where
   pub names : map PassView.name passes ≡ codes "fold" ∷ codes "copies" ∷ codes "dead" ∷ codes "direct" ∷ []
-  pub makes : map (λ p. p.gives.makes) passes ≡ folded ∷ copies ∷ alive ∷ direct ∷ []
+  pub makes : map (λ p. p.gives.makes) passes ≡ our_makes
 
 -- The call ended as `lucid` does with these passes.
 pub record WithOurs (words : List Bytes) (files files' : FilesView) (out out' err err' : SinkView) (result : Status) : Type 0 where
@@ -62,3 +71,17 @@ pub record WithNone (words : List Bytes) (files files' : FilesView) (out out' er
 abbrev pub Called : List Bytes → FilesView → FilesView → SinkView → SinkView → SinkView → SinkView → Status → Type 0
 Called words files files' out out' err err' result =
     WithOurs words files files' out out' err err' result ⊎ WithNone words files files' out out' err err' result
+
+-- The machine gave no words, and its error has this kind: the line of the refusal was written, and nothing else was done.
+pub record NoWords {F W E : Type 0} (written : E → Option Bytes) (faults : E → ℕ) (kind : ErrorKind) (files files' : F) (out out' : W) (err err' : E) (result : Status) : Type 0 where
+  pub why : Refusal
+  pub status : result ≡ status_of why
+  pub usage : kind ≡ kinds.InvalidData → why ≡ refusal.Usage
+  pub memory : kind ≢ kinds.InvalidData → why ≡ refusal.Memory
+  pub files_stay : files' ≡ files
+  pub out_stays : out' ≡ out
+  pub line : Said written faults err err' (line_of [] why)
+
+-- the program wrote the text and ended with code 0; or memory ran out, a prefix was written, and the code is 11
+abbrev pub Finished : {T : Type 0} → (T → Option Bytes) → (T → ℕ) → T → T → ℕ → Bytes → Type 0
+Finished written faults old new code text = ((code ≡ 0) × PutsAll written faults old new text) ⊎ ((code ≡ 11) × PutsSome written faults old new text)
