@@ -41,8 +41,8 @@ def test_types(group: Group) -> None:
     mypy = [SYSTEM if SYSTEM.exists() else sys.executable, "-m", "mypy", "--config-file", TOP / "pyproject.toml", "--cache-dir", group.room / "cache"]
     if b"No module named mypy" in call([*mypy, "--version"]).err:
         pytest.skip("mypy is not installed; tests/setup installs it")
-    made = call([*mypy, TOP / "copperfinch"], cwd=TOP)
-    group.check("mypy --strict over the package", made.status == 0, made.out.decode()[-300:])
+    made = call([*mypy, TOP / "copperfinch", TOP / "tools/lucid_build"], cwd=TOP)
+    group.check("mypy --strict over the package and tools/lucid_build", made.status == 0, made.out.decode()[-300:])
     wrong = call([*mypy, group.file("wrong.py", "def double(n):\n    return 2 * n\n")], cwd=TOP)
     group.check("mypy refuses a function without types", wrong.status == 1 and b"no-untyped-def" in wrong.out, wrong)
 

@@ -39,9 +39,9 @@ def entry(name: str, text: str) -> str:
 
 
 def page(help_text: str, version: str, date: str, documents: str) -> str:
-    """Returns the man page. Lines of the help begin with two blanks and have two or more between a name and its text."""
+    """Returns the man page. Lines of the help begin with two blanks and have two or more between a name and its text; more go on with it."""
     made = [HEAD.format(version=version, date=date)]
-    lines: List[str] = help_text.splitlines()[1:]
+    lines: List[str] = re.sub(r"\n {4,}", " ", help_text).splitlines()[1:]
     last = ""
     for line in lines:
         title = next((name for start, name in SECTIONS.items() if line.startswith(start)), "")
