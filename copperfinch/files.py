@@ -51,10 +51,6 @@ class Scene:
     events: List[FileEvent] = field(default_factory=list)
     steps: List[List[Any]] = field(default_factory=list)
 
-    def is_down(self, a: int, b: int, tick: int) -> bool:
-        """Whether the link between two switches is down at a tick."""
-        return any({a, b} == {c, d} and start <= tick < until for c, d, start, until in self.down)
-
     def link(self, a: int, b: int, latency: int) -> None:
         """Adds a link with a latency in ticks."""
         self.links[a, b] = self.links[b, a] = latency

@@ -11,7 +11,7 @@ from typing import Dict, List, Optional, Set, Tuple
 
 from ..files import Limits, Scene
 from ..lines import Event, Said, Sent
-from ..network import Trace
+from ..network import Ledger
 from .svg import LETTER, SMALL, Colours, Picture, width_of
 
 WIDEST = 1200
@@ -53,7 +53,7 @@ def plural(count: int, word: str) -> str:
 class LogPicture:
     """Draws one log."""
 
-    def __init__(self, trace: Trace, limits: Limits, scene: Scene, choice: Choice) -> None:
+    def __init__(self, trace: Ledger, limits: Limits, scene: Scene, choice: Choice) -> None:
         self.trace, self.limits, self.scene = trace, limits, scene
         self.stay, self.back = limits.stages, limits.stages + limits.recirc
         self.picture, self.colours = Picture(), Colours()
@@ -76,31 +76,37 @@ class LogPicture:
     def drawn_of(self, number: int) -> Drawn:
         """An event with the lines that are written below it."""
         event = self.trace.log.events[number]
-        ways = {it.out: it for it in self.trace.ways[number]}
+        ways = {it.out: it for it in self.trace.sends[number]}
         notes: List[Tuple[str, str]] = []
         entry = self.trace.entries[number]
-        if entry.ready < event.tick:
-            notes.append((f"waited {plural(event.tick - entry.ready, 'tick')}", "small grey"))
+        if entry.waited:
+            notes.append((f"waited {plural(entry.waited, 'tick')}", "small grey"))
         for index, out in enumerate(event.outs):
             if isinstance(out, Said):
                 notes.append((f'"{out.text}"', "small grey"))
                 continue
             way, name = ways[index], str(out)
-            if out.lost:
-                notes.append((f"lost at {way.leaves}: {name} to {way.target}", "small red"))
-            elif (number, index) not in self.trace.receiver:
-                notes.append((f"pending: {name}{'' if out.to is None else f' to {way.target}'}, ready at {way.ready}", "small grey"))
+            if way.fate.is_lost:
+                notes.append((f"lost at {way.sent}: {name} to {way.switch}, {way.fate.value}", "small red"))
+            elif way.fate.is_pending:
+                notes.append((f"pending: {name}{'' if out.to is None else f' to {way.switch}'}, ready at {way.ready}", "small grey"))
         return Drawn(number, event, notes, event.tick + self.stay, any(isinstance(it, Sent) for it in event.outs))
+
+    def sender_of(self, it: Drawn) -> Optional[Drawn]:
+        """The event that sent an event, if it is drawn."""
+        sender = self.trace.sender(it.number)
+        return None if sender is None else self.shown.get(sender)
 
     def title(self, it: Drawn) -> str:
         """The tooltip of an event: all its lines."""
         entry = self.trace.entries[it.number]
         lines = [f"[{it.event.tick}] s{it.event.switch} {it.event.label()}"]
-        if entry.way:
-            lines.append(f"sent at {self.trace.log.events[entry.way.sender].tick} by s{self.trace.log.events[entry.way.sender].switch}, ready at {entry.ready}")
+        if entry.sender is not None:
+            lines.append(f"sent at {self.trace.log.events[entry.sender].tick} by s{entry.origin}, ready at {entry.ready}")
         else:
             lines.append(f"event {entry.file} of the scenario, ready at {entry.ready}")
-        return "\n".join(lines + [text for text, _ in it.notes])
+        losses = [f"{send.label()} is lost: {send.why()}" for send in self.trace.sends[it.number] if send.fate.is_lost]
+        return "\n".join(lines + [text for text, _ in it.notes] + losses)
 
     # Places -----------------------------------------------------------------------------------------------------------------------
 
@@ -127,8 +133,7 @@ class LogPicture:
 
     def set_columns(self) -> None:
         wide = {switch: max([60.0] + [width_of(it, SMALL) for it in self.cells_of(switch)]) for switch in self.switches}
-        loops = {self.shown[r].event.switch for (s, _), r in self.trace.receiver.items()
-                 if r in self.shown and s in self.shown and self.shown[r].event.switch == self.shown[s].event.switch}
+        loops = {it.event.switch for it in self.shown.values() if self.sender_of(it) and self.trace.entries[it.number].origin == it.event.switch}
         for it in self.shown.values():
             switch = it.event.switch
             wide[switch] = max([wide[switch], width_of(it.event.label())] + [8 + width_of(text, SMALL) for text, _ in it.notes])
@@ -227,13 +232,13 @@ class LogPicture:
         points = [(x, y), (x - 8 * dx + 3.5 * dy, y - 8 * dy - 3.5 * dx), (x - 8 * dx - 3.5 * dy, y - 8 * dy + 3.5 * dx)]
         self.picture.path(3, "M" + " L".join(f"{a:.1f} {b:.1f}" for a, b in points) + " z", f'fill="{shade}"')
 
-    def draw_arrow(self, sender: Drawn, it: Drawn, sent: Sent) -> None:
+    def draw_arrow(self, sender: Drawn, it: Drawn) -> None:
         """An arrow from the end of a sender's tail to the event that it sent."""
         picture, shade = self.picture, self.colours.of(it.event.name)
         x, x2, y2 = self.middle(sender), self.middle(it), it.y
         here = it.event.switch == sender.event.switch
         y = min(self.leave_y(sender), y2) if here else self.leave_y(sender)
-        title = f"{it.event.label()}: s{sender.event.switch}, left at {sender.event.tick + self.back + sent.delay}, to s{it.event.switch}, entered at {it.event.tick}"
+        title = f"{it.event.label()}: s{sender.event.switch}, left at {self.trace.entries[it.number].sent}, to s{it.event.switch}, entered at {it.event.tick}"
         look = f'fill="none" stroke="{shade}" stroke-width="1.3" opacity="{0.75 if self.is_wide else 0.5}"'
         if here and y2 - y > 12:
             bend = 26 if self.is_wide else 12
@@ -256,7 +261,7 @@ class LogPicture:
         picture.box(2, it.x, it.y, wide, end - it.y, f'fill="{shade}" opacity="0.45"', title)
         if self.colours.is_striped(it.event.name):
             picture.line(2, self.middle(it), it.y, self.middle(it), end, 'stroke="#fff" stroke-width="1.5" stroke-dasharray="3 3"')
-        if entry.ready < it.event.tick:
+        if entry.ready is not None and entry.waited:
             picture.line(1, it.x - 2, self.y_at(entry.ready), it.x - 2, it.y, f'stroke="{shade}" stroke-width="1" stroke-dasharray="2 3"',
                          f"{it.event.label()} waited from {entry.ready} to {it.event.tick}")
         if it.sends and self.leave_y(it) > end:
@@ -264,7 +269,7 @@ class LogPicture:
         lost = [text for text, kind in it.notes if kind == "small red"]
         if lost:
             picture.cross(3, self.middle(it), self.leave_y(it), "\n".join(lost))
-        if entry.way:
+        if entry.sender is not None:
             picture.dot(3, self.middle(it), it.y, 4 if self.is_wide else 3, f'fill="{shade}"', title)
         else:
             picture.box(3, self.middle(it) - 4, it.y - 4, 8, 8, f'fill="#fff" stroke="{shade}" stroke-width="2"', title)
@@ -280,9 +285,9 @@ class LogPicture:
         picture.line(1, self.middle(it) + 6, it.y, x - 4, it.y, 'stroke="#ddd" stroke-width="0.8"')
         label = f"s{it.event.switch} {it.event.label()}"
         picture.write(4, x, it.y + 4, label, title=title)
-        way = self.trace.entries[it.number].way
-        if way:
-            sender = self.trace.log.events[way.sender]
+        number = self.trace.sender(it.number)
+        if number is not None:
+            sender = self.trace.log.events[number]
             picture.write(4, x + width_of(label) + 8, it.y + 4, f"← s{sender.switch} of {sender.tick}", "small grey")
         for at, (text, kind) in enumerate(it.notes):
             picture.write(4, x + 12, it.y + 17 + 13 * at, text, kind)
@@ -354,11 +359,9 @@ class LogPicture:
             x = self.column[switch] + self.bar_width() / 2
             picture.line(1, x, 88, x, self.foot, f'stroke="{"#999" if self.is_wide else "#ccc"}"')
         for it in self.shown.values():
-            way = self.trace.entries[it.number].way
-            if way and way.sender in self.shown:
-                sent = self.trace.log.events[way.sender].outs[way.out]
-                assert isinstance(sent, Sent)
-                self.draw_arrow(self.shown[way.sender], it, sent)
+            sender = self.sender_of(it)
+            if sender:
+                self.draw_arrow(sender, it)
             self.draw_event(it)
         for y in [72.0] + self.headings:
             self.draw_headings(y)

@@ -12,7 +12,7 @@ from ..layout import read_layout
 from ..lines import Json
 from ..log import read_cells, read_log
 from ..model.lexer import PIECE, RESERVED, scan
-from ..network import Trace, trace
+from ..network import Ledger, trace
 from ..program import Program, ProgramError
 from ..streams import Source
 
@@ -80,18 +80,17 @@ def final(changes: List[List[Change]]) -> Dict[Tuple[int, str, int], str]:
     return {key: value for key, value in found.items() if value != "0"}
 
 
-def events_of(found: Trace) -> List[Json]:
+def events_of(found: Ledger) -> List[Json]:
     """Returns the events of the log with where each came from. Arguments are texts, since a script's numbers round."""
     events: List[Json] = []
     for event, entry in zip(found.log.events, found.entries):
         outs = [{**out, "args": list(map(str, out["args"]))} if "args" in out else out for out in event.json()["outs"]]
-        way = entry.way
         events.append({"at": event.tick, "switch": event.switch, "name": event.name, "args": list(map(str, event.args)), "outs": outs,
-                       "line": event.line, "ready": entry.ready, "sender": way and way.sender, "out": way and way.out, "file": entry.file})
+                       "line": event.line, "ready": entry.ready, "sender": entry.sender, "out": None if entry.sender is None else entry.out, "file": entry.file})
     return events
 
 
-def blocks_of(log: bytes, found: Trace) -> List[str]:
+def blocks_of(log: bytes, found: Ledger) -> List[str]:
     """Returns the lines of each event, as they were printed."""
     lines = log.decode("latin-1").split("\n")
     return ["\n".join(lines[it.line - 1:it.line + len(it.outs)]) for it in found.log.events]
