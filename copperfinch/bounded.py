@@ -48,7 +48,8 @@ def deeply(work: Callable[[], T], seconds: Optional[float] = None, megabytes: Op
                 raise Exceeded(f"it takes more than {seconds:g} s of a processor")
     finally:
         resource.setrlimit(resource.RLIMIT_AS, (soft, hard))
-        sys.setrecursionlimit(depth)
+        if not thread.is_alive():  # Python ends a process with a thread that is deeper than the limit
+            sys.setrecursionlimit(depth)
     if failed:
         raise failed[0]
     return found[0]

@@ -3,7 +3,7 @@
 Each fault gives one line on standard error and exit code 1, or the explained refusal. Seen to fail, on the tools before this package or on a
 change: a traceback for a full or closed output, a closed input, a name that is no UTF-8, a number of 2^64, a layout without tables, a program
 that is a pipe, a key with an escape; a page with rounded numbers; first fit that nobody asked for (10 KB took 12 s); an example with another
-output; a function without types.
+output; a function without types; a recursion limit that is set back below a thread that is deeper, which ends the process.
 """
 from __future__ import annotations
 
@@ -18,7 +18,7 @@ from typing import Any, Dict, List
 
 import pytest
 
-from harness import EXAMPLES, TOP, Ended, Group, call, with_variables
+from harness import EXAMPLES, TOP, Ended, Group, call, compile_c, measure, with_variables
 
 from copperfinch.bounded import Exceeded, deeply
 from copperfinch.draw.log import Choice, LogPicture
@@ -28,6 +28,8 @@ from copperfinch.network import trace
 from copperfinch.page import handlers_of
 from copperfinch.program import Program, ProgramError
 from copperfinch.streams import Source
+
+from .hostile import SHAPES
 
 SYSTEM = Path("/usr/bin/python3")
 # 10 KB whose first fit takes minutes in Python, and whose `check` takes milliseconds.
@@ -202,6 +204,27 @@ def test_bounds(group: Group) -> None:
     with pytest.raises(Exceeded):
         deeply(lambda: [0] * 10**9, megabytes=300)
     group.check("deep work", deeply(lambda: depth(50000)) == 50000)
+
+
+# Of the inputs within every limit those that the gate explains: one that is nested deep, one that wants memory, one that wants time.
+HARD = "10,000 early returns", "8 MiB of deep lists", "8 matches of 16"
+
+
+def test_hostile(group: Group) -> None:
+    """`explain` answers each input of the group `hostile` in 10 s and in 500 MB or what the program needs: in full, or with the
+    part that it left out. Most of them with --whole."""
+    spent, tools = compile_c(group, "spent.c"), TOP / "tools/explain"
+    for name in SHAPES if group.options.whole else HARD:
+        shape = SHAPES[name]
+        for file, text in shape.files(shape.size):
+            group.file(file, text)
+        words = [word for word in shape.words if word in ("p", "l", "s")]
+        for asked in [[], ["--nodes"]] if group.options.whole or name == HARD[0] else [[]]:
+            found = measure(spent, [tools, *words, *asked, "--lucid", group.options.program], group.room)
+            out, title = found.ended.out, f"explain {name} {' '.join(asked)}"
+            is_told = bool(asked) or out == b"nothing is refused\n" or b"\nremedy: " in out or b"left out: " in out
+            group.check(f"{title}: its answer", found.ended.status == shape.status and is_told, found.ended)
+            group.check(f"{title}: its bounds", found.seconds <= 10 + 9 * group.options.whole and found.megabytes <= max(500, shape.megabytes), found)
 
 
 def depth(count: int) -> int:
