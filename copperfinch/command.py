@@ -16,6 +16,7 @@ COMMANDS = {
     "explain": "explains a refusal, or shows nodes, tables and first fit",
     "where": "shows the place of a refusal",
     "stages": "shows how many stages a program needs, and why",
+    "follow": "shows what became of an event, and what came of it",
     "page": "writes a run as one HTML file",
     "picture": "draws a log, a layout or a drive",
     "json": "turns an answer into JSON",

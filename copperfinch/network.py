@@ -91,12 +91,20 @@ class Packet:
             return f"ready at tick {self.ready}, it waited until the run ended before tick {self.until}"
         return f"the run ended before tick {self.until}, and it is ready at {self.ready}"
 
+    @property
+    def cause(self) -> Json:
+        """What sent it, as docs/OUTPUT.md says."""
+        return {"scenario": self.file} if self.sender is None else {"event": self.sender, "out": self.out}
+
+    def ways(self) -> Json:
+        """Returns its ticks, and why it did not enter, as docs/OUTPUT.md says."""
+        why = None if self.fate is Fate.ENTERED else self.fate.value
+        return {"sent": self.sent, "ready": self.ready, "waited": self.waited, "why": why, "window": self.window and list(self.window)}
+
     def json(self) -> Json:
-        """Returns why it did not enter, as docs/OUTPUT.md says."""
-        found: Json = {"reason": self.fate.value}
-        if self.window:
-            found["window"] = list(self.window)
-        return found if self.ready is None else {**found, "ready": self.ready, "waited": self.waited}
+        """Returns the object of an event that did not enter."""
+        kind = "lost" if self.fate.is_lost else "pending"
+        return {"kind": kind, "name": self.name, "args": list(self.args), "switch": self.switch, "cause": self.cause, **self.ways()}
 
 
 @dataclass
@@ -151,17 +159,18 @@ class Ledger:
         """Returns the packets that no link took, in the order of the log."""
         return (packet for packet in self.packets if packet.fate.is_lost)
 
+    def event_json(self, number: int) -> Json:
+        """Returns the object of an event with its cause and its ticks, and with the numbers of the events that it sent."""
+        event, packet = self.log.events[number], self.entries[number]
+        sends = {send.out: send for send in self.sends[number]}
+        outs = [{**out.json(), "event": sends[at].number, **sends[at].ways()} if at in sends else out.json() for at, out in enumerate(event.outs)]
+        return {**event.json(), "outs": outs, "number": number, "cause": packet.cause, "sent": packet.sent, "ready": packet.ready,
+                "waited": packet.waited, "entered": packet.entered}
+
     def json(self) -> List[Json]:
-        """Returns the objects of the log, each event with its cause and its ticks, and each event that was sent with its number."""
-        found = self.log.json()
-        for number, (it, packet) in enumerate(zip(found, self.entries)):
-            cause = {"scenario": packet.file} if packet.sender is None else {"event": packet.sender, "out": packet.out}
-            sends = {send.out: send for send in self.sends[number]}
-            outs = [{**out, "event": sends[at].number, "why": None if sends[at].number is not None else sends[at].json()} if at in sends else out
-                    for at, out in enumerate(it["outs"])]
-            found[number] = {**it, "outs": outs, "number": number, "cause": cause, "sent": packet.sent, "ready": packet.ready,
-                             "waited": packet.waited, "entered": packet.entered}
-        return found
+        """Returns the objects of the log, with the events that did not enter behind those that did."""
+        events = [self.event_json(number) for number in range(len(self.entries))]
+        return events + [packet.json() for packet in self.packets if packet.number is None] + self.log.json()[len(events):]
 
 
 # What waits at a switch: its order of entry, a number that no other has, and the packet.

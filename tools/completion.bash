@@ -44,7 +44,7 @@ _lucid_tool() {
     if [ "$tool" = lucid-tools ]; then
         if [ "$at" -eq 1 ]; then
             COMPREPLY=()
-            _lucid_words explain where page picture json scenario
+            _lucid_words explain where stages follow page picture json scenario
             return
         fi
         tool=${COMP_WORDS[1]} at=$((at - 1))
@@ -59,7 +59,7 @@ _lucid_tool() {
                 *) _lucid_files json log ;;
             esac
             ;;
-        where-1 | page-1 | explain-1 | stages-1) _lucid_files luc ;;
+        where-1 | page-1 | explain-1 | stages-1 | follow-1) _lucid_files luc ;;
         stages-2) _lucid_files json ;;
         scenario-1) _lucid_words aging countmin dns firewall flowcache gateways nat reroute rip sro ;;
         explain-*)
@@ -69,6 +69,18 @@ _lucid_tool() {
             esac
             ;;
         where-2) _lucid_words byte token syntax: types: order: ;;
+        follow-*)
+            case ${COMP_WORDS[COMP_CWORD]} in
+                --*) _lucid_words --back --json --log --lucid --show --names ;;
+                *) _lucid_files json log ;;
+            esac
+            ;;
+        json-*)
+            case ${COMP_WORDS[COMP_CWORD]} in
+                --*) _lucid_words --limits --scenario ;;
+                *) _lucid_files json log ;;
+            esac
+            ;;
         page-*)
             case ${COMP_WORDS[COMP_CWORD]} in
                 --*) _lucid_words --lucid --cells ;;
@@ -80,4 +92,4 @@ _lucid_tool() {
 }
 
 complete -F _lucid lucid ./lucid
-complete -F _lucid_tool lucid-tools tools/where tools/stages tools/explain tools/json tools/picture tools/page tools/scenario
+complete -F _lucid_tool lucid-tools tools/where tools/stages tools/follow tools/explain tools/json tools/picture tools/page tools/scenario

@@ -4,24 +4,33 @@
 grammar of the lines and the keys of the objects. A text of another form is refused before anything is written: a bad line, a number with
 a leading zero, events or cells out of order, lines after the last one, counts that the events do not have. A log without its last line
 (of `once`, or cut off between two lines) is accepted, and then has no object `end`.
+
+With --limits and --scenario the log of a run is complete: each event has its number, its cause and its ticks, each event that was sent has the
+number under which it entered or the reason why it did not, and those that were lost or are pending have objects of their own. A log that no run
+of these files prints is refused.
 """
 import argparse
 import json
-from typing import List
+from typing import List, Optional
 
+from ..command import Once
 from ..drive import read_drive
 from ..errors import FormatError
+from ..files import read_limits, read_scene
 from ..layout import read_layout
 from ..lines import Json
 from ..log import read_log
+from ..network import trace
 from ..streams import ANSWER, read, write
 
 KINDS = ("log", "layout", "audit", "drive", "snap")
-USAGE = f"%(prog)s {'|'.join(KINDS)} [FILE]"
+USAGE = f"%(prog)s {'|'.join(KINDS)} [FILE] | log [FILE] --limits LIMITS --scenario SCENARIO"
 
 
-def objects(kind: str, text: bytes) -> List[Json]:
-    """Returns the objects of a text of this kind."""
+def objects(kind: str, text: bytes, limits: Optional[str] = None, scenario: Optional[str] = None) -> List[Json]:
+    """Returns the objects of a text of this kind; of a log with two files, the complete ones."""
+    if limits is not None and scenario is not None:
+        return trace(read_log(text), read_limits(read(limits)), read_scene(read(scenario))).json()
     if kind == "log":
         return read_log(text).json()
     if kind in ("layout", "audit"):
@@ -36,10 +45,14 @@ def add_words(parser: argparse.ArgumentParser) -> None:
     """Adds the words."""
     parser.add_argument("kind", choices=KINDS)
     parser.add_argument("file", nargs="?", metavar="FILE", help="the answer; standard input if it is absent")
+    parser.add_argument("--limits", action=Once, metavar="LIMITS", help="the limits of the run, for a complete log")
+    parser.add_argument("--scenario", action=Once, metavar="SCENARIO", help="its scenario")
 
 
 def run(given: argparse.Namespace) -> int:
     """Writes the objects."""
-    made = objects(given.kind, read(given.file, ANSWER))
+    if (given.limits is None) != (given.scenario is None) or given.limits is not None and given.kind != "log":
+        raise argparse.ArgumentTypeError("a complete log needs two files")
+    made = objects(given.kind, read(given.file, ANSWER), given.limits, given.scenario)
     write("".join(json.dumps(it, separators=(",", ":")) + "\n" for it in made))
     return 0

@@ -78,10 +78,11 @@ class ArrayDef:
 
 @dataclass
 class EventDef:
-    """A declared event: the widths of its parameters, and its handler."""
+    """A declared event: the widths of its parameters, its handler, and the names of its parameters."""
     name: str
     params: List[int]
     handler: Optional[int] = None
+    names: List[str] = field(default_factory=list)
 
 
 @dataclass

@@ -141,7 +141,7 @@ class Elaboration:
         """Events and handlers: parameters are ints."""
         widths = [int_width(p) for p in d.params]
         self.names[d.name.text] = Entry('event', None, len(self.core.events), params=[(False, w) for w in widths])
-        self.core.events.append(core.EventDef(d.name.text, widths))
+        self.core.events.append(core.EventDef(d.name.text, widths, names=[p.name for p in d.params]))
 
     def declare_group(self, d: tree.Decl, _: int) -> None:
         """Groups: 1 to 8 switch numbers below 64, none twice."""

@@ -35,6 +35,9 @@ lucid run placed a.luc b.json b.json |b.json
 tools/picture lo|log
 tools/picture log --t|--ticks
 tools/json a|audit
+tools/json log --l|--limits
+tools/follow |a.luc
+tools/follow a.luc b.json b.json --b|--back
 tools/explain |a.luc
 tools/explain a.luc --n|--nodes
 tools/scenario ri|rip

@@ -4,7 +4,7 @@ Sees no answers but those of the examples and of the calls below. Seen to fail:
 - round_trip: a delay that is always 0, a text in capitals, no arrays of a table, passes in reverse, no cells of a snapshot, no `ahead`
 - cut_texts: a last line without its line feed, CRLF as the end of a line, tables without sums, lines behind the tables
 - grammar: another word in a rule, a rule for too much (no line feed, a line `busy 0`, two blanks), no rule for `snap`
-- keys: a key or a kind in the table that is not printed, and one that is printed and not there
+- keys: a key or a kind in the table that is not printed, and one that is printed and not there, also in a complete log; an object that it lacks
 - options: an option that is not on tools/README.md, and one there that no tool has
 - read_cells: the first block taken for the last, a log without blocks that is refused
 """
@@ -16,6 +16,8 @@ from typing import Any, Dict, Iterator, List, Set, Tuple
 
 from harness import TOP, Group, call
 from samples import answer_of, example, moves, printed
+
+from groups.ledger import cases
 
 from copperfinch.log import read_cells, read_log
 
@@ -122,21 +124,43 @@ def listed_keys() -> Dict[str, Set[str]]:
         kinds, _, keys = row.strip("| ").split(" | ")
         names = [name for name in re.findall(r"`(\w+)`", kinds) if name != "outs"]
         parts = keys.split("; ") if len(names) > 1 else [keys]
-        found.update({name: set(re.findall(r"`(\w+)`", part)) - {"generate", "say", "null"} for name, part in zip(names, parts)})
+        for name, part in zip(names, parts):
+            own = set(re.findall(r"`(\w+)`", part)) - {"generate", "say", "null"}
+            found[f"complete {name}" if "complete" in kinds else name] = own | (found[name] if keys.startswith("also ") else set())
     return found
+
+
+def without(out: bytes) -> Iterator[Dict[str, Any]]:
+    """The objects of a log, of those of a complete one."""
+    own = listed_keys()
+    for it in map(json.loads, out.decode().splitlines()):
+        if it["kind"] in own:
+            it["outs"] = [{key: value for key, value in out.items() if key in {"kind", *own[out["kind"]]}} for out in it.get("outs", [])]
+            yield {key: value for key, value in it.items() if key in {"kind", *own[it["kind"]]}}
 
 
 def test_keys(group: Group) -> None:
     """Each key that tools/json prints is in the table of docs/OUTPUT.md under its kind, and each key of the table is printed."""
     printed_keys: Dict[str, Set[str]] = {}
+
+    def add(out: bytes, complete: Tuple[str, ...] = ()) -> None:
+        objects = [json.loads(line) for line in out.decode().splitlines()]
+        for it in objects + [part for it in objects for part in it.get("outs", [])]:
+            kind = f"complete {it['kind']}" if it["kind"] in complete else it["kind"]
+            printed_keys.setdefault(kind, set()).update(set(it) - {"kind"})
+
     found = [*answers(group), ("a log", "run", LOG)]
     found.append(("no, empty, ahead", "drive", b"enter 0\nbusy\nempty 1\ngo 0\nenter 1\nahead 0\nlook x[0] = 1\nnone\n[0] s0 e()\n[0] s0 e()\nentered 2 left 0\n"))
     for _, kind, text in found:
         if kind != "check":
-            out = group.tool("json", {"run": "log", "once": "log"}.get(kind, kind), given=text).out.decode()
-            objects = [json.loads(line) for line in out.splitlines()]
-            for it in objects + [part for it in objects for part in it.get("outs", [])]:
-                printed_keys.setdefault(it["kind"], set()).update(set(it) - {"kind"})
+            add(group.tool("json", {"run": "log", "once": "log"}.get(kind, kind), given=text).out)
+    for name, *files in cases():
+        words = [group.file(f"complete.{at}", data) for at, data in enumerate(files)]
+        log = group.call("run", "whole", *words).out
+        ended = group.tool("json", "log", "--limits", words[1], "--scenario", words[2], given=log)
+        plain = b"".join(json.dumps(it, separators=(",", ":")).encode() + b"\n" for it in without(ended.out))
+        group.check(f"the complete log of {name} has the objects of the log", plain == group.tool("json", "log", given=log).out != b"", ended.err)
+        add(ended.out, ("event", "generate", "lost", "pending"))
     group.check("the keys of docs/OUTPUT.md are those that tools/json prints", printed_keys == listed_keys(), (printed_keys, listed_keys()))
 
 

@@ -7,14 +7,18 @@ from __future__ import annotations
 
 import json
 import re
+from collections import Counter
 from typing import Any, Iterator, List, Tuple
 
 from harness import EXAMPLES, TOP, Group
 from jsonschema import Draft202012Validator, validators
 from samples import HITS
 
-from copperfinch.files import LIMITS
+from copperfinch.files import LIMITS, read_limits, read_scene
 from copperfinch.layout import read_layout
+from copperfinch.log import read_log
+from copperfinch.network import trace
+from groups.ledger import cases, watched
 
 # In JSON Schema 1.0 is an integer; in the program's files it is none.
 TYPES = Draft202012Validator.TYPE_CHECKER.redefine("integer", lambda checker, value: type(value) is int)
@@ -65,6 +69,32 @@ def run(group: Group) -> None:
         line = group.call("audit", program, limits, group.file("q.json", json.dumps(place))).err.decode()
         refused = re.match(r"placement: (file|other|nodes)", line) is not None
         group.check(f"placement {json.dumps(place)[:80]}", fits(schema["placement"], place) == (place not in bad) != refused, line)
+
+
+def test_complete_logs(group: Group) -> None:
+    """Each object of a complete log fits its schema, and none does without a key, with one more, or with a value of another kind."""
+    schema = json.loads((TOP / "tools/schema/log.schema.json").read_text())
+    CHECKER.check_schema(schema)
+    judge, tried = CHECKER(schema), Counter()
+    for name, program, limits, scene in cases():
+        for it in trace(read_log(watched(program, limits, scene)[0]), read_limits(limits), read_scene(scene)).json():
+            shape = (it["kind"], it.get("why"), *sorted({(out["kind"], out.get("why")) for out in it.get("outs", [])}, key=str))
+            tried[shape] += 1
+            if tried[shape] <= 20:
+                group.check(f"a line of the complete log of {name}", judge.is_valid(it), it)
+            for other in changes(it) if tried[shape] == 1 else []:
+                group.check(f"no line of a log: {json.dumps(other)[:160]}", not judge.is_valid(other))
+    group.check("objects of all kinds", {it[0] for it in tried} == {"event", "lost", "pending", "cell", "end"} and len(tried) >= 12, tried)
+
+
+def changes(it: Any) -> Iterator[Any]:
+    """An object of a log with one fault, also within its outs."""
+    yield {**it, "more": 1}
+    for key, value in it.items():
+        yield {other: held for other, held in it.items() if other != key}
+        yield {**it, key: -1 if type(value) is int or value is None else 1.5 if not isinstance(value, bool) else not value}
+    for at, out in enumerate(it.get("outs", [])):
+        yield from ({**it, "outs": it["outs"][:at] + [other] + it["outs"][at + 1:]} for other in changes(out))
 
 
 def scenes() -> List[Tuple[Any, bool]]:
