@@ -1,7 +1,7 @@
 """Explains a refusal of `lucid`, or shows the nodes and the layout of a program.
 
 With PROGRAM alone the call `check` is explained, with LIMITS `layout`, with SCENARIO `run pipe`, with PLACEMENT `run placed`; where
-SCENARIO is `-` there is none, and `audit` is explained. The first line is the program's own refusal: that of the built program if there
+SCENARIO is `-` there is none, and `audit` is explained. --all goes on behind the refusal, and explains all that is wrong. The first line is the program's own refusal: that of the built program if there
 is one (--lucid, $LUCID, or that of the checkout), or else that of the second implementation. All other lines come from that second
 implementation, copperfinch.model, which is not verified; if both differ, the call ends with 70.
 
@@ -16,13 +16,14 @@ from typing import Dict, List, Optional
 from ..bounded import Exceeded, deeply
 from ..command import Once
 from ..errors import Error
-from ..explain import Report, fill
+from ..explain import Explanation, Report, fill
+from ..explain.every import MOST, explain_all
 from ..model import agrees
 from ..program import Ended, Program, Running, built
 from ..streams import Source, complain, printable, read_again, write
 from .where import show
 
-USAGE = "%(prog)s PROGRAM [LIMITS [SCENARIO [PLACEMENT]]] [--nodes] [--layout] [--placement] [--json] [--lucid COMMAND] | PROGRAM --where REFUSAL"
+USAGE = "%(prog)s PROGRAM [LIMITS [SCENARIO [PLACEMENT]]] [--nodes] [--layout] [--placement] [--json] [--all] [--lucid COMMAND] | PROGRAM --where REFUSAL"
 SECONDS, MEGABYTES = 6, 300
 # The most seconds of a processor and bytes of output of the program's own call.
 ITS_SECONDS, ITS_BYTES = 9, 2**20
@@ -36,6 +37,7 @@ def add_words(parser: argparse.ArgumentParser) -> None:
     parser.add_argument("--nodes", action="store_true", help="the nodes: number, place, what each is and reads, its array, stage, rows and bits")
     parser.add_argument("--layout", action="store_true", help="the tables of first fit, each with its nodes")
     parser.add_argument("--placement", action="store_true", help="first fit as a placement file, for `audit` and `run placed`")
+    parser.add_argument("--all", action="store_true", help="all that is wrong, and not only what is refused first")
     parser.add_argument("--json", action="store_true", help="all of this as one JSON object")
     parser.add_argument("--where", nargs="+", metavar="REFUSAL", help="the place of a refusal that `lucid` printed")
     parser.add_argument("--lucid", action=Once, metavar="COMMAND", help="another program than the built one")
@@ -48,9 +50,13 @@ def command_of(given: argparse.Namespace) -> str:
     return "run pipe" if given.scenario is not None else "layout" if given.limits is not None else "check"
 
 
-def shown(report: Report, given: argparse.Namespace) -> List[str]:
+def shown(report: Report, given: argparse.Namespace, every: List[Explanation]) -> List[str]:
     """Returns the lines that are asked for."""
     lines = [] if report.explanation is None else report.explanation.lines()
+    for made in every[1:]:
+        lines += ["", *made.lines(begins=False)]
+    if len(every) > 1:
+        lines += ["", f"{len(every)} mistakes" if len(every) < MOST else f"the first {MOST} mistakes are shown"]
     if given.nodes:
         lines += report.table
     if given.layout:
@@ -78,18 +84,26 @@ def run(given: argparse.Namespace) -> int:
     if program is not None:
         running = program.start(command, *(sources[os.fsencode(path)] or path for path in files), most=ITS_BYTES, seconds=ITS_SECONDS)
     report, left_out = Report(), ""
+    every: List[Explanation] = []
+
+    def work() -> None:
+        fill(report, words, lambda name: sources_data(sources, name), wanted)
+        if given.all:
+            report.part = "all but the first refusal"
+            every.extend(explain_all(words, lambda name: sources_data(sources, name)))
+
     try:
         words = [os.fsencode(word) for word in [*command.split(), *files]]
         wanted = bool(given.nodes or given.layout or given.placement or given.json)
         try:
-            deeply(lambda: fill(report, words, lambda name: sources_data(sources, name), wanted), SECONDS, MEGABYTES)
+            deeply(work, SECONDS, MEGABYTES)
         except Exceeded as why:
             left_out = f"left out: {report.part}, since {why}"
         ended = running.finish() if running else None
     finally:
         if running:
             running.close()
-    return tell(report, given, ended, left_out, command)
+    return tell(report, given, ended, left_out, command, every)
 
 
 def source_of(path: str) -> Optional[Source]:
@@ -108,7 +122,7 @@ def sources_data(sources: Dict[bytes, Optional[Source]], name: bytes) -> bytes:
     return source.data
 
 
-def tell(report: Report, given: argparse.Namespace, ended: Optional[Ended], left_out: str, command: str) -> int:
+def tell(report: Report, given: argparse.Namespace, ended: Optional[Ended], left_out: str, command: str, every: List[Explanation]) -> int:
     """Prints the explanation, below the line of the call; returns the exit code of the call."""
     answer = report.answer
     status, line = (answer.status, answer.err) if answer else (1, b"")
@@ -126,10 +140,11 @@ def tell(report: Report, given: argparse.Namespace, ended: Optional[Ended], left
         raise Error(f"{left_out}; and no program is built")
     first = line.decode("utf-8", "replace").rstrip("\n")
     if given.json:
-        write(json.dumps({"line": first or None, "status": status, **report.data(), "left_out": left_out or None}) + "\n")
+        more = {"all": [made.data() for made in every]} if given.all else {}
+        write(json.dumps({"line": first or None, "status": status, **report.data(), **more, "left_out": left_out or None}) + "\n")
         return status
     lines = [first] if first else []
-    lines += shown(report, given)
+    lines += shown(report, given, every)
     if first or given.nodes or given.layout or given.placement:
         lines += [left_out] if left_out else []
     else:

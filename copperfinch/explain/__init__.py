@@ -1,7 +1,8 @@
 """Explanations of refusals and of layouts, on the second implementation in copperfinch.model (not verified).
 
-`explain(words, read_file)` explains the call of `lucid` with these words; tools/explain is its command line. The modules are `words`
-for the text of each refusal, `places` for lines and columns, `nodes` for the nodes of a program, and `where` for the line of a refusal.
+`explain(words, read_file)` explains the call of `lucid` with these words, and `every.explain_all(words, read_file)` all that is wrong with
+it; tools/explain is their command line. The modules are `words` for the text of each refusal, `places` for lines and columns, `nodes` for
+the nodes of a program, `recover` for what is wrong behind a refusal, and `where` for the line of a refusal.
 """
 from __future__ import annotations
 
@@ -15,7 +16,7 @@ from ..model.passes import compose
 from ..model.refusals import Refused
 
 from .nodes import Described
-from .places import Place, Sources
+from .places import Edit, Place, Sources
 from .words import Words, words_of
 
 GREATEST = Limits(stages=32, tables=64, rows=1024, arrays=64, arms=64, bits=1048576)
@@ -23,7 +24,10 @@ GREATEST = Limits(stages=32, tables=64, rows=1024, arrays=64, arms=64, bits=1048
 
 @dataclass
 class Explanation:
-    """A refusal that is explained: its line, its words, its place where it has one, what else is to be said, and the nodes."""
+    """A refusal that is explained: its line, its words, its place where it has one, what else is to be said, and the nodes.
+
+    `edits` are the remedy where that is known to the byte: of the file of the place.
+    """
 
     refusal: str
     status: int
@@ -32,13 +36,14 @@ class Explanation:
     notes: List[Tuple[Place, str]] = field(default_factory=list)
     details: List[str] = field(default_factory=list)
     table: List[str] = field(default_factory=list)
+    edits: List[Edit] = field(default_factory=list)
 
-    def lines(self) -> List[str]:
-        """The explanation, without the refusal's own line."""
+    def lines(self, begins: bool = True) -> List[str]:
+        """The explanation, without the refusal's own line; `begins` says whether the place is named where its declaration begins."""
         head = self.place.head() + ': ' if self.place else ''
         lines = [f'{head}error: {self.words.problem}'] + (self.place.shown() if self.place else [])
         lines += [f'rule: {self.words.rule}', f'remedy: {self.words.remedy}']
-        for place, text in self.notes:
+        for place, text in self.notes if begins else [note for note in self.notes if not note[1].endswith('begins here')]:
             lines += [f'{place.head()}: note: {text}'] + place.shown()
         return lines + self.details + self.table
 
@@ -47,12 +52,13 @@ class Explanation:
         words = self.words
         return {'refusal': self.refusal, 'status': self.status, 'place': self.place.data() if self.place else None,
                 'problem': words.problem, 'expected': words.expected, 'found': words.found, 'rule': words.rule, 'remedy': words.remedy,
-                'notes': [{**place.data(), 'text': text} for place, text in self.notes], 'details': self.details}
+                'notes': [{**place.data(), 'text': text} for place, text in self.notes], 'details': self.details,
+                'edits': [edit.data() for edit in self.edits]}
 
 
-def fill_explanation(report: 'Report', answer: Answer, refused: Refused) -> None:
-    """Explains the refusal of an answer."""
-    sources, fault = Sources(answer), refused.fault
+def explanation_of(sources: Sources, refused: Refused) -> Explanation:
+    """Explains a refusal of the files of a call."""
+    fault = refused.fault
     assert fault is not None  # every refusal has one
     at, more = fault.at, {}
     if isinstance(at, tuple):
@@ -66,18 +72,25 @@ def fill_explanation(report: 'Report', answer: Answer, refused: Refused) -> None
     if at is None and notes:
         at = notes[0][0]
     made = Explanation(refused.line, refused.status, words, notes=[(sources.place('program', place), text) for place, text in notes])
-    report.explanation = made
     if at is not None:
         made.place = sources.place(refused.file, at)
         made.details = sources.copies(at) if refused.file == 'program' else []
     if fault.values and isinstance(fault.values[0], Layout):
-        fit = fault.values[0]
-        report.part = 'the nodes of the program'
-        described = Described(fit.code, sources)
+        described = Described(fault.values[0].code, sources)
         if refused.status == 7:
-            words.problem = described.problem(fit)
-            made.details += described.why(fit)
-        made.table = described.table(fit if refused.status == 7 else Layout(fit.code, fit.limits))
+            words.problem = described.problem(fault.values[0])
+            made.details += described.why(fault.values[0])
+    return made
+
+
+def fill_explanation(report: 'Report', answer: Answer, refused: Refused) -> None:
+    """Explains the refusal of an answer."""
+    sources, values = Sources(answer), refused.fault.values if refused.fault else ()
+    report.explanation = explanation_of(sources, refused)
+    if values and isinstance(values[0], Layout):
+        report.part = 'the nodes of the program'
+        fit = values[0]
+        report.explanation.table = Described(fit.code, sources).table(fit if refused.status == 7 else Layout(fit.code, fit.limits))
 
 
 @dataclass

@@ -116,7 +116,7 @@ class Described:
 
     def until(self, made: Layout, i: int) -> Layout:
         """First fit as it stood before a node."""
-        again = Layout(self.code, made.limits)
+        again = type(made)(self.code, made.limits)
         for n in again.nodes[:i]:
             again.place(n)
         return again

@@ -1,8 +1,9 @@
 """Places in the files of a call: line and column of a byte, of a value of a JSON file, and of the expanded program."""
 import json
 import re
+from bisect import bisect_right
 from dataclasses import dataclass
-from typing import Any, Dict, List, Optional, Tuple
+from typing import Any, Dict, List, Optional, Sequence, Tuple
 
 from ..model.answers import Answer
 from ..model.json_files import STRING
@@ -10,6 +11,7 @@ from ..streams import printable
 
 WIDEST = 140  # of a shown line
 PIECE = re.compile(STRING + r'|[][{}:,]|[^][{}:,"\s]+', re.DOTALL)
+TOKEN = re.compile(rb'\w+|"[^"\n]*"?|\|[+-]\||[-=!<>&|]=|<<|>>|&&|\|\||->|\S')
 
 Keys = Tuple[Any, ...]  # the keys and the numbers that lead to a value
 
@@ -23,6 +25,8 @@ class Place:
     column: int
     source: str
     caret: str
+    at: int = 0  # the byte in the file, from 0
+    end: int = 0  # the byte behind the token that stands there
 
     def head(self) -> str:
         """`file:line:column`."""
@@ -33,8 +37,28 @@ class Place:
         return [self.source, self.caret]
 
     def data(self) -> Dict[str, Any]:
-        """The place as JSON."""
-        return {'file': self.file, 'line': self.line, 'column': self.column}
+        """The place as JSON; `end` is the column behind its token."""
+        return {'file': self.file, 'line': self.line, 'column': self.column, 'end': self.column + self.end - self.at}
+
+
+@dataclass(frozen=True)
+class Edit:
+    """A change of a file: the bytes from `start` on, up to `end`, become `text`."""
+
+    start: int
+    end: int
+    text: str
+
+    def data(self) -> Dict[str, Any]:
+        """The edit as JSON."""
+        return {'start': self.start, 'end': self.end, 'text': self.text}
+
+
+def applied(data: bytes, edits: Sequence[Edit]) -> bytes:
+    """Returns a file with changes made, none of which meets another."""
+    for edit in sorted(edits, key=lambda one: one.start, reverse=True):
+        data = data[:edit.start] + edit.text.encode('latin-1') + data[edit.end:]
+    return data
 
 
 def place_in(file: str, data: bytes, at: int) -> Place:
@@ -91,15 +115,26 @@ class Sources:
         self.answer = answer
         program = answer.program
         self.expanded: Any = program.expanded if program is not None else None
+        self.begins: List[int] = [begin for begin, _ in self.expanded.pieces] if self.expanded is not None else []
         self.is_other = self.expanded is not None and self.expanded.text != program.text
+
+    def source_of(self, at: int) -> int:
+        """The byte of the program as it was given, of a byte of the expanded text."""
+        if self.expanded is None:
+            return at
+        begin, source = self.expanded.pieces[max(0, bisect_right(self.begins, at) - 1)]
+        return int(at + source - begin)
 
     def place(self, file: str, at: int) -> Place:
         """A place of the program as it was given, or of the limits, the scenario or the placement."""
-        if file == 'program' and self.expanded is not None:
-            begin, source = max((piece for piece in self.expanded.pieces if piece[0] <= at), default=(0, 0))
-            at += source - begin
+        if file == 'program':
+            at = self.source_of(at)
         data = self.answer.files[file]
-        return place_in(self.answer.call.files[file], data, min(at, len(data)))
+        at = min(at, len(data))
+        found = place_in(self.answer.call.files[file], data, at)
+        piece = TOKEN.match(data, at)
+        found.at, found.end = at, piece.end() if piece else at
+        return found
 
     def span(self, file: str, path: Keys, is_key: bool) -> Tuple[int, str]:
         """Where a value or a key is in a JSON file, and its text; what is not there is at the value round it."""

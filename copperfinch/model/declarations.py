@@ -4,7 +4,7 @@ from typing import Any, ChainMap, Container, List, Optional, Tuple
 from . import core, tree
 from .refusals import Fault, Refused
 from .statements import ALWAYS, Statements
-from .types import Entry, Expressions, bits, check_width, number, value_type
+from .types import Entry, Expressions, Type, bits, check_width, number, value_type
 from .values import COMPARE, MemAlu, MemArg
 
 MOST_ARRAYS, MOST = 64, 8  # MOST parameters, arguments and outs
@@ -182,11 +182,15 @@ class Elaboration:
         self.core.funs.append(made)
         return made
 
+    def statements(self, names: ChainMap[str, Entry], made: core.Body, answer: Optional[Type]) -> Statements:
+        """Returns the rules of the statements of a body."""
+        return Statements(names, made, self.core.forms, answer)
+
     def body(self, d: tree.Decl, number: int) -> core.Body:
         """Functions: a function with a value returns one on every path; a later parameter hides an earlier one of its name."""
         answer = None if d.type is None else value_type(d.type)
         made = core.Body(d.name.text, number, d.line, d.at, answer=None if answer is None else bits(answer))
-        rules = Statements(self.names.new_child(), made, self.core.forms, answer)
+        rules = self.statements(self.names.new_child(), made, answer)
         for p in d.params:
             if p.type is None:
                 check_width(p.width, p.at)

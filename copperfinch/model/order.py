@@ -86,6 +86,12 @@ class Order:
                     waiting.append(path + [y])
         return None
 
+    def refused(self, body: core.Body, cycle: List[ArrayName]) -> Refused:
+        """6 order: returns the refusal of a body by a cycle."""
+        line = f'order: declaration {body.decl} line {body.line} cycle'
+        at = next(self.scheme.needs[pair][1] for pair in zip(cycle, cycle[1:] + cycle[:1]) if pair in self.scheme.needs)
+        return Refused(6, ' '.join([line] + [self.names[x] for x in cycle]), Fault('cycle', at, line, self, cycle))
+
     def allows(self, names: List[str]) -> bool:
         """Whether these names are a cycle: none twice, each before the next, the last before the first, the earliest first."""
         def extends(path: List[ArrayName]) -> bool:
@@ -109,8 +115,6 @@ def check_order(c: core.Core) -> None:
         order = Order(found, names)
         cycle = order.cycle()
         if cycle is not None:
-            line = f'order: declaration {body.decl} line {body.line} cycle'
-            at = next(order.scheme.needs[pair][1] for pair in zip(cycle, cycle[1:] + cycle[:1]) if pair in order.scheme.needs)
-            refused[body.decl] = Refused(6, ' '.join([line] + [names[x] for x in cycle]), Fault('cycle', at, line, order, cycle))
+            refused[body.decl] = order.refused(body, cycle)
     if refused:
         raise refused[min(refused)]
