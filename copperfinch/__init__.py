@@ -1,4 +1,4 @@
-"""Copperfinch for Python: reads what `lucid` reads and prints, calls it, explains its refusals, and draws runs. Standard library only.
+"""Copperfinch for Python: reads what `lucid` reads and prints, calls it, explains its refusals, and draws runs. Standard library only, but for `testing`.
 
 docs/PYTHON.md has examples. The modules:
 
@@ -9,6 +9,7 @@ docs/PYTHON.md has examples. The modules:
     explain                  explanations of refusals, on the second implementation
     model                    that implementation of all commands; it is not verified
     draw, page               pictures and pages of runs
+    testing                  properties of a network, on scenarios that are drawn; it needs pytest and hypothesis
     command, commands        the command `lucid-tools` and the scripts of tools/
     errors, streams, bounded faults, files and streams, and work with a bound
 """
