@@ -5,6 +5,7 @@ A module of `copperfinch.commands` has its help as its docstring, its forms as `
 """
 import argparse
 import importlib
+import os
 import re
 import sys
 from typing import Any, Callable, NoReturn, Optional, Sequence
@@ -14,6 +15,7 @@ from .streams import complain, write
 
 COMMANDS = {
     "explain": "explains a refusal, or shows nodes, tables and first fit",
+    "fmt": "writes a program in one style",
     "where": "shows the place of a refusal",
     "stages": "shows how many stages a program needs, and why",
     "follow": "shows what became of an event, and what came of it",
@@ -24,6 +26,8 @@ COMMANDS = {
     "examples-table": "prints the table of the ten applications",
 }
 PROG = "lucid-tools"
+# Commands that are installed under a name of their own, too.
+SHORT = {"lucid-fmt": "fmt"}
 
 
 class Parser(argparse.ArgumentParser):
@@ -83,8 +87,11 @@ def run_tool(name: str, words: Sequence[str], prog: Optional[str] = None) -> int
 
 
 def main(words: Optional[Sequence[str]] = None) -> int:
-    """The command `lucid-tools`."""
-    words = sys.argv[1:] if words is None else words
+    """The command `lucid-tools`, and the commands that have a name of their own."""
+    if words is None:
+        words, called = sys.argv[1:], os.path.basename(sys.argv[0])
+        if called in SHORT:
+            return run_tool(SHORT[called], words, called)
     if words and words[0] in COMMANDS:
         return run_tool(words[0], words[1:])
     lines = [f"usage: {PROG} COMMAND WORDS, where COMMAND is one of", *(f"  {name:15} {what}" for name, what in COMMANDS.items())]

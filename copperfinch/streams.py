@@ -2,7 +2,7 @@
 import os
 import sys
 from dataclasses import dataclass
-from typing import Optional
+from typing import Optional, Union
 
 from .errors import Error
 
@@ -51,11 +51,11 @@ class Source:
         return os.path.isfile(self.name)
 
 
-def write(text: str) -> None:
+def write(text: Union[str, bytes]) -> None:
     """Writes to standard output. Raises Error if it is closed or full; nothing more is then written to it."""
     if sys.stdout is None:
         raise Error("the output can not be written: it is closed")
-    data = memoryview(text.encode("utf-8", "replace"))
+    data = memoryview(text.encode("utf-8", "replace") if isinstance(text, str) else text)
     try:
         while data:  # without a buffer, as with PYTHONUNBUFFERED, a write may take a part
             data = data[sys.stdout.buffer.write(data) or 0:]

@@ -44,11 +44,12 @@ _lucid_tool() {
     if [ "$tool" = lucid-tools ]; then
         if [ "$at" -eq 1 ]; then
             COMPREPLY=()
-            _lucid_words explain where stages follow page picture json scenario
+            _lucid_words explain where stages fmt follow page picture json scenario
             return
         fi
         tool=${COMP_WORDS[1]} at=$((at - 1))
     fi
+    tool=${tool#lucid-}
     COMPREPLY=()
     case $tool-$at in
         json-1) _lucid_words log layout audit drive snap ;;
@@ -57,6 +58,12 @@ _lucid_tool() {
             case ${COMP_WORDS[COMP_CWORD]} in
                 --*) [ "${COMP_WORDS[1]}" = log ] && _lucid_words --switches --ticks --without ;;
                 *) _lucid_files json log ;;
+            esac
+            ;;
+        fmt-*)
+            case ${COMP_WORDS[COMP_CWORD]} in
+                --*) _lucid_words --write --check ;;
+                *) _lucid_files luc ;;
             esac
             ;;
         where-1 | page-1 | explain-1 | stages-1 | follow-1) _lucid_files luc ;;
@@ -92,4 +99,4 @@ _lucid_tool() {
 }
 
 complete -F _lucid lucid ./lucid
-complete -F _lucid_tool lucid-tools tools/where tools/stages tools/follow tools/explain tools/json tools/picture tools/page tools/scenario
+complete -F _lucid_tool lucid-tools lucid-fmt tools/fmt tools/where tools/stages tools/follow tools/explain tools/json tools/picture tools/page tools/scenario

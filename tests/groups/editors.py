@@ -39,6 +39,8 @@ tools/json log --l|--limits
 tools/follow |a.luc
 tools/follow a.luc b.json b.json --b|--back
 tools/explain |a.luc
+lucid-fmt --ch|--check
+lucid-tools fmt a.luc |a.luc
 tools/explain a.luc --n|--nodes
 tools/scenario ri|rip
 lucid once a.luc packet |"""

@@ -90,6 +90,8 @@ def installed(group: Group, room: Path, prefix: Path, sums: str) -> None:
     group.check("lucid-tools json", ended.status == 0 and ended.out.startswith(b'{"kind":"event","at":0,'), ended)
     ended = without_kit(room, prefix / "bin/lucid-tools", "explain", examples / "crossed.luc")
     group.check("lucid-tools explain", ended.status == 6 and ended.out.startswith(b"order: declaration 4 line 5 cycle x y\n"), ended)
+    ended = without_kit(room, prefix / "bin/lucid-fmt", "--check", first, examples / "crossed.luc")
+    group.expect("lucid-fmt", ended, 0)
     page = without_kit(room, prefix / "bin/lucid-tools", "page", *(examples / f"heavy.{it}" for it in ("luc", "limits.json", "scenario.json")))
     group.check("lucid-tools page", page.status == 0 and b"</html>" in page.out and b"not proved" not in page.out, page)
     modes = [oct(path.stat().st_mode & 0o777) for path in (prefix / "lib/copperfinch/lucid_main", first)]

@@ -1,5 +1,5 @@
 #!/usr/bin/env python3
-"""The command `lucid-tools` of an installation. tools/install has put this file here, beside the package."""
+"""The command `lucid-tools` of an installation, and those beside it that link here. tools/install has put this file here, beside the package."""
 import sys
 from pathlib import Path
 

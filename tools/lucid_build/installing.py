@@ -107,7 +107,8 @@ def collect(allow_unproved: bool, prefix: str) -> Files:
     files[f"{HOME}/lucid"] = Text((TOP / "tools/lucid_build/installed.sh").read_bytes(), True)
     files["bin/lucid"] = Link(f"../{HOME}/lucid")
     files[f"{HOME}/lucid-tools"] = Text((TOP / "tools/lucid_build/installed_tools.py").read_bytes(), True)
-    files["bin/lucid-tools"] = Link(f"../{HOME}/lucid-tools")
+    for name in ("lucid-tools", "lucid-fmt"):
+        files[f"bin/{name}"] = Link(f"../{HOME}/lucid-tools")
     files.update(read_folder(TOP / "copperfinch", f"{HOME}/copperfinch"))
     files[f"{COMPLETIONS}/lucid-tools"] = Link("lucid")
     files[f"{COMPLETIONS}/lucid"] = Text((TOP / "tools/completion.bash").read_bytes())
