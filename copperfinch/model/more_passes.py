@@ -1,10 +1,10 @@
-"""Further passes, which bring code to fewer stages: `casts` and `lift` (crates/lucid_pass_more_spec/specs)."""
+"""Further passes, which bring code to fewer stages: `casts`, `sources` and `lift` (crates/lucid_pass_more_spec/specs)."""
 from collections import defaultdict
 from dataclasses import replace
-from typing import Callable, DefaultDict, List, Set, Tuple
+from typing import Callable, DefaultDict, Dict, List, Set, Tuple
 
 from .nodes import Code, Literal, Op
-from .passes import PASSES, dead
+from .passes import PASSES, dead, only_writers
 
 PURE = ('un', 'bin', 'cast', 'hash', 'move')
 
@@ -12,6 +12,41 @@ PURE = ('un', 'bin', 'cast', 'hash', 'move')
 def casts(code: Code) -> List[Op]:
     """A cast becomes a move, which writes the same bits; so the other passes see through it."""
     return [replace(op, kind='move') if op.kind == 'cast' else op for op in code.ops]
+
+
+def has_source(code: Code, op: Op) -> bool:
+    """Whether each literal of the field that it writes is one of its first operand, a field."""
+    if op.kind == 'move':
+        source = op.operands[0]
+        return source.is_field and code.widths[source.value] == code.widths[op.to]
+    if op.kind != 'bin' or op.sign != '!=':
+        return False
+    source, number = op.operands
+    return source.is_field and not number.is_field and op.width == code.widths[source.value] and number.value < 2 ** op.width
+
+
+def sources(code: Code) -> List[Op]:
+    """A literal of a field that is moved from another, or that compares another by `!=`, becomes a literal of that other field."""
+    guards: DefaultDict[int, List[Set[Literal]]] = defaultdict(list)
+    for op in code.ops:
+        for x in op.guard:
+            guards[x.field].append(set(op.guard))
+    seen: Dict[int, Op] = {}
+    for field, i in only_writers(code.ops).items():
+        writer = code.ops[i]
+        if has_source(code, writer) and all(set(writer.guard) <= guard for guard in guards[field]):
+            seen[field] = writer
+
+    def literal(x: Literal) -> Literal:
+        if x.field not in seen:
+            return x
+        writer = seen[x.field]
+        source = writer.operands[0].value
+        if writer.kind == 'move':
+            return Literal(source, x.equal, x.value)
+        return Literal(source, not (x.value == 1 if x.equal else x.value == 0), writer.operands[1].value)
+
+    return [replace(op, guard=tuple(literal(x) for x in op.guard)) for op in code.ops]
 
 
 def contradicts_itself(guard: Tuple[Literal, ...]) -> bool:
@@ -45,4 +80,5 @@ def lift(code: Code) -> List[Op]:
 # The four passes with the further ones between and behind them.
 FOUR = dict(PASSES)
 MORE: List[Tuple[str, Callable[[Code], List[Op]]]] = [
-    ('fold', FOUR['fold']), ('casts', casts), ('copies', FOUR['copies']), ('dead', dead), ('direct', FOUR['direct']), ('dead', dead), ('lift', lift)]
+    ('fold', FOUR['fold']), ('casts', casts), ('copies', FOUR['copies']), ('sources', sources), ('dead', dead), ('direct', FOUR['direct']),
+    ('dead', dead), ('lift', lift)]

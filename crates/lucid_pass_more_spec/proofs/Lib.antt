@@ -1,2 +1,3 @@
 pub mod CastsLemmas
 pub mod LiftLemmas
+pub mod SourcesLemmas

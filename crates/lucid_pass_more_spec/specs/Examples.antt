@@ -1,18 +1,28 @@
 -- Code that is worked by hand through the passes of this crate, on the fields of lucid_code's examples: inputs of 32, 32, 32 and 16 bits, then
 -- fields of 8, 1, 8 and 16 bits.
-use Rattle.std.specs.Prelude.{◌≡◌, [], ◌∷◌, Some, None}
+use Rattle.std.specs.Prelude.{◌≡◌, List, [], ◌∷◌, Some, None}
 use Rattle.lucid_base.specs.declared.ops.BinOp.TheVariants.{Add}
+use Rattle.lucid_base.specs.declared.ops.CmpOp.TheVariants.{Eq, Ne}
 use Rattle.lucid_base.specs.declared.ops.UnOp.TheVariants.{Neg}
 use Rattle.lucid_code.specs.declared.op.Act.{Act}
 use Rattle.lucid_code.specs.declared.op.Act.TheVariants as act
-use Rattle.lucid_code.specs.Examples.{add, bare, field, fixed, is, isnt, move, op}
+use Rattle.lucid_code.specs.declared.op.Op.{Op}
+use Rattle.lucid_code.specs.Examples.{add, bare, field, fixed, is, isnt, move, op, widths}
 use Rattle.lucid_pass_spec.specs.Examples.{copy, reader}
 use Rattle.lucid_pass_more_spec.specs.Casts.{uncast_ops}
 use Rattle.lucid_pass_more_spec.specs.Lift.{lift_ops}
+use Rattle.lucid_pass_more_spec.specs.Sources.{source_ops}
 
 -- A sum of field 3 and 1 in 16 bits, for field 7.
 abbrev pub sum : Act
 sum = act.Bin Add 16 (field 3) (fixed 1) 7
+
+abbrev pub source : List Op → List Op
+source = source_ops widths
+
+-- Field 5 says that field 3 differs from 7.
+abbrev pub differs_from_seven : Op
+differs_from_seven = bare (act.Cmp Ne 16 (field 3) (fixed 7) 5)
 
 pub record MoreExamples : Type 0 where
   -- `Casts`: of a field and of a number, under a guard; other acts stay
@@ -46,3 +56,17 @@ pub record MoreExamples : Type 0 where
   -- beside a call that writes the same field
   pub beside_call : lift_ops (op (is 3 2 ∷ is 5 1 ∷ []) 0 (add (fixed 0) (fixed 1) (Some 7)) ∷ op (is 3 2 ∷ is 5 0 ∷ []) 0 sum ∷ reader (is 3 2 ∷ []) 7 ∷ [])
       ≡ op (is 3 2 ∷ is 5 1 ∷ []) 0 (add (fixed 0) (fixed 1) (Some 7)) ∷ op (is 5 0 ∷ []) 0 sum ∷ reader (is 3 2 ∷ []) 7 ∷ []
+  -- `Sources`: a move of a field of the same width, and the four literals of an inequality
+  pub tests_source : source (bare (act.Move (field 3) 7) ∷ reader (is 7 5 ∷ isnt 7 6 ∷ []) 7 ∷ []) ≡ bare (act.Move (field 3) 7) ∷ reader (is 3 5 ∷ isnt 3 6 ∷ []) 7 ∷ []
+  pub says_they_differ : source (differs_from_seven ∷ reader (is 5 1 ∷ []) 3 ∷ reader (isnt 5 0 ∷ []) 3 ∷ []) ≡ differs_from_seven ∷ reader (isnt 3 7 ∷ []) 3 ∷ reader (isnt 3 7 ∷ []) 3 ∷ []
+  pub says_they_do_not : source (differs_from_seven ∷ reader (is 5 0 ∷ []) 3 ∷ reader (isnt 5 1 ∷ []) 3 ∷ []) ≡ differs_from_seven ∷ reader (is 3 7 ∷ []) 3 ∷ reader (is 3 7 ∷ []) 3 ∷ []
+  -- a narrower field, a second writer, and a reader outside the guard of the writer
+  pub narrow_source_stays : source (bare (act.Move (field 3) 4) ∷ reader (is 4 5 ∷ []) 3 ∷ []) ≡ bare (act.Move (field 3) 4) ∷ reader (is 4 5 ∷ []) 3 ∷ []
+  pub two_sources_stay : source (op (is 0 1 ∷ []) 0 (act.Move (field 3) 7) ∷ op (is 0 2 ∷ []) 0 (act.Move (fixed 3) 7) ∷ reader (is 0 1 ∷ is 7 5 ∷ []) 3 ∷ [])
+      ≡ op (is 0 1 ∷ []) 0 (act.Move (field 3) 7) ∷ op (is 0 2 ∷ []) 0 (act.Move (fixed 3) 7) ∷ reader (is 0 1 ∷ is 7 5 ∷ []) 3 ∷ []
+  pub outside_stays : source (op (is 0 1 ∷ []) 0 (act.Move (field 3) 7) ∷ reader (is 7 5 ∷ []) 3 ∷ []) ≡ op (is 0 1 ∷ []) 0 (act.Move (field 3) 7) ∷ reader (is 7 5 ∷ []) 3 ∷ []
+  pub inside_goes : source (op (is 0 1 ∷ []) 0 (act.Move (field 3) 7) ∷ reader (is 7 5 ∷ is 0 1 ∷ []) 3 ∷ []) ≡ op (is 0 1 ∷ []) 0 (act.Move (field 3) 7) ∷ reader (is 3 5 ∷ is 0 1 ∷ []) 3 ∷ []
+  -- a comparison of fewer bits, with a number that does not fit, or by another operator
+  pub fewer_bits_stay : source (bare (act.Cmp Ne 8 (field 3) (fixed 7) 5) ∷ reader (is 5 1 ∷ []) 3 ∷ []) ≡ bare (act.Cmp Ne 8 (field 3) (fixed 7) 5) ∷ reader (is 5 1 ∷ []) 3 ∷ []
+  pub wide_number_stays : source (bare (act.Cmp Ne 16 (field 3) (fixed 65543) 5) ∷ reader (is 5 1 ∷ []) 3 ∷ []) ≡ bare (act.Cmp Ne 16 (field 3) (fixed 65543) 5) ∷ reader (is 5 1 ∷ []) 3 ∷ []
+  pub equality_stays : source (bare (act.Cmp Eq 16 (field 3) (fixed 7) 5) ∷ reader (is 5 1 ∷ []) 3 ∷ []) ≡ bare (act.Cmp Eq 16 (field 3) (fixed 7) 5) ∷ reader (is 5 1 ∷ []) 3 ∷ []

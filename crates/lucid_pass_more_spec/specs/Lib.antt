@@ -1,3 +1,4 @@
 pub mod Casts
 pub mod Examples
 pub mod Lift
+pub mod Sources

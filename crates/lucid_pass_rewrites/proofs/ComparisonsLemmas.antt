@@ -22,7 +22,7 @@ use Rattle.lucid_pass.proofs.DeadLemmas.{marked_length, marked_at}
 use Rattle.lucid_pass_rewrites.proofs.CoveringLemmas.{all_taken, at_some, take_one_more}
 use Rattle.lucid_pass_rewrites.proofs.WritersLemmas.{found_at, writer_is}
 
-not_not : (b : Bool) → not (not b) ≡ b
+pub not_not : (b : Bool) → not (not b) ≡ b
 not_not true = refl
 not_not false = refl
 

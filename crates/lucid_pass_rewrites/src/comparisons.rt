@@ -74,7 +74,8 @@ fn test(widths: &[Width], w: Width, field: u32, value: u64) -> Option<Test>
     }
 }
 
-fn is_width(widths: &[Width], w: Width, field: u32) -> bool
+/// Returns whether the field has this width.
+pub(crate) fn is_width(widths: &[Width], w: Width, field: u32) -> bool
     ensures { result ≡ nat_eq w (slice_index widths.now field) }
 {
     match widths.get(field as usize) {

@@ -1,5 +1,5 @@
-// Passes that rewrite operations: `Fold` and `Copies` replace operands and acts, `Direct` replaces tests in guards. lucid_pass_spec defines
-// their results, and has the laws that these may replace the code.
+// Passes that rewrite operations: `Fold` and `Copies` replace operands and acts, `Direct` and `Sources` replace tests in guards.
+// lucid_pass_spec and lucid_pass_more_spec define their results, and have the laws that these may replace the code.
 // Promises: each pass makes exactly its definition, and counts the operations that it removed (the trait `Pass` of lucid_pass). Each runs
 // in time linear in the literals and operands of code whose guards begin like those of their neighbours, as those of lucid_normal do.
 // Used by lucid_main. Bodies, definitions and proofs may change; a public clause may only get stronger.
@@ -14,9 +14,11 @@ mod fold;
 mod guards;
 mod looks;
 mod settle;
+mod sources;
 mod trail;
 mod writers;
 
 pub use copies::Copies;
 pub use direct::Direct;
 pub use fold::Fold;
+pub use sources::Sources;

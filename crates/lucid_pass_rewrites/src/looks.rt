@@ -151,7 +151,8 @@ fn put(looks: Looks, widths: &[Width], k: u32, a: Operand) -> Operand
     }
 }
 
-fn width(widths: &[Width], k: u32) -> u8
+/// Returns the width of a field, and 0 past the fields.
+pub(crate) fn width(widths: &[Width], k: u32) -> u8
     ensures { result ≡ slice_index widths.now k }
 {
     match widths.get(k as usize) {

@@ -21,7 +21,7 @@ pub(crate) fn directed(alloc: Global, table: &[Option<Test>], ops: &[Op]) -> Res
     let mut long = 0;
     for i in 0..ops.len() {
         long = turn(table, ops, i, long, &mut made, &mut ends)?;
-        let op = directed_op(alloc, new.last(), made.as_slice(), &ops[i])?;
+        let op = with_guard(alloc, new.last(), made.as_slice(), &ops[i])?;
         new.push(op)?;
     }
     Ok(new)
@@ -87,8 +87,8 @@ fn push_new(made: &mut Vec<Literal>, literal: Literal) -> Result<(), Memory>
     Ok(())
 }
 
-/// The operation with these literals as its guard. `before` is the one before it.
-fn directed_op(
+/// Returns the operation with these literals as its guard. `before` is the new operation before it, which may share its guard.
+pub(crate) fn with_guard(
     alloc: Global,
     before: Option<&Op>,
     literals: &[Literal],
@@ -138,7 +138,8 @@ pub(crate) fn test_in(table: &[Option<Test>], c: u32) -> Option<Test>
     }
 }
 
-fn says(l: Literal) -> bool
+/// Returns whether a literal of a comparison's field says that the comparison holds.
+pub(crate) fn says(l: Literal) -> bool
     ensures { result ≡ says l }
 {
     if l.equal { l.value == 1 } else { l.value == 0 }

@@ -18,4 +18,14 @@ returns c = record {
   print_stays = refl;
   event_stays = refl;
   beside_call = refl;
+  tests_source = refl;
+  says_they_differ = refl;
+  says_they_do_not = refl;
+  narrow_source_stays = refl;
+  two_sources_stay = refl;
+  outside_stays = refl;
+  inside_goes = refl;
+  fewer_bits_stay = refl;
+  wide_number_stays = refl;
+  equality_stays = refl;
 }
