@@ -9,11 +9,12 @@ use Rattle.lucid_stages.specs.declared.stage.Seat.{Seat}
 use Rattle.lucid_stages.specs.declared.node.Work.{Work}
 use Rattle.lucid_stages.specs.declared.stage.Pair.{Pair}
 use Rattle.lucid_stages.specs.declared.stage.Stage.{Stage}
-use Rattle.lucid_stages.specs.Stage.{seats, laid, seated, with_table, no_tables}
+use Rattle.lucid_stages.specs.Stage.{seats, laid, seated, rows_at, with_table, no_tables}
 use Rattle.lucid_layout.specs.Fit.{StageFits, Admissible, Least, IsFirstFit, IsStuck}
 use Rattle.lucid_stages.specs.Marks.{fed_by, raised, lowest, floor, Within, zeros, end_marks}
-use Rattle.lucid_stages.specs.NodeTables.{few_on_the_way, merged, tables_of}
+use Rattle.lucid_stages.specs.NodeTables.{few_on_the_way, merged, tables_at, tables_of}
 use Rattle.lucid_layout.specs.Find.{Fits, Takes, TakesNone}
+use Rattle.lucid_stages.proofs.Growing.{too_many}
 use Rattle.lucid_stages.proofs.StageLemmas.{laid_length, filled_push}
 use Rattle.lucid_stages.proofs.MarksLemmas.{head_of, raised_length, length_zeros, Written, behind_to, behind_from, floor_zero, fed_by_marks}
 
@@ -50,7 +51,7 @@ record Counts (ops : List Op) (limits : Limits) (fields : ℕ) (done : List Seat
   pub written : Written fields done
 
 module _ (ops : List Op) (limits : Limits) (fields : ℕ) (done : List Seat) (stages : List Stage) (low : List ℕ) (n : Work) (later : List Work) (c : Counts ops limits fields done stages low)
-    (unwritten : fed_by (n ∷ later) n ≡ false) (few : few_on_the_way limits.rows (tables_of ops n) ≡ true) where
+    (unwritten : fed_by (n ∷ later) n ≡ false) where
   in_zeros : Written (length (zeros fields)) done
   in_zeros = subst (λ m. Written m done) (sym (length_zeros fields 0)) c.written
 
@@ -60,7 +61,6 @@ module _ (ops : List Op) (limits : Limits) (fields : ℕ) (done : List Seat) (st
     room = record {
       below = f.below;
       behind = (behind_to (zeros fields) done n p.stage in_zeros (subst (λ l. floor l n.reads ≤ p.stage) c.low_are f.above)).1;
-      calls = few;
       fits = subst (λ s. StageFits limits (slice_index_or s p.stage no_tables) n.is_array (merged (tables_of ops n)) p.table) c.stages_are f.fits;
     };
   }
@@ -123,7 +123,7 @@ module _ (ops : List Op) (limits : Limits) (fields i : ℕ) (nodes : List Work) 
 
     pub nowhere : TakesNone ops limits ends low stages n i → IsStuck ops limits [] nodes i
     nowhere none =
-        let here : IsStuck ops limits (seats nodes pairs) (n ∷ later) 0 = λ p a. none (fed ∙ a.written) a.room.calls p (admissible_from ops limits fields (seats nodes pairs) stages low n later counts a.written a.room.calls p a) in
+        let here : IsStuck ops limits (seats nodes pairs) (n ∷ later) 0 = λ p a. none (fed ∙ a.written) p (admissible_from ops limits fields (seats nodes pairs) stages low n later counts a.written p a) in
         subst (λ k. IsStuck ops limits [] nodes k) (omega arith) (m.stuck 0 (subst (λ ns. IsStuck ops limits (seats nodes pairs) ns 0) (sym split) here))
 
     pub further : (p : Pair) (made : Table) (stages' : List Stage) (low' : List ℕ) (pairs' : List Pair) → Takes ops limits ends low stages n i p made →
@@ -133,7 +133,7 @@ module _ (ops : List Op) (limits : Limits) (fields i : ℕ) (nodes : List Work) 
         let s : Seat = record { node = n; at = p } in
         let done = seats nodes pairs in
         let d : seats nodes (pairs ++ p ∷ []) ≡ done ++ s ∷ [] = seats_push nodes pairs i n p below e m.long in
-        let best : Least (Admissible ops limits done n later) p = least_to ops limits fields done stages low n later counts (sym fed ∙ takes.written) takes.calls p takes.least in
+        let best : Least (Admissible ops limits done n later) p = least_to ops limits fields done stages low n later counts (sym fed ∙ takes.written) p takes.least in
         let sat : stages' ≡ seated ops s stages = se ∙ ap (λ x. slice_set stages p.stage (with_table n.is_array p.table x (slice_index_or stages p.stage no_tables))) takes.made_is in
         subst (λ ps. Moment ops limits fields nodes (i + 1) stages' low' ps) (sym pe) (record {
           long = omega (arith, length-append pairs (p ∷ []), m.long);
@@ -144,6 +144,12 @@ module _ (ops : List Op) (limits : Limits) (fields i : ℕ) (nodes : List Work) 
           stuck = λ j g. subst (λ k. IsStuck ops limits [] nodes k) (omega arith)
               (m.stuck (suc j) (subst (λ ns. IsStuck ops limits done ns (suc j)) (sym split) (p, best, subst (λ ss. IsStuck ops limits ss later j) d g)));
         })
+
+-- a product of the node's first tables is too long for any table
+pub too_long : (ops : List Op) (limits : Limits) (ends low : List ℕ) (stages : List Stage) (n : Work) (i : ℕ) (places : List ℕ) →
+    places ≡ n.ops → few_on_the_way limits.rows (tables_at ops places) ≡ false → TakesNone ops limits ends low stages n i
+too_long ops limits ends low stages n i places is many = λ unwritten p f.
+    too_many limits.rows (rows_at (slice_index_or stages p.stage no_tables) p.table) (tables_of ops n) (subst (λ ps. few_on_the_way limits.rows (tables_at ops ps) ≡ false) is many) f.fits.table.rows
 
 -- the result for slices that hold the marks and the stages
 pub taken : (ops : List Op) (limits : Limits) (ends es low lo : List ℕ) (stages st : List Stage) (n : Work) (i : ℕ) (o : Option (Pair × Table)) (p : Pair) (made : Table) →

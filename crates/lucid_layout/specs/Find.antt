@@ -13,7 +13,7 @@ use Rattle.lucid_stages.specs.declared.stage.Pair.{Pair}
 use Rattle.lucid_stages.specs.declared.stage.Stage.{Stage}
 use Rattle.lucid_stages.specs.Stage.{rows_at, no_tables}
 use Rattle.lucid_stages.specs.Marks.{floor}
-use Rattle.lucid_stages.specs.NodeTables.{few_on_the_way, merged, tables_of}
+use Rattle.lucid_stages.specs.NodeTables.{merged, tables_of}
 use Rattle.lucid_layout.specs.declared.error.FitError.{FitError}
 use Rattle.lucid_layout.specs.declared.error.FitError.TheVariants.{Node as NoPlace, Memory}
 use Rattle.lucid_layout.specs.Fit.{TableFits, StageFits, Least, IsStuck}
@@ -36,15 +36,13 @@ TableAt stages more p made = made ≡ table (product (rows_at (slice_index_or st
 -- The node, number i, takes this place, at which the table is then `made`: no node from its own on writes its reads.
 pub record Takes (ops : List Op) (limits : Limits) (ends low : List ℕ) (stages : List Stage) (n : Work) (i : ℕ) (p : Pair) (made : Table) : Type 0 where
   pub written : list_any (λ k. nat_lt i (slice_index ends k)) n.reads ≡ false
-  pub calls : few_on_the_way limits.rows (tables_of ops n) ≡ true
   pub least : Least (Fits limits stages (floor low n.reads) n.is_array (merged (tables_of ops n))) p
   pub made_is : TableAt stages (merged (tables_of ops n)) p made
 
 -- It may have none.
 abbrev pub TakesNone : List Op → Limits → List ℕ → List ℕ → List Stage → Work → ℕ → Type 0
 TakesNone ops limits ends low stages n i =
-    list_any (λ k. nat_lt i (slice_index ends k)) n.reads ≡ false → few_on_the_way limits.rows (tables_of ops n) ≡ true
-    → (p : Pair) → Fits limits stages (floor low n.reads) n.is_array (merged (tables_of ops n)) p → ⊥
+    list_any (λ k. nat_lt i (slice_index ends k)) n.reads ≡ false → (p : Pair) → Fits limits stages (floor low n.reads) n.is_array (merged (tables_of ops n)) p → ⊥
 
 -- The meaning of an error for the nodes.
 abbrev pub Unplaced : List Op → Limits → List Work → FitError → Type 0

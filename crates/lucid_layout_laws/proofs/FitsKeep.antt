@@ -18,7 +18,6 @@ use Rattle.lucid_stages.specs.declared.stage.Stage.{Stage}
 use Rattle.lucid_stages.specs.Stage.{seats, is_at, put_at, rows_at, no_tables, with_node, seated, laid}
 use Rattle.lucid_layout.specs.Fit.{Admissible, IsFirstFit}
 use Rattle.lucid_stages.specs.Marks.{Behind, feeds}
-use Rattle.lucid_stages.specs.NodeTables.{few_on_the_way, tables_of}
 use Rattle.lucid_stages.specs.NodeWorks.{works}
 use Rattle.lucid_stages.proofs.StageLemmas.{laid_length, filled_push, stage_at as stage_of, table_at as table_of, put_same, put_other, none_yet}
 use Rattle.lucid_layout.proofs.LayoutLemmas.{in_order}
@@ -111,7 +110,7 @@ module _ (ops : List Op) (limits : Limits) (done : List Seat) (s : Seat) (later 
       let ns : nodes_at k t (done ++ s ∷ []) ≡ nodes_at k t done ++ s.node ∷ [] = nodes_push k t done s true (ap₂ (λ (x y : Bool). x && y) ex ey) in
       let was : rows_at (stage_of stages s.at.stage) s.at.table ≡ grown ops [] (nodes_at k t done) = ap₂ (λ (k t : ℕ). rows_at (stage_of stages k) t) place column ∙ ap (λ (x : Table). x.rows) (h.tables_are k t) in
       let fits : takes ops limits.rows (rows_at (stage_of stages s.at.stage) s.at.table) s.node ≡ true =
-      and_from (few_on_the_way limits.rows (tables_of ops s.node)) (nat_le (length (with_work ops (rows_at (stage_of stages s.at.stage) s.at.table) s.node)) limits.rows) a.room.calls (le-leb _ _ a.room.fits.table.rows) in (
+      le-leb _ _ a.room.fits.table.rows in (
         ap₂ (λ (k t : ℕ). table_of (stage_of (seated ops s stages) k) t) (sym place) (sym column) ∙ table_here ops stages s below a.room.fits.table.next ∙ ap (λ x. table (with_work ops x s.node)) was
             ∙ sym (ap table (grown_push ops [] (nodes_at k t done) s.node)) ∙ sym (ap (λ ns. table (grown ops [] ns)) ns),
         ap (few_rows ops limits.rows []) ns ∙ few_push ops limits.rows [] (nodes_at k t done) s.node (h.few k t) (ap (λ x. takes ops limits.rows x s.node) (sym was) ∙ fits),

@@ -5,7 +5,7 @@ use Rattle.lucid_conf.specs.declared.limits.Limits.{Limits}
 use Rattle.lucid_stages.specs.Counts.{CountsFit, bits_of, count_of, most_ops}
 use Rattle.lucid_layout.specs.Fit.{Admissible, IsFirstFit, IsStuck, Least, NotBefore}
 use Rattle.lucid_stages.specs.Marks.{Behind, fed_by, feeds}
-use Rattle.lucid_stages.specs.NodeTables.{few_on_the_way, merged, tables_of}
+use Rattle.lucid_stages.specs.NodeTables.{merged, tables_of}
 use Rattle.lucid_stages.specs.Stage.{laid, no_tables, rows_at}
 use Rattle.lucid_layout.specs.Layout.{IsLayout, IsRefused, stages_of}
 use Rattle.lucid_stages.specs.NodeWorks.{works}
@@ -41,10 +41,6 @@ at_most_decided m n = of (cases_lt n m)
     of : (n < m) ⊎ (m ≤ n) → Decided (m ≤ n)
     of (inl more) = inr (λ less. omega (arith, less, more))
     of (inr less) = inl less
-
-pub true_decided : (b : Bool) → Decided (b ≡ true)
-true_decided true = inl refl
-true_decided false = inr (λ same. absurd (cc))
 
 pub false_decided : (b : Bool) → Decided (b ≡ false)
 false_decided false = inl refl
@@ -98,30 +94,28 @@ module _ (ops : List Op) (limits : Limits) (done : List Seat) (n : Work) (later 
   -- The conditions of a place, one after another.
   abbrev May : ℕ → ℕ → Type 0
   May k t =
-      (fed_by (n ∷ later) n ≡ false) × ((k < limits.stages) × (Behind done n k × ((few_on_the_way limits.rows (tables_of ops n) ≡ true)
+      (fed_by (n ∷ later) n ≡ false) × ((k < limits.stages) × (Behind done n k
       × ((t ≤ length (stage k).tables) × ((t < limits.tables) × ((length (product (rows_at (stage k) t) (merged (tables_of ops n))) ≤ limits.rows)
-      × (n.is_array ≡ true → (stage k).arrays < limits.arrays)))))))
+      × (n.is_array ≡ true → (stage k).arrays < limits.arrays))))))
 
   may_decided : (k t : ℕ) → Decided (May k t)
   may_decided k t =
       both_decided (false_decided (fed_by (n ∷ later) n))
       (both_decided (less_decided k limits.stages)
       (both_decided (behind_decided n k done)
-      (both_decided (true_decided (few_on_the_way limits.rows (tables_of ops n)))
       (both_decided (at_most_decided t (length (stage k).tables))
       (both_decided (less_decided t limits.tables)
       (both_decided (at_most_decided (length (product (rows_at (stage k) t) (merged (tables_of ops n)))) limits.rows)
-      (asked_decided n.is_array (less_decided (stage k).arrays limits.arrays))))))))
+      (asked_decided n.is_array (less_decided (stage k).arrays limits.arrays)))))))
 
   admits : (k t : ℕ) → May k t → Admissible ops limits done n later (record { stage = k; table = t })
   admits k t may =
-      let last = may.1.1.1.1 in
+      let last = may.1.1.1 in
       record {
         written = may.0;
         room = record {
           below = may.1.0;
           behind = may.1.1.0;
-          calls = may.1.1.1.0;
           fits = record { table = record { next = last.0; below = last.1.0; rows = last.1.1.0 }; arrays = last.1.1.1 };
         };
       }
@@ -129,11 +123,11 @@ module _ (ops : List Op) (limits : Limits) (done : List Seat) (n : Work) (later 
   admitted : (p : Pair) → Admissible ops limits done n later p → May p.stage p.table
   admitted p a =
       let fits = a.room.fits in
-      (a.written, (a.room.below, (a.room.behind, (a.room.calls, (fits.table.next, (fits.table.below, (fits.table.rows, fits.arrays)))))))
+      (a.written, (a.room.below, (a.room.behind, (fits.table.next, (fits.table.below, (fits.table.rows, fits.arrays))))))
 
   -- The table of a place is one of the limits.
   in_tables : (k t : ℕ) → May k t → t < limits.tables
-  in_tables k t may = may.1.1.1.1.1.0
+  in_tables k t may = may.1.1.1.1.0
 
   -- No table of the stage admits the node, or one is the first.
   abbrev Full : ℕ → Type 0

@@ -1,24 +1,20 @@
 -- Laws of first fit.
-use Rattle.std.specs.Prelude.{◌≡◌, ◌≢◌, ◌⊎◌, ℕ, ◌<◌, ◌≤◌, List, [], IsTrue, true, length, nat_le, slice_index_or}
-use Rattle.lucid_code.specs.declared.op.Op.{Op}
+use Rattle.std.specs.Prelude.{◌≡◌, ◌≢◌, ◌⊎◌, ℕ, ◌≤◌, List, [], IsTrue, true, length}
 use Rattle.lucid_code.specs.Nodes.{nodes_follow_writes}
 use Rattle.lucid_code.specs.Parts.{CodeParts}
 use Rattle.lucid_merge.specs.Product.{product}
 use Rattle.lucid_tables.specs.declared.table.Row.{Row}
 use Rattle.lucid_tables.specs.Placed.{PlacedParts}
 use Rattle.lucid_conf.specs.declared.limits.Limits.{Limits}
-use Rattle.lucid_stages.specs.declared.node.Work.{Work}
 use Rattle.lucid_stages.specs.declared.stage.Pair.{Pair}
-use Rattle.lucid_stages.specs.declared.stage.Seat.{Seat}
-use Rattle.lucid_stages.specs.Marks.{Behind}
-use Rattle.lucid_stages.specs.NodeTables.{few_on_the_way, merged, tables_of}
-use Rattle.lucid_stages.specs.Stage.{laid, no_tables, seats}
+use Rattle.lucid_stages.specs.NodeTables.{few_on_the_way, merged}
+use Rattle.lucid_stages.specs.Stage.{seats}
 use Rattle.lucid_stages.specs.NodeWorks.{works}
 use Rattle.lucid_layout.specs.declared.error.FitError.{FitError}
 use Rattle.lucid_layout.specs.declared.error.FitError.TheVariants.{Memory}
-use Rattle.lucid_layout.specs.Fit.{HasRoom, IsFirstFit, IsStuck, NoRoom, StageFits}
+use Rattle.lucid_layout.specs.Fit.{IsFirstFit, IsStuck, NoRoom}
 use Rattle.lucid_layout.specs.Layout.{IsLayout, IsRefused}
-use Rattle.lucid_audit.specs.Audit.{KeepsRules, IsAudited, takes, with_work}
+use Rattle.lucid_audit.specs.Audit.{KeepsRules, IsAudited}
 
 -- A layout, or a cause of refusal other than a failed allocation.
 abbrev pub LayoutsAreThere : Type 0
@@ -40,12 +36,7 @@ pub record FirstFitsAreAccepted : Type 0 where
   pub rules : (code : CodeParts) (limits : Limits) (pairs : List Pair) → IsFirstFit code.ops limits [] (works code.ops) pairs → KeepsRules code.ops limits (seats (works code.ops) pairs)
   pub placed : (code : CodeParts) (limits : Limits) (placed : PlacedParts) → IsLayout code limits placed → (pairs : List Pair) × IsFirstFit code.ops limits [] (works code.ops) pairs × IsAudited code limits pairs placed
 
--- Merging a node's tables into a table with few enough rows needs no rule for the products on the way.
-pub record ProductsOnTheWayFit : Type 0 where
-  -- if a table has at most so many rows once these tables are merged with it, so has each product of the first of them, from two on
-  pub way : (most : ℕ) (table : List Row) (tables : List (List Row)) → length (product table (merged tables)) ≤ most → few_on_the_way most tables ≡ true
-  -- so a table that an audit accepts is one that has few enough rows with the node
-  pub takes_whole : (ops : List Op) (most : ℕ) (table : List Row) (n : Work) → takes ops most table n ≡ nat_le (length (with_work ops table n)) most
-  -- and a place has room if it fits behind the node's reads
-  pub room : (ops : List Op) (limits : Limits) (done : List Seat) (n : Work) (p : Pair) → p.stage < limits.stages → Behind done n p.stage
-      → StageFits limits (slice_index_or (laid ops limits done) p.stage no_tables) n.is_array (merged (tables_of ops n)) p.table → HasRoom ops limits done n p
+-- If a table has at most so many rows once these tables are merged with it, so has each product of the first of them, from two on. So no
+-- rule for a place asks for the products on the way.
+abbrev pub ProductsOnTheWayFit : Type 0
+ProductsOnTheWayFit = (most : ℕ) (table : List Row) (tables : List (List Row)) → length (product table (merged tables)) ≤ most → few_on_the_way most tables ≡ true

@@ -24,8 +24,7 @@ pub fn first_fits_are_accepted()
     ensures { FirstFitsAreAccepted }
 {}
 
-/// A node that fits into a table needs no rule for the products on the way: each has at most as many rows as the table with the node.
-#[tactic(auto, using(crate::proofs::Growing::products_on_the_way_fit))]
+/// Each product on the way to a node's table has at most as many rows as any table with the node.
 pub fn products_on_the_way_fit()
     ensures { ProductsOnTheWayFit }
 {}

@@ -1,4 +1,5 @@
 pub mod ExamplesLemmas
+pub mod Growing
 pub mod MarksLemmas
 pub mod NodeOrderLemmas
 pub mod NodeTablesLemmas

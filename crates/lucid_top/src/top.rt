@@ -178,7 +178,7 @@ pub fn lucid<F: Files, W: Sink, E: Sink, V: Watch>(
     ensures grows { (text : List ℕ) × Appends (W.written out.old) (W.written out.new) text }
     ensures said { result ≢ Status.Ok → (r : Refusal) × (status_of r ≡ result) ×
         Said E.written E.faults err.old err.new (line_of (bytes_of words.now) r) }
-    // if the passes keep each node after its reads, a node is refused only if no place has room for it: each exceeds a limit
+    // if the passes keep each node after its reads, a node is refused only if no place has room for it
     ensures room { (contents : List ℕ → Option (List ℕ)) → AgreesWithAll contents (F.heard files.new) →
         let q = asked words.now contents (passes_view called gives count passes.old.items) in
         KeepNodes (map gives passes.old.items) → result ≡ Status.NoFit → (r : Refusal) × (status_of r ≡ result) ×

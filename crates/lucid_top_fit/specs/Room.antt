@@ -1,4 +1,4 @@
--- When first fit refuses a node of an accepted program: only where a limit is exceeded.
+-- When first fit refuses a node of an accepted program: only where no place has room for it.
 use Rattle.std.specs.Prelude.{ℕ, ◌<◌, ◌^◌, List, [], All, Err, map}
 use Rattle.lucid_conf.specs.declared.limits.Limits.{Limits}
 use Rattle.lucid_core.specs.Parts.{CoreParts}
@@ -12,7 +12,7 @@ use Rattle.lucid_top_words.specs.declared.no_fit.NoFit.TheVariants as fit
 use Rattle.lucid_top_words.specs.declared.refusal.Refusal.TheVariants as refusal
 
 -- If the passes keep each node after its reads, a node is refused only because no place has room for it: the nodes before it are in their
--- least places, and after them every place exceeds a limit.
+-- least places, and after them no place has room for it.
 abbrev pub RefusedForRoom : CoreParts → Type 0
 RefusedForRoom core =
     (limits : Limits) (passes : List PassView) → KeepNodes (map PassView.gives passes) → (i : ℕ) → IsFitted core limits passes (Err (refusal.NoFit (fit.Node i))) →

@@ -171,7 +171,7 @@ fits = (
   record {
     holds = record {
       written = refl;
-      room = record { below = omega arith; behind = tt; calls = refl; fits = record { table = record { next = omega arith; below = omega arith; rows = omega arith }; arrays = λ is. omega arith } };
+      room = record { below = omega arith; behind = tt; fits = record { table = record { next = omega arith; below = omega arith; rows = omega arith }; arrays = λ is. omega arith } };
     };
     least = λ q a. first_of q;
   },

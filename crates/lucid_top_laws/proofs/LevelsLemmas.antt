@@ -14,7 +14,7 @@ use Rattle.lucid_stages.specs.declared.stage.Pair.{Pair}
 use Rattle.lucid_stages.specs.declared.stage.Seat.{Seat}
 use Rattle.lucid_stages.specs.declared.stage.Stage.{Stage}
 use Rattle.lucid_stages.specs.Marks.{Behind, fed_by, feeds}
-use Rattle.lucid_stages.specs.NodeTables.{few_on_the_way, merged, tables_of}
+use Rattle.lucid_stages.specs.NodeTables.{merged, tables_of}
 use Rattle.lucid_stages.specs.NodeWorks.{works}
 use Rattle.lucid_stages.specs.Stage.{laid, no_table, no_tables, put_at, rows_at, with_node}
 use Rattle.lucid_stages.proofs.StageLemmas.{filled_push, none_yet, stage_at}
@@ -175,20 +175,16 @@ module _ (ops : List Op) (limits : Limits) where
     abbrev few_rows : Bool
     few_rows = nat_le (length (product [] (merged (tables_of ops n)))) limits.rows && few_nodes
 
-    abbrev few_calls : Bool
-    few_calls = few_on_the_way limits.rows (tables_of ops n) && few_rows
-
     abbrev few_stages : Bool
-    few_stages = nat_lt level limits.stages && few_calls
+    few_stages = nat_lt level limits.stages && few_rows
 
     may : Admissible ops limits done n later own
     may =
         let a = and_parts (not (fed_by (n ∷ later) n)) few_stages room in
-        let b = and_parts (nat_lt level limits.stages) few_calls a.1 in
-        let c = and_parts (few_on_the_way limits.rows (tables_of ops n)) few_rows b.1 in
-        let d = and_parts (nat_le (length (product [] (merged (tables_of ops n)))) limits.rows) few_nodes c.1 in
-        let e = and_parts (nat_lt (nodes_on level ds) limits.tables) few_arrays d.1 in
-        let few = ltb-true (nodes_on level ds) limits.tables e.0 in
+        let b = and_parts (nat_lt level limits.stages) few_rows a.1 in
+        let c = and_parts (nat_le (length (product [] (merged (tables_of ops n)))) limits.rows) few_nodes b.1 in
+        let d = and_parts (nat_lt (nodes_on level ds) limits.tables) few_arrays c.1 in
+        let few = ltb-true (nodes_on level ds) limits.tables d.0 in
         let there = fits.tables level in
         let below : length (at ops limits done level).tables < limits.tables = omega (arith, few, there) in
         record {
@@ -196,15 +192,14 @@ module _ (ops : List Op) (limits : Limits) where
           room = record {
             below = ltb-true level limits.stages b.0;
             behind = level_behind done ds n level fits.same (at_most level);
-            calls = c.0;
             fits = record {
               table = record {
                 next = at_most (length (at ops limits done level).tables);
                 below = below;
                 rows = subst (λ (t : Table). length (product t.rows (merged (tables_of ops n))) ≤ limits.rows) (sym (past_end (at ops limits done level).tables))
-                    (leb-true (length (product [] (merged (tables_of ops n)))) limits.rows d.0);
+                    (leb-true (length (product [] (merged (tables_of ops n)))) limits.rows c.0);
               };
-              arrays = λ (is : n.is_array ≡ true). few_by (subst (λ (b : Bool). (if b then nat_lt (arrays_on level ds) limits.arrays else true) ≡ true) is e.1);
+              arrays = λ (is : n.is_array ≡ true). few_by (subst (λ (b : Bool). (if b then nat_lt (arrays_on level ds) limits.arrays else true) ≡ true) is d.1);
             };
           };
         }

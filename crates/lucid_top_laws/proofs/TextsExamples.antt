@@ -257,7 +257,7 @@ is_first = (
   record {
     holds = record {
       written = refl;
-      room = record { below = omega arith; behind = tt; calls = refl; fits = record { table = record { next = omega arith; below = omega arith; rows = omega arith }; arrays = λ is. omega arith } };
+      room = record { below = omega arith; behind = tt; fits = record { table = record { next = omega arith; below = omega arith; rows = omega arith }; arrays = λ is. omega arith } };
     };
     least = λ q a. first_of q;
   },
@@ -265,7 +265,7 @@ is_first = (
     record {
       holds = record {
         written = refl;
-        room = record { below = omega arith; behind = (λ feeds. false_true feeds, tt); calls = refl; fits = record { table = record { next = omega arith; below = omega arith; rows = omega arith }; arrays = λ is. omega arith } };
+        room = record { below = omega arith; behind = (λ feeds. false_true feeds, tt); fits = record { table = record { next = omega arith; below = omega arith; rows = omega arith }; arrays = λ is. omega arith } };
       };
       least = λ q a. first_of q;
     },

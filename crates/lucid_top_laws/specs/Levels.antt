@@ -8,7 +8,7 @@ use Rattle.lucid_merge.specs.Product.{product}
 use Rattle.lucid_stages.specs.Counts.{CountsFit}
 use Rattle.lucid_stages.specs.declared.node.Work.{Work}
 use Rattle.lucid_stages.specs.Marks.{fed_by, feeds}
-use Rattle.lucid_stages.specs.NodeTables.{few_on_the_way, merged, tables_of}
+use Rattle.lucid_stages.specs.NodeTables.{merged, tables_of}
 use Rattle.lucid_stages.specs.NodeWorks.{works}
 use Rattle.lucid_tables.specs.Placed.{PlacedParts}
 
@@ -38,9 +38,8 @@ arrays_on k (d ∷ done) = (if nat_eq d.level k && d.node.is_array then 1 else 0
 -- and the arrays of this level before it.
 abbrev pub has_room : List Op → Limits → List Leveled → Work → List Work → ℕ → Bool
 has_room ops limits done n later k =
-    not (fed_by (n ∷ later) n) && (nat_lt k limits.stages && (few_on_the_way limits.rows (tables_of ops n)
-    && (nat_le (length (product [] (merged (tables_of ops n)))) limits.rows
-    && (nat_lt (nodes_on k done) limits.tables && (if n.is_array then nat_lt (arrays_on k done) limits.arrays else true)))))
+    not (fed_by (n ∷ later) n) && (nat_lt k limits.stages && (nat_le (length (product [] (merged (tables_of ops n)))) limits.rows
+    && (nat_lt (nodes_on k done) limits.tables && (if n.is_array then nat_lt (arrays_on k done) limits.arrays else true))))
 
 -- So has each of these nodes at its level, after those before it.
 abbrev pub all_have_room : List Op → Limits → List Leveled → List Work → Bool

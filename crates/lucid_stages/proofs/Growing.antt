@@ -2,15 +2,13 @@
 -- has at most the rows of a table with that merged into it.
 use Rattle.std.proofs.Common.{◌≡◌, ℕ, suc, ◌+◌, ◌≤◌, List, [], ◌∷◌, ◌++◌, Bool, true, false, not, ◌&&◌, ◌||◌, ◌⊎◌, inl, inr, if◌then◌else◌, length, nat_eq, nat_le, refl, sym, ap, ap₂, subst, ◌∙◌, arith, length-append, ⊎_elim}
 use Rattle.std.specs.List.{list_any, fold}
-use Rattle.std.proofs.lemmas.Bool.{and_from, or_cases, or_left, or_right, true≢false, le-leb, leb-true, eqb-true, eq-eqb}
+use Rattle.std.proofs.lemmas.Bool.{and_from, or_cases, or_left, or_right, true≢false, le-leb, eqb-true, eq-eqb}
 use Rattle.lucid_code.specs.declared.op.Literal.{Literal}
 use Rattle.lucid_code.specs.Guards.{opposed, contradict}
 use Rattle.lucid_tables.specs.declared.table.Row.{Row}
 use Rattle.lucid_merge.specs.Product.{is_same, has, union, pair, default, clash, pairs_with, pairs, includes, keep, kept_of, product}
 use Rattle.lucid_merge.proofs.Literals.{has_union, included, includes_from, literal_is, same_refl}
-use Rattle.lucid_stages.specs.NodeTables.{few_behind, few_on_the_way, merged, tables_of}
-use Rattle.lucid_audit.specs.Audit.{with_work}
-use Rattle.lucid_layout_laws.specs.Laws.{ProductsOnTheWayFit}
+use Rattle.lucid_stages.specs.NodeTables.{few_behind, few_on_the_way, merged}
 
 -- ---- patterns
 
@@ -430,7 +428,7 @@ on_the_way most (u ∷ tables) t a h =
     let next = on_the_way most tables (product t u) (product_apart t u) h in
     (omega (arith, first_fits t u a, next.0), and_from (nat_le (length (product t u)) most) (few_behind most (product t u) tables) (le-leb (length (product t u)) most next.0) next.1)
 
-few_follow : (most : ℕ) (table : List Row) (tables : List (List Row)) → length (product table (merged tables)) ≤ most → few_on_the_way most tables ≡ true
+pub few_follow : (most : ℕ) (table : List Row) (tables : List (List Row)) → length (product table (merged tables)) ≤ most → few_on_the_way most tables ≡ true
 few_follow most table [] h = refl
 few_follow most table (t ∷ []) h = refl
 few_follow most table (t ∷ (u ∷ tables)) h =
@@ -438,21 +436,6 @@ few_follow most table (t ∷ (u ∷ tables)) h =
     let next = on_the_way most tables (product t u) (product_apart t u) (omega (arith, second_fits table (fold product (product t u) tables) whole, h)) in
     and_from (nat_le (length (product t u)) most) (few_behind most (product t u) tables) (le-leb (length (product t u)) most next.0) next.1
 
--- a test that follows from another
-and_absorbed : (a b : Bool) → (b ≡ true → a ≡ true) → (a && b) ≡ b
-and_absorbed true b f = refl
-and_absorbed false true f = f refl
-and_absorbed false false f = refl
-
-pub products_on_the_way_fit : ProductsOnTheWayFit
-products_on_the_way_fit = record {
-  way = few_follow;
-  takes_whole = λ ops most table n. and_absorbed (few_on_the_way most (tables_of ops n)) (nat_le (length (with_work ops table n)) most)
-      (λ h. few_follow most table (tables_of ops n) (leb-true (length (with_work ops table n)) most h));
-  room = λ ops limits done n p below behind fits. record {
-    below = below;
-    behind = behind;
-    calls = few_follow limits.rows _ (tables_of ops n) fits.table.rows;
-    fits = fits;
-  };
-}
+-- so a product on the way that is too long leaves no room in any table
+pub too_many : (most : ℕ) (table : List Row) (tables : List (List Row)) → few_on_the_way most tables ≡ false → length (product table (merged tables)) ≤ most → ⊥
+too_many most table tables many few = true≢false (sym (few_follow most table tables few) ∙ many)
