@@ -1,8 +1,7 @@
 -- The call that the program makes: `lucid` with the four passes in their order, and a watch that sees nothing.
-use Rattle.std.specs.Prelude.{◌≡◌, ◌≢◌, ◌⊎◌, ℕ, List, [], ◌∷◌, Option, None, codes, map}
+use Rattle.std.specs.Prelude.{◌≡◌, ◌≢◌, ◌⊎◌, ℕ, List, [], Option, None}
 use Rattle.std.specs.declared.io.ErrorKind.{ErrorKind}
 use Rattle.std.specs.declared.io.ErrorKind.TheVariants as kinds
-use Rattle.lucid_code.specs.Parts.{CodeParts}
 use Rattle.lucid_io.specs.Puts.{PutsAll}
 use Rattle.lucid_pass_spec.proofs.DirectRuns.{direct_replaces}
 use Rattle.lucid_pass_spec.proofs.Gone.{dead_replaces}
@@ -12,6 +11,7 @@ use Rattle.lucid_pass_spec.specs.Direct.{direct}
 use Rattle.lucid_pass_spec.specs.Looks.{copies, folded}
 use Rattle.lucid_pass_spec.specs.Replace.{Rewrite}
 use Rattle.lucid_top.specs.Call.{Ended}
+pub use Rattle.lucid_top_fit.specs.Ours.{AreOurs, our_makes}
 use Rattle.lucid_top_fit.specs.Passes.{PassView}
 use Rattle.lucid_top_words.specs.declared.refusal.Refusal.{Refusal}
 use Rattle.lucid_top_words.specs.declared.refusal.Refusal.TheVariants as refusal
@@ -34,15 +34,6 @@ dead_pass = record { makes = alive; keeps = dead_replaces }
 
 abbrev pub direct_pass : Rewrite
 direct_pass = record { makes = direct; keeps = direct_replaces }
-
--- the functions of the four passes, in their order
-abbrev pub our_makes : List (CodeParts → CodeParts)
-our_makes = folded ∷ copies ∷ alive ∷ direct ∷ []
-
--- These are the four passes in the order in which they run, by their names and their functions.
-pub record AreOurs (passes : List PassView) : Type 0 where
-  pub names : map PassView.name passes ≡ codes "fold" ∷ codes "copies" ∷ codes "dead" ∷ codes "direct" ∷ []
-  pub makes : map (λ p. p.gives.makes) passes ≡ our_makes
 
 -- The call ended as `lucid` does with these passes.
 pub record WithOurs (words : List Bytes) (files files' : FilesView) (out out' err err' : SinkView) (result : Status) : Type 0 where

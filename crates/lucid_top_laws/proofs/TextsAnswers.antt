@@ -33,13 +33,14 @@ use Rattle.lucid_top_fit.specs.Placing.{IsAudited, IsPlan}
 use Rattle.lucid_top_laws.proofs.TextsExamples.{accepted, audits, code, code_is, fits, has_normal, is_placed, limits, limits_are, normal_is, placed_there, plan, scene}
 use Rattle.lucid_top_laws.proofs.TextsProgram.{core, has_core}
 use Rattle.lucid_top_laws.proofs.TextsRun.{first_step, log_is, logged, net, second_step, sends, sights_are, sights_there_are}
-use Rattle.lucid_top_laws.specs.TextsWorked.{AreFour, AreSeen, event, ours, placement, sight, texts}
+use Rattle.lucid_top_fit.specs.Ours.{AreOurs, our_makes}
+use Rattle.lucid_top_laws.specs.TextsWorked.{AreSeen, event, placement, sight, texts}
 use Rattle.lucid_top_words.specs.Words.{Bytes}
 use Rattle.lucid_types_spec.proofs.Rolled as rolled
 
 -- The code that the passes make.
 abbrev pub made : CodeParts
-made = code_by ours core
+made = code_by our_makes core
 
 -- ---- the steps of the drive
 
@@ -164,8 +165,8 @@ there_text : fit_text names (fit_of removed (placed_there code)) ≡ codes "pass
 unfolding digits product
 there_text = refl
 
-module _ (views : List PassView) (four : AreFour views) where
-  pub same : MakeSame ours views
+module _ (views : List PassView) (four : AreOurs views) where
+  pub same : MakeSame our_makes views
   same c =
       subst (λ (makes : List (CodeParts → CodeParts)). fold (λ now (make : CodeParts → CodeParts). make now) (normal_of c) makes ≡ through (map PassView.gives views) (normal_of c)) four.makes
       (through_makes views (normal_of c))
@@ -173,7 +174,7 @@ module _ (views : List PassView) (four : AreFour views) where
   gone_is : (composed core views).gone ≡ removed
   gone_is = gone_makes views (normal_of core)
       ∙ ap (λ (makes : List (CodeParts → CodeParts)). gone_by makes (normal_of core)) four.makes
-      ∙ ap (gone_by ours) normal_is
+      ∙ ap (gone_by our_makes) normal_is
 
   -- The text of a layout by the placed code of these passes.
   text_is : (placed : CodeParts → PlacedParts) →

@@ -64,7 +64,8 @@ use Rattle.lucid_top_fit.specs.Placing.{IsAudited, IsPlan}
 use Rattle.lucid_types_spec.specs.Typed.{returning}
 use Rattle.lucid_top_laws.proofs.FlightExamples.{becomes, event_told, first as at_first, first_of}
 use Rattle.lucid_top_laws.proofs.TextsProgram.{core, has_core, steps}
-use Rattle.lucid_top_laws.specs.TextsWorked.{AllChange, AreTaken, IsInFlight, event, ours, placement, texts}
+use Rattle.lucid_top_fit.specs.Ours.{our_makes}
+use Rattle.lucid_top_laws.specs.TextsWorked.{AllChange, AreTaken, IsInFlight, event, placement, texts}
 
 -- ---- the limits and the scenario
 
@@ -217,8 +218,8 @@ after_copies = with_ops (copy ∷ add (Field 3) ∷ compare ∷ switch_by (act.M
 abbrev after_dead : CodeParts
 after_dead = with_ops (add (Field 3) ∷ compare ∷ send (is 5 1) (Fixed 1) ∷ [])
 
-pub code_is : code_by ours core ≡ code
-code_is = ap (λ (c : CodeParts). fold (λ now (make : CodeParts → CodeParts). make now) c ours) normal_is
+pub code_is : code_by our_makes core ≡ code
+code_is = ap (λ (c : CodeParts). fold (λ now (make : CodeParts → CodeParts). make now) c our_makes) normal_is
 
 count_apart : (a b : CodeParts) (n : ℕ) → length a.ops + suc n ≡ length b.ops → a ≢ b
 count_apart a b n more same = omega (arith, more, ap (λ (c : CodeParts). length c.ops) same)
@@ -230,14 +231,14 @@ false_true e = absurd (cc)
 read_apart : (k : ℕ) (a b : CodeParts) → is_read a.ops k ≡ false → is_read b.ops k ≡ true → a ≢ b
 read_apart k a b none some same = false_true (sym none ∙ ap (λ (c : CodeParts). is_read c.ops k) same ∙ some)
 
-all_change : AllChange ours normal
+all_change : AllChange our_makes normal
 all_change = (
   read_apart 6 after_fold normal refl refl,
   (read_apart 4 after_copies after_fold refl refl, (count_apart after_dead after_copies 1 refl, (count_apart code after_dead 0 refl, tt))),
 )
 
-changes : AllChange ours (normal_of core)
-changes = subst (AllChange ours) (sym normal_is) all_change
+changes : AllChange our_makes (normal_of core)
+changes = subst (AllChange our_makes) (sym normal_is) all_change
 
 pub few_calls : (g : ℕ) → g < 1 → count_of code g ≤ 8
 few_calls g less = let is_first : 0 ≡ g = omega (arith, less) in subst (λ (n : ℕ). count_of code n ≤ 8) is_first (omega arith)
@@ -273,7 +274,7 @@ is_first = (
   ),
 )
 
-abbrev pub fits : (law : ReadAsSpelled) → FirstFitPlaces ours (accepted law)
+abbrev pub fits : (law : ReadAsSpelled) → FirstFitPlaces our_makes (accepted law)
 fits law = record {
   normal = has_normal;
   counts = subst (λ (c : CodeParts). CountsFit c limits) (sym code_is) counts;
@@ -344,13 +345,13 @@ rules = record {
 pub audited : IsAudited limits code plan (Ok (placed_there code))
 audited = record { counts = counts; rules = rules; code_is = refl; stages_are = refl }
 
-abbrev pub audits : (law : ReadAsSpelled) → AuditAccepts ours (accepted law) placement
+abbrev pub audits : (law : ReadAsSpelled) → AuditAccepts our_makes (accepted law) placement
 audits law = record {
   normal = has_normal;
   counts = subst (λ (c : CodeParts). CountsFit c limits) (sym code_is) counts;
   plan = plan;
   plan_is = subst (λ (c : CodeParts). IsPlan placement (length (nodes c.ops)) (Ok plan)) (sym code_is) is_plan;
-  placed = placed_there (code_by ours core);
+  placed = placed_there (code_by our_makes core);
   accepts = subst (λ (c : CodeParts). IsAudited limits c plan (Ok (placed_there c))) (sym code_is) audited;
 }
 

@@ -30,7 +30,8 @@ use Rattle.lucid_top_laws.proofs.FlightExamples.{first as at_first, first_of}
 use Rattle.lucid_top_laws.proofs.TextsAnswers.{same}
 use Rattle.lucid_top_laws.proofs.TextsExamples.{code, code_is, few_calls, has_normal}
 use Rattle.lucid_top_laws.proofs.TextsProgram.{core, has_core}
-use Rattle.lucid_top_laws.specs.TextsWorked.{AreFour, narrow, texts}
+use Rattle.lucid_top_fit.specs.Ours.{AreOurs}
+use Rattle.lucid_top_laws.specs.TextsWorked.{narrow, texts}
 
 abbrev limits : Limits
 limits = record { stages = 1; tables = 1; rows = 1; arrays = 4; arms = 8; bits = 16384; recirc = 0 }
@@ -97,7 +98,7 @@ none = refusal.NoFit (fit.Node 1)
 abbrev Stuck : CodeParts → Type 0
 Stuck c = CountsFit c limits × IsStuck c.ops limits [] (works c.ops) 1
 
-module _ (views : List PassView) (four : AreFour views) where
+module _ (views : List PassView) (four : AreOurs views) where
   not_fitted : IsFitted core limits views (Err none)
   not_fitted = (Ok (composed core views), (has_normal, refl), (Err none, subst Stuck (sym code_is ∙ same views four core) (counts, is_stuck), refl))
 

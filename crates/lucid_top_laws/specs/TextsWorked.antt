@@ -8,15 +8,13 @@ use Rattle.lucid_code.specs.Nodes.{nodes}
 use Rattle.lucid_code.specs.Parts.{CodeParts}
 use Rattle.lucid_core.specs.Parts.{CoreParts}
 use Rattle.lucid_normal_spec.specs.Stands.{Happens}
-use Rattle.lucid_pass_spec.specs.Dead.{alive}
-use Rattle.lucid_pass_spec.specs.Direct.{direct}
-use Rattle.lucid_pass_spec.specs.Looks.{copies, folded}
 use Rattle.lucid_pipe.specs.Moves.{Move, after_moves, enter, go}
 use Rattle.lucid_pipe.specs.declared.sight.Sight.{Sight}
 use Rattle.lucid_tables.specs.Placed.{PlacedParts}
 use Rattle.lucid_top.specs.Answer.{Answers, Question}
 use Rattle.lucid_top.specs.Headline.{Accepted, AuditAccepts, FirstFitPlaces, Three, code_by, network_sights, placed_by, steps_sights}
 use Rattle.lucid_top_fit.specs.Fit.{normal_of}
+use Rattle.lucid_top_fit.specs.Ours.{AreOurs, our_makes}
 use Rattle.lucid_top_fit.specs.Passes.{PassView}
 use Rattle.lucid_top_laws.specs.Moves.{entries}
 use Rattle.lucid_top_laws.specs.Snapshots.{snapshot}
@@ -42,15 +40,6 @@ placement = codes "{\"nodes\":[[1,0],[0,0]]}"
 -- The limits of a target with one table of one row, in which only the first node has a place.
 abbrev pub narrow : Bytes
 narrow = codes "{\"stages\":1,\"tables\":1,\"rows\":1}"
-
--- The functions of the four passes of the program, in their order.
-abbrev pub ours : List (CodeParts → CodeParts)
-ours = folded ∷ copies ∷ alive ∷ direct ∷ []
-
--- These are the four passes, by their names and their functions.
-pub record AreFour (passes : List PassView) : Type 0 where
-  pub names : map PassView.name passes ≡ codes "fold" ∷ codes "copies" ∷ codes "dead" ∷ codes "direct" ∷ []
-  pub makes : map (λ p. p.gives.makes) passes ≡ ours
 
 -- Each of these functions changes the code that those before it leave.
 abbrev pub AllChange : List (CodeParts → CodeParts) → CodeParts → Type 0
@@ -88,12 +77,12 @@ pub record IsInFlight (placed : PlacedParts) (core : CoreParts) : Type 0 where
 -- are others; the code has two nodes, and each pass changes it. The moves happen as described, on either placement.
 pub record AreTaken : Type 0 where
   pub passes : List PassView
-  pub four : AreFour passes
+  pub four : AreOurs passes
   pub accepted : Accepted texts
   pub fits : FirstFitPlaces (makes_of (map PassView.gives passes)) accepted
   pub audits : AuditAccepts (makes_of (map PassView.gives passes)) accepted placement
-  pub nodes : length (nodes (code_by ours accepted.core).ops) ≡ 2
-  pub changes : AllChange ours (normal_of accepted.core)
+  pub nodes : length (nodes (code_by our_makes accepted.core).ops) ≡ 2
+  pub changes : AllChange our_makes (normal_of accepted.core)
   pub others : pairs_of audits.plan.pairs ≢ fits.places
   pub flies : IsInFlight (placed_by fits) accepted.core
   pub flies_there : IsInFlight audits.placed accepted.core
@@ -112,7 +101,7 @@ over_texts passes words = record {
 
 -- With the four passes these words have this answer.
 abbrev pub OursAnswer : List Bytes → Outcome → Type 0
-OursAnswer words o = (passes : List PassView) → AreFour passes → Answers (over_texts passes words) o
+OursAnswer words o = (passes : List PassView) → AreOurs passes → Answers (over_texts passes words) o
 
 -- ---- sights
 
@@ -133,8 +122,8 @@ after_ticks a b c d e =
 -- The sights of `run pipe` and of `run placed` after each tick, where the array is in the second stage, and those of `drive` after each step.
 pub record AreSeen : Type 0 where
   pub accepted : Accepted texts
-  pub fits : FirstFitPlaces ours accepted
-  pub audits : AuditAccepts ours accepted placement
+  pub fits : FirstFitPlaces our_makes accepted
+  pub audits : AuditAccepts our_makes accepted placement
   pub ticks : network_sights accepted (placed_by fits) ≡ after_ticks 0 5 10 17 17
   pub ticks_there : network_sights accepted audits.placed ≡ after_ticks 0 0 5 10 17
   pub steps : steps_sights fits ≡ sight 0 (0 ∷ []) 0 ∷ sight 0 (1 ∷ []) 5 ∷ sight 0 (1 ∷ 0 ∷ []) 5 ∷ sight 0 (0 ∷ []) 5 ∷ sight 0 (1 ∷ []) 10 ∷ []
