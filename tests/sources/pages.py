@@ -7,6 +7,7 @@ from typing import Callable, Dict, List, Optional, Tuple
 
 from .below import Repository
 from .crates import crates_page, item_table, libraries, wrong_bodies
+from .theorems import misquoted
 from .trusted import SUMS, Trusted
 
 PART = re.compile(r"(<!-- made by tests/pages: ([\w ]+?) -->\n)(.*?)(<!-- end -->)", re.S)
@@ -61,6 +62,6 @@ def all_pages(top: Path, kit: Optional[Path]) -> Tuple[Dict[str, str], List[str]
         if name not in ("docs/TRUSTED.md", SUMS):
             for part in re.findall(r"<!-- made by tests/pages: (.*?) -->\n(?!\n)", text):
                 repository.notes.add(f"{name} asks for a part that is not known: {part}")
-    wrong = repository.notes.found + unpromised(top, trusted)
+    wrong = repository.notes.found + unpromised(top, trusted) + misquoted(top)
     sums = top / SUMS
     return texts, wrong, trusted.changes(sums.read_text(encoding="utf-8")) if sums.is_file() else []

@@ -2,6 +2,7 @@
 from __future__ import annotations
 
 import re
+from pathlib import Path
 from typing import Dict, List, Set, Tuple
 
 from .below import Repository, Root
@@ -12,6 +13,9 @@ MAIN = "lucid_main"
 # The clauses that a reader meets first: what was written is right, the same where first fit places, and what it is compared with.
 FIRST = ("safe", "pipe", "whole")
 LAWS = re.compile(r"\b[Ll]aws? ((?:`\w+`(?:, | and |, and )?)+)")
+PAGE = "docs/THEOREMS.md"
+QUOTED = re.compile(r"^ {4}\S[^\n]*(?:\n {4}[^\n]*)*", re.M)
+NAMED = re.compile(r"(?:\w+/)*\w+\.(?:antt|rt)\b")
 
 
 def clauses_of_lucid(repository: Repository) -> List[Root]:
@@ -86,8 +90,7 @@ def functions(repository: Repository) -> Dict[str, List[str]]:
 
 def laws_of_theorems(repository: Repository, clauses: List[Root]) -> List[Root]:
     """Returns the clauses of each function that docs/THEOREMS.md names, in its order. A law that no crate exports is noted."""
-    page = "docs/THEOREMS.md"
-    text = (repository.top / page).read_text(encoding="utf-8")
+    text = (repository.top / PAGE).read_text(encoding="utf-8")
     named = {root.clause for root in clauses} | {LUCID[1]}
     crates = functions(repository)
     roots: List[Root] = []
@@ -98,7 +101,44 @@ def laws_of_theorems(repository: Repository, clauses: List[Root]) -> List[Root]:
             if name in exported(repository, crate):
                 places += [place for place in repository.found(crate, name, ("fn",)) if place[1].public]
         if not places and name in laws and not name.startswith("some_"):
-            repository.notes.add(f"{page}: names the law {name}, which no crate exports")
+            repository.notes.add(f"{PAGE}: names the law {name}, which no crate exports")
         for file, item in places:
             roots += repository.roots(file, item, name if len(places) == 1 else f"{file.crate}::{name}")
     return roots
+
+
+def misquoted(top: Path) -> List[str]:
+    """Returns the first line of each indented text of docs/THEOREMS.md that is in no source file that its section names.
+
+    `..` stands for what is left out: lines, or the rest of one.
+    """
+    wrong: List[str] = []
+    for section in re.split(r"^## ", (top / PAGE).read_text(encoding="utf-8"), flags=re.M)[1:]:
+        sources = [path.read_text(encoding="utf-8") for path in _named_files(top, section)]
+        for quoted in QUOTED.findall(section):
+            if not any(re.search(_pattern(quoted), source, re.M) for source in sources):
+                wrong.append(f"{PAGE} quotes a text that no file named there has: {quoted.strip().splitlines()[0][:100]}")
+    return wrong
+
+
+def _named_files(top: Path, section: str) -> List[Path]:
+    """Returns the source files that a section names: in full, or below the crate, or its specs/, that it named before."""
+    found: List[Path] = []
+    crate = top
+    for name in NAMED.findall(section):
+        if name.startswith("crates/"):
+            crate = top / "crates" / name.split("/")[1]
+            found.append(top / name)
+        else:
+            found += [crate / name, crate / "specs" / name]
+    return [path for path in found if path.is_file()]
+
+
+def _pattern(quoted: str) -> str:
+    """Returns a pattern of the lines of a quoted text, however they are indented."""
+    pattern = ""
+    for line in [line.strip() for line in quoted.splitlines()]:
+        rest = line.endswith("..")
+        text = re.escape(line[:-2].rstrip() if rest else line)
+        pattern += rf"^[ ]*{text}[^\n]*\n" if rest and text else r"(?:[^\n]*\n)*?" if rest else rf"^[ ]*{text}\n"
+    return pattern
