@@ -1,9 +1,12 @@
 """Explains a refusal of `lucid`, or shows the nodes and the layout of a program.
 
 With PROGRAM alone the call `check` is explained, with LIMITS `layout`, with SCENARIO `run pipe`, with PLACEMENT `run placed`; where
-SCENARIO is `-` there is none, and `audit` is explained. --all goes on behind the refusal, and explains all that is wrong. The first line is the program's own refusal: that of the built program if there
-is one (--lucid, $LUCID, or that of the checkout), or else that of the second implementation. All other lines come from that second
-implementation, copperfinch.model, which is not verified; if both differ, the call ends with 70.
+SCENARIO is `-` there is none, and `audit` is explained. --all goes on behind the refusal, and explains all that is wrong. --lint warns of
+what is accepted and probably wrong; tools/LINT.md has a section for each warning.
+
+The first line is the program's own refusal: that of the built program if there is one (--lucid, $LUCID, or that of the checkout), or else
+that of the second implementation. All other lines come from that second implementation, copperfinch.model, which is not verified; if both
+differ, the call ends with 70.
 
 An explanation that takes more than 6 seconds of a processor, or more than 300 MB, is left out, and a line says which part. Without LIMITS
 the nodes are placed within the greatest limits. The exit code is that of the explained call.
@@ -11,19 +14,21 @@ the nodes are placed within the greatest limits. The exit code is that of the ex
 import argparse
 import json
 import os
-from typing import Dict, List, Optional
+from dataclasses import dataclass, field
+from typing import Any, Dict, List, Optional
 
 from ..bounded import Exceeded, deeply
 from ..command import Once
 from ..errors import Error
 from ..explain import Explanation, Report, fill
 from ..explain.every import MOST, explain_all
+from ..lint import Warning, lint_answer
 from ..model import agrees
 from ..program import Ended, Program, Running, built
 from ..streams import Source, complain, printable, read_again, write
 from .where import show
 
-USAGE = "%(prog)s PROGRAM [LIMITS [SCENARIO [PLACEMENT]]] [--nodes] [--layout] [--placement] [--json] [--all] [--lucid COMMAND] | PROGRAM --where REFUSAL"
+USAGE = "%(prog)s PROGRAM [LIMITS [SCENARIO [PLACEMENT]]] [--nodes] [--layout] [--placement] [--json] [--all] [--lint] [--lucid COMMAND] | PROGRAM --where REFUSAL"
 SECONDS, MEGABYTES = 6, 300
 # The most seconds of a processor and bytes of output of the program's own call.
 ITS_SECONDS, ITS_BYTES = 9, 2**20
@@ -38,6 +43,7 @@ def add_words(parser: argparse.ArgumentParser) -> None:
     parser.add_argument("--layout", action="store_true", help="the tables of first fit, each with its nodes")
     parser.add_argument("--placement", action="store_true", help="first fit as a placement file, for `audit` and `run placed`")
     parser.add_argument("--all", action="store_true", help="all that is wrong, and not only what is refused first")
+    parser.add_argument("--lint", action="store_true", help="warnings of what is accepted and probably wrong")
     parser.add_argument("--json", action="store_true", help="all of this as one JSON object")
     parser.add_argument("--where", nargs="+", metavar="REFUSAL", help="the place of a refusal that `lucid` printed")
     parser.add_argument("--lucid", action=Once, metavar="COMMAND", help="another program than the built one")
@@ -50,13 +56,31 @@ def command_of(given: argparse.Namespace) -> str:
     return "run pipe" if given.scenario is not None else "layout" if given.limits is not None else "check"
 
 
-def shown(report: Report, given: argparse.Namespace, every: List[Explanation]) -> List[str]:
+@dataclass
+class Asked:
+    """What is asked for beside a report: all explanations, and the warnings."""
+
+    every: List[Explanation] = field(default_factory=list)
+    warnings: List[Warning] = field(default_factory=list)
+
+    def data(self, given: argparse.Namespace) -> Dict[str, Any]:
+        """What is asked for as JSON."""
+        found: Dict[str, Any] = {"all": [made.data() for made in self.every]} if given.all else {}
+        return {**found, "warnings": [made.data() for made in self.warnings]} if given.lint else found
+
+
+def shown(report: Report, given: argparse.Namespace, asked: Asked) -> List[str]:
     """Returns the lines that are asked for."""
+    every = asked.every
     lines = [] if report.explanation is None else report.explanation.lines()
     for made in every[1:]:
         lines += ["", *made.lines(begins=False)]
     if len(every) > 1:
         lines += ["", f"{len(every)} mistakes" if len(every) < MOST else f"the first {MOST} mistakes are shown"]
+    for warning in asked.warnings:
+        lines += [*warning.lines(), ""]
+    if given.lint and report.explanation is None:
+        lines.append(f"{len(asked.warnings)} warning{'s' * (len(asked.warnings) != 1)}")
     if given.nodes:
         lines += report.table
     if given.layout:
@@ -84,13 +108,16 @@ def run(given: argparse.Namespace) -> int:
     if program is not None:
         running = program.start(command, *(sources[os.fsencode(path)] or path for path in files), most=ITS_BYTES, seconds=ITS_SECONDS)
     report, left_out = Report(), ""
-    every: List[Explanation] = []
+    asked = Asked()
 
     def work() -> None:
         fill(report, words, lambda name: sources_data(sources, name), wanted)
         if given.all:
             report.part = "all but the first refusal"
-            every.extend(explain_all(words, lambda name: sources_data(sources, name)))
+            asked.every = explain_all(words, lambda name: sources_data(sources, name))
+        if given.lint and report.answer is not None:
+            report.part = "the warnings"
+            asked.warnings = lint_answer(report.answer)
 
     try:
         words = [os.fsencode(word) for word in [*command.split(), *files]]
@@ -103,7 +130,7 @@ def run(given: argparse.Namespace) -> int:
     finally:
         if running:
             running.close()
-    return tell(report, given, ended, left_out, command, every)
+    return tell(report, given, ended, left_out, command, asked)
 
 
 def source_of(path: str) -> Optional[Source]:
@@ -122,7 +149,7 @@ def sources_data(sources: Dict[bytes, Optional[Source]], name: bytes) -> bytes:
     return source.data
 
 
-def tell(report: Report, given: argparse.Namespace, ended: Optional[Ended], left_out: str, command: str, every: List[Explanation]) -> int:
+def tell(report: Report, given: argparse.Namespace, ended: Optional[Ended], left_out: str, command: str, asked: Asked) -> int:
     """Prints the explanation, below the line of the call; returns the exit code of the call."""
     answer = report.answer
     status, line = (answer.status, answer.err) if answer else (1, b"")
@@ -140,12 +167,11 @@ def tell(report: Report, given: argparse.Namespace, ended: Optional[Ended], left
         raise Error(f"{left_out}; and no program is built")
     first = line.decode("utf-8", "replace").rstrip("\n")
     if given.json:
-        more = {"all": [made.data() for made in every]} if given.all else {}
-        write(json.dumps({"line": first or None, "status": status, **report.data(), **more, "left_out": left_out or None}) + "\n")
+        write(json.dumps({"line": first or None, "status": status, **report.data(), **asked.data(given), "left_out": left_out or None}) + "\n")
         return status
     lines = [first] if first else []
-    lines += shown(report, given, every)
-    if first or given.nodes or given.layout or given.placement:
+    lines += shown(report, given, asked)
+    if first or given.lint or given.nodes or given.layout or given.placement:
         lines += [left_out] if left_out else []
     else:
         lines = ["nothing is refused"]
