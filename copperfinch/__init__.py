@@ -5,7 +5,9 @@ docs/PYTHON.md has examples. The modules:
     program                  calls of the built program
     log, layout, drive       readers of its answers; `lines` has what they share
     files, scenarios         limits, scenarios and placements; scenarios that are drawn
-    network                  the queues of a network: where each event of a log came from, and when it was ready
+    network, follow          the ledger of a run: what became of each event; and its text
+    cells                    the changes of cells in a run
+    labels, runs             formats and names that a user gives; the files of a run for tools
     explain                  explanations of refusals, on the second implementation
     model                    that implementation of all commands; it is not verified
     draw, page               pictures and pages of runs

@@ -19,6 +19,7 @@ COMMANDS = {
     "where": "shows the place of a refusal",
     "stages": "shows how many stages a program needs, and why",
     "follow": "shows what became of an event, and what came of it",
+    "cells": "prints the changes of cells",
     "page": "writes a run as one HTML file",
     "picture": "draws a log, a layout or a drive",
     "json": "turns an answer into JSON",

@@ -11,7 +11,8 @@ from .program import Program
 from .streams import ANSWER, Source, read
 
 FILES = "PROGRAM LIMITS SCENARIO"
-OPTIONS = "[--log LOG] [--lucid COMMAND] [--show NAME=FORMAT,..] [--names NUMBER=NAME,..]"
+SHOWN = "[--show NAME=FORMAT,..] [--names NUMBER=NAME,..]"
+OPTIONS = f"[--log LOG] [--lucid COMMAND] {SHOWN}"
 
 
 @dataclass

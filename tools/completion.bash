@@ -45,6 +45,7 @@ _lucid_tool() {
         if [ "$at" -eq 1 ]; then
             COMPREPLY=()
             _lucid_words explain where stages fmt follow page picture json scenario
+            _lucid_words explain where stages follow cells page picture json scenario
             return
         fi
         tool=${COMP_WORDS[1]} at=$((at - 1))
@@ -67,6 +68,7 @@ _lucid_tool() {
             esac
             ;;
         where-1 | page-1 | explain-1 | stages-1 | follow-1) _lucid_files luc ;;
+        where-1 | page-1 | explain-1 | stages-1 | follow-1 | cells-1) _lucid_files luc ;;
         stages-2) _lucid_files json ;;
         scenario-1) _lucid_words aging countmin dns firewall flowcache gateways nat reroute rip sro ;;
         explain-*)
@@ -82,6 +84,12 @@ _lucid_tool() {
                 *) _lucid_files json log ;;
             esac
             ;;
+        cells-*)
+            case ${COMP_WORDS[COMP_CWORD]} in
+                --*) _lucid_words --switch --json --log --lucid --show --names ;;
+                *) _lucid_files json log ;;
+            esac
+            ;;
         json-*)
             case ${COMP_WORDS[COMP_CWORD]} in
                 --*) _lucid_words --limits --scenario ;;
@@ -90,7 +98,7 @@ _lucid_tool() {
             ;;
         page-*)
             case ${COMP_WORDS[COMP_CWORD]} in
-                --*) _lucid_words --lucid --cells ;;
+                --*) _lucid_words --lucid --cells --show --names ;;
                 *) _lucid_files json ;;
             esac
             ;;
@@ -100,3 +108,4 @@ _lucid_tool() {
 
 complete -F _lucid lucid ./lucid
 complete -F _lucid_tool lucid-tools lucid-fmt tools/fmt tools/where tools/stages tools/follow tools/explain tools/json tools/picture tools/page tools/scenario
+complete -F _lucid_tool lucid-tools tools/where tools/stages tools/follow tools/cells tools/explain tools/json tools/picture tools/page tools/scenario

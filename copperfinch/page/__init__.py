@@ -2,24 +2,25 @@
 import json
 import os
 import re
-from concurrent.futures import ThreadPoolExecutor
 from pathlib import Path
-from typing import Any, Dict, List, Optional, Tuple
+from typing import Any, Dict, List, Tuple, Union
 
+from ..cells import history
 from ..errors import Error
-from ..files import object_of, read_limits, read_scene
+from ..files import read_limits, read_scene
+from ..labels import Labels
 from ..layout import read_layout
-from ..lines import Json
-from ..log import read_cells, read_log
+from ..lines import Json, Said, Sent
+from ..log import read_log
 from ..model.lexer import PIECE, RESERVED, scan
-from ..network import Ledger, trace
+from ..network import Ledger, Packet, trace
 from ..program import Program, ProgramError
 from ..streams import Source
 
-Change = List[Any]  # tick, array, index and new value of a cell
+Change = List[Any]  # the event, the array, the cell, and its old and new value, as numbers and as they are shown
 ABOUT = [
-    "From the program: the log (of `run whole`; `run pipe` printed the same bytes if the program fits), the layout, and the cells. The cells after tick t are those that `run whole` prints for this scenario with a stop of t + 1.",
-    "Computed by tools/page: from where each event came and when it was ready. It follows the queues by the limits and the scenario, and refuses a log that does not fit them.",
+    "From the program: the log (of `run whole`; `run pipe` printed the same bytes if the program fits) and the layout. The changes of cells come from the second implementation, which runs each event of the log once; what it sends and its cells at the end are those of the log.",
+    "Computed by tools/page: from where each event came, when it was ready, and why it was lost. It follows the queues by the limits and the scenario, and refuses a log that does not fit them.",
     "Computed in this page: a packet that entered k ticks before the chosen tick is before stage k. The cells of the arrays of stage k after tick t are those after tick t - k - 1, since the packets that have traversed stage k are those that entered by then. Both are a theorem about the program's pipelines (`Holds` in crates/lucid_net/specs/Holds.antt).",
     "A coloured cell was changed by the packet that traversed the stage last. Arrays that are declared twice with one name are shown together.",
 ]
@@ -56,37 +57,42 @@ def handlers_of(data: bytes) -> Dict[str, List[int]]:
     return {name: lines[::-1] for name, lines in {**found["event"], **found["handle"]}.items()}
 
 
-def cells_of(lucid: Program, program: Source, limits: Source, scenario: Json, ticks: List[int], switches: int) -> List[List[Change]]:
-    """Returns the changes of the cells of each switch: one call of `run whole` for each tick. Values are texts, since a script's numbers round."""
-    def cells(tick: int) -> Dict[Tuple[int, str, int], int]:
-        stopped = Source("scenario", json.dumps({**scenario, "stop": tick + 1, "steps": []}).encode())
-        found = read_cells(lucid.answer("run whole", program, limits, stopped))
-        return {(it.switch, it.array, it.index): it.value for it in found}
-
-    changes: List[List[Change]] = [[] for _ in range(switches)]
-    before: Dict[Tuple[int, str, int], int] = {}
-    with ThreadPoolExecutor(4) as pool:
-        for tick, now in zip(ticks, pool.map(cells, ticks)):
-            for key in sorted(before.keys() | now.keys()):
-                if before.get(key, 0) != now.get(key, 0):
-                    changes[key[0]].append([tick, key[1], key[2], str(now.get(key, 0))])
-            before = now
-    return changes
+def exact(value: int) -> Union[int, str]:
+    """A tick as a script can keep it: those that a float rounds are texts."""
+    return value if value < 2**53 else str(value)
 
 
-def final(changes: List[List[Change]]) -> Dict[Tuple[int, str, int], str]:
-    """Returns the cells after all changes that are not 0."""
-    found = {(switch, array, index): value for switch, its in enumerate(changes) for _, array, index, value in its}
-    return {key: value for key, value in found.items() if value != "0"}
+def cells_of(program: Source, found: Ledger, labels: Labels) -> Tuple[List[str], List[Change]]:
+    """Returns the names of the arrays, and all changes of cells. Values are texts, since a script's numbers round."""
+    made = history(program, found)
+    names = [array.name for array in made.arrays]
+    changes: List[Change] = []
+    for it in made.changes:
+        shown = [labels.value(names[it.array], value) for value in (it.old, it.new)] if names[it.array] in labels.cells else []
+        changes.append([it.event, it.array, it.cell, str(it.old), str(it.new), *shown])
+    return names, changes
 
 
-def events_of(found: Ledger) -> List[Json]:
-    """Returns the events of the log with where each came from. Arguments are texts, since a script's numbers round."""
+def out_of(out: Union[Sent, Said], packets: Dict[int, Packet], at: int, labels: Labels) -> Json:
+    """An out of an event."""
+    if isinstance(out, Said):
+        return {"kind": "say", "text": out.text}
+    packet = packets[at]
+    return {"kind": "generate", "label": labels.call(out.name, out.args), "switch": packet.switch, "sent": exact(packet.sent), "event": packet.number,
+            "lost": packet.fate.is_lost, "why": packet.why()}
+
+
+def events_of(found: Ledger, blocks: List[str], labels: Labels) -> List[Json]:
+    """Returns the events of the log: their texts, where each came from, what it waited behind, and what became of what it sent."""
     events: List[Json] = []
-    for event, entry in zip(found.log.events, found.entries):
-        outs = [{**out, "args": list(map(str, out["args"]))} if "args" in out else out for out in event.json()["outs"]]
-        events.append({"at": event.tick, "switch": event.switch, "name": event.name, "args": list(map(str, event.args)), "outs": outs,
-                       "line": event.line, "ready": entry.ready, "sender": entry.sender, "out": None if entry.sender is None else entry.out, "file": entry.file})
+    for number, (event, packet) in enumerate(zip(found.log.events, found.entries)):
+        packets = {it.out: it for it in found.sends[number]}
+        raw, label = event.label(), labels.call(event.name, event.args)
+        events.append({
+            "at": event.tick, "switch": event.switch, "name": event.name, "label": label, "line": event.line, "block": blocks[number],
+            "ready": packet.ready, "waited": packet.waited, "behind": found.behind(packet)[:5], "sent": packet.sent, "sender": packet.sender,
+            "file": packet.file, "outs": [out_of(out, packets, at, labels) for at, out in enumerate(event.outs)], **({} if raw == label else {"raw": raw}),
+        })
     return events
 
 
@@ -96,7 +102,7 @@ def blocks_of(log: bytes, found: Ledger) -> List[str]:
     return ["\n".join(lines[it.line - 1:it.line + len(it.outs)]) for it in found.log.events]
 
 
-def data_of(lucid: Program, program: Source, limits: Source, scenario: Source, most: int) -> Json:
+def data_of(lucid: Program, program: Source, limits: Source, scenario: Source, most: int, labels: Labels) -> Json:
     """Returns all that the page shows; cells if events enter at no more than `most` ticks."""
     log = lucid.answer("run whole", program, limits, scenario)
     bounds, scene = read_limits(limits.data), read_scene(scenario.data)
@@ -107,31 +113,26 @@ def data_of(lucid: Program, program: Source, limits: Source, scenario: Source, m
     fits = laid.status == 0
     if fits and lucid.answer("run pipe", program, limits, scenario) != log:
         raise Error("run pipe and run whole printed different logs")
-    ticks = sorted({it.tick for it in found.log.events})
-    cells: Optional[List[List[Change]]] = None
+    ticks = len({it.tick for it in found.log.events})
     about = list(ABOUT)
-    if not lucid.is_kept:
-        about.append("Cells are not shown, since no program is built.")
-    elif len(ticks) > most:
-        about.append(f"Cells are not shown: events enter at {len(ticks)} ticks, more than {most}.")
-    elif fits:
-        cells = cells_of(lucid, program, limits, object_of(scenario.data, "scenario"), ticks, scene.switches)
-        if final(cells) != {(it.switch, it.array, it.index): str(it.value) for it in found.log.cells}:
-            raise Error("the cells after the last tick are not those of the log")
+    names, cells = cells_of(program, found, labels) if fits and ticks <= most else ([], None)
+    if fits and cells is None:
+        about.append(f"Cells are not shown: events enter at {ticks} ticks, more than {most}.")
     layout = read_layout(laid.out) if fits else None
-    names = ", ".join(os.path.basename(source.name) for source in (program, limits, scenario))
+    files = ", ".join(os.path.basename(source.name) for source in (program, limits, scenario))
     return {
         "name": os.path.basename(program.name), "limits": bounds.__dict__, "program": lines_of(program.data), "handlers": handlers_of(program.data),
-        "switches": scene.switches, "stop": scene.stop, "end": list(found.log.end or ()), "events": events_of(found), "blocks": blocks_of(log, found),
+        "switches": scene.switches, "named": [labels.names.get(it) for it in range(scene.switches)], "stop": scene.stop, "end": list(found.log.end or ()),
+        "events": events_of(found, blocks_of(log, found), labels), "arrays": names, "cells": cells,
         "layout": layout and {"ops": layout.ops, "bits": layout.bits, "nodes": layout.nodes, "tables": [it.__dict__ for it in layout.tables]},
-        "nofit": laid.line, "cells": cells, "about": about,
-        "made": f"made by tools/page of {names}" + ("" if lucid.is_proved else "; by a build whose proofs were not checked"),
+        "nofit": laid.line, "about": about,
+        "made": f"made by tools/page of {files}" + ("" if lucid.is_proved else "; by a build whose proofs were not checked"),
     }
 
 
-def page_of(lucid: Program, program: Source, limits: Source, scenario: Source, most: int) -> str:
+def page_of(lucid: Program, program: Source, limits: Source, scenario: Source, most: int, labels: Labels = Labels()) -> str:
     """Returns the page of a run as HTML; cells if events enter at no more than `most` ticks."""
-    data = data_of(lucid, program, limits, scenario, most)
+    data = data_of(lucid, program, limits, scenario, most, labels)
     head, tail = Path(__file__).with_name("page.html").read_text(encoding="utf-8").split("@@DATA@@")
     title = re.sub("[&<]", lambda it: {"&": "&amp;", "<": "&lt;"}[it[0]], data["name"])
     return head.replace("@@TITLE@@", title) + json.dumps(data, separators=(",", ":")).replace("<", "\\u003c") + tail
