@@ -5,8 +5,8 @@ from typing import Any, Dict, List, Tuple
 
 from .bounded import deeply
 from .errors import Error
+from .labels import core_of
 from .lines import Event, Json, Sent
-from .model import judge
 from .model.core import ArrayDef, Core
 from .model.interpret import Out, empty_cells, out_text, run_whole
 from .network import Ledger
@@ -60,14 +60,11 @@ class History:
 
 def history(program: Source, ledger: Ledger) -> History:
     """Returns the changes of the cells in a run. Raises Error if the program is refused, or if its handlers do not make this log."""
-    return deeply(lambda: history_of(program, ledger))
+    core = core_of(program)
+    return deeply(lambda: history_of(core, ledger))
 
 
-def history_of(program: Source, ledger: Ledger) -> History:
-    answer = judge(["check", program.name], lambda name: program.data)
-    if answer.refused is not None:
-        raise Error(f"{program.name}: {answer.refused.line}")
-    core: Core = answer.program.core
+def history_of(core: Core, ledger: Ledger) -> History:
     noted: List[Tuple[int, int, int, int]] = []
     cells: Dict[int, List[List[int]]] = {}
     # The declared event of each that was sent: several may have one name.

@@ -9,8 +9,9 @@ from typing import Callable, Dict, Iterable, List, Optional, Sequence, Tuple
 
 from .bounded import deeply
 from .errors import Error
-from .lines import Cell, Event
+from .lines import Cell, Event, Json
 from .model import judge
+from .model.core import Core
 from .streams import FILE, Source, printable, read
 
 # The most letters of a name of a switch.
@@ -60,11 +61,24 @@ class Labels:
         """Returns the line of a cell without its switch."""
         return f"{cell.array}[{cell.index}] = {self.value(cell.array, cell.value)}"
 
+    def json(self, it: Json) -> Json:
+        """Returns an object of an answer with its values as they are shown (`shown`), and with the name of its switch or target (`named`)."""
+        made: Json = {**it, "outs": [self.json(out) for out in it["outs"]]} if "outs" in it else dict(it)
+        if self.args or self.cells:
+            if "args" in it:
+                made["shown"] = self.values(it["name"], it["args"])
+            elif "array" in it:
+                made["shown"] = self.value(it["array"], it["value"])
+        switch = it.get("switch", it.get("to"))
+        if switch in self.names:
+            made["named"] = self.names[switch]
+        return made
 
-def labels_of(shows: Sequence[str], names: Sequence[str], program: Optional[Source], scenario: str) -> Labels:
+
+def labels_of(shows: Sequence[str], names: Sequence[str], program: Optional[Source], scenario: Optional[str]) -> Labels:
     """Reads formats and names: those of the files PROGRAM.show and SCENARIO.names if they are there, and then these. Raises Error."""
     made = Labels()
-    for key, value in pairs(names, f"{scenario}.names"):
+    for key, value in pairs(names, f"{scenario}.names" if scenario else ""):
         number = re.fullmatch("[0-9]{1,2}", key)
         if not number or int(key) > 63 or not value or len(value) > LONGEST or not value.isprintable():
             raise Error(f"names: {cut(key)}={cut(value)} is none: write NUMBER=NAME, with a number up to 63 and a name of 1 to {LONGEST} letters")
@@ -88,12 +102,18 @@ def pairs(words: Sequence[str], path: str) -> List[Tuple[str, str]]:
     return [(key.strip(), value.strip()) for key, _, value in made]
 
 
-def set_formats(made: Labels, found: List[Tuple[str, str]], program: Source) -> None:
-    """Sets the formats of the parameters and arrays of a program. A name without a point is of an array, or of parameters of all events."""
+def core_of(program: Source) -> Core:
+    """Returns the declarations and handlers of a program. Raises Error if it is refused."""
     answer = deeply(lambda: judge(["check", program.name], lambda name: program.data))
     if answer.refused is not None:
         raise Error(f"{program.name}: {answer.refused.line}")
-    core = answer.program.core
+    core: Core = answer.program.core
+    return core
+
+
+def set_formats(made: Labels, found: List[Tuple[str, str]], program: Source) -> None:
+    """Sets the formats of the parameters and arrays of a program. A name without a point is of an array, or of parameters of all events."""
+    core = core_of(program)
     made.args = {event.name: [("dec", width) for width in event.params] for event in core.events}
     for key, form in found:
         if form not in FORMATS:

@@ -1,6 +1,7 @@
 """A run for tools: its files, its log, its ledger, and how its numbers are shown. `add_words` and `run_of` are shared by the commands."""
 import argparse
 from dataclasses import dataclass
+from typing import Optional
 
 from .command import Once
 from .files import Limits, Scene, read_limits, read_scene
@@ -12,6 +13,7 @@ from .streams import ANSWER, Source, read
 
 FILES = "PROGRAM LIMITS SCENARIO"
 SHOWN = "[--show NAME=FORMAT,..] [--names NUMBER=NAME,..]"
+SHOWN_BY = f"[--program PROGRAM] {SHOWN}"
 OPTIONS = f"[--log LOG] [--lucid COMMAND] {SHOWN}"
 
 
@@ -26,12 +28,20 @@ class Run:
     labels: Labels
 
 
-def add_labels(parser: argparse.ArgumentParser) -> None:
-    """Adds the words that say how numbers are shown."""
+def add_labels(parser: argparse.ArgumentParser, needs_program: bool = False) -> None:
+    """Adds the words that say how numbers are shown, and the program that formats need if no other word names it."""
+    if needs_program:
+        parser.add_argument("--program", action=Once, metavar="PROGRAM", help="the program, which formats need")
     parser.add_argument("--show", action="append", default=[], metavar="NAME=FORMAT,..",
                         help="formats of parameters and arrays: dec, hex, bin, ip, mac, signed; also those of the file PROGRAM.show")
     parser.add_argument("--names", action="append", default=[], metavar="NUMBER=NAME,..",
                         help="names of switches; also those of the file SCENARIO.names")
+
+
+def labels_given(given: argparse.Namespace, scenario: Optional[str]) -> Labels:
+    """Reads the words of `add_labels` with a program."""
+    program = None if given.program is None else Source.of(given.program)
+    return labels_of(given.show, given.names, program, scenario)
 
 
 def add_words(parser: argparse.ArgumentParser) -> None:

@@ -57,7 +57,7 @@ _lucid_tool() {
         picture-1) _lucid_words log layout drive ;;
         picture-*)
             case ${COMP_WORDS[COMP_CWORD]} in
-                --*) [ "${COMP_WORDS[1]}" = log ] && _lucid_words --switches --ticks --without ;;
+                --*) [ "${COMP_WORDS[1]}" = log ] && _lucid_words --switches --ticks --without --program --show --names ;;
                 *) _lucid_files json log ;;
             esac
             ;;
@@ -92,7 +92,7 @@ _lucid_tool() {
             ;;
         json-*)
             case ${COMP_WORDS[COMP_CWORD]} in
-                --*) _lucid_words --limits --scenario ;;
+                --*) _lucid_words --limits --scenario --csv --program --show --names ;;
                 *) _lucid_files json log ;;
             esac
             ;;

@@ -7,9 +7,14 @@ a leading zero, events or cells out of order, lines after the last one, counts t
 
 With --limits and --scenario the log of a run is complete: each event has its number, its cause and its ticks, each event that was sent has the
 number under which it entered or the reason why it did not, and those that were lost or are pending have objects of their own. A log that no run
-of these files prints is refused.
+of these files prints is refused. --csv prints a row for each event in place of objects, with the columns `arg0`, `arg1`.. for its arguments.
+
+--show adds `shown` to each object with arguments or a cell: their texts by these formats, for which --program names the program. --names adds
+`named`, the name of its switch.
 """
 import argparse
+import csv
+import io
 import json
 from typing import List, Optional
 
@@ -21,10 +26,13 @@ from ..layout import read_layout
 from ..lines import Json
 from ..log import read_log
 from ..network import trace
+from ..runs import SHOWN_BY, add_labels, labels_given
 from ..streams import ANSWER, read, write
 
 KINDS = ("log", "layout", "audit", "drive", "snap")
-USAGE = f"%(prog)s {'|'.join(KINDS)} [FILE] | log [FILE] --limits LIMITS --scenario SCENARIO"
+USAGE = f"%(prog)s {'|'.join(KINDS)} [FILE] [--csv] [--limits LIMITS --scenario SCENARIO] {SHOWN_BY}"
+COLUMNS = ["kind", "number", "at", "switch", "name"]
+WAYS = ["cause", "sent", "ready", "waited", "why"]
 
 
 def objects(kind: str, text: bytes, limits: Optional[str] = None, scenario: Optional[str] = None) -> List[Json]:
@@ -41,18 +49,37 @@ def objects(kind: str, text: bytes, limits: Optional[str] = None, scenario: Opti
     return drive.json()
 
 
+def table(made: List[Json]) -> str:
+    """Returns a row for each event: what it is, its arguments, and of a complete log its cause and its ticks."""
+    events = [it for it in made if "args" in it]
+    is_complete, most = any("cause" in it for it in events), max((len(it["args"]) for it in events), default=0)
+    args = [f"arg{at}" for at in range(most)]
+    shown = [key for key in ("shown", "named") if any(key in it for it in events)]
+    names = [name for name in COLUMNS if is_complete or name != "number"] + args + (WAYS if is_complete else []) + shown
+    text = io.StringIO()
+    rows = csv.DictWriter(text, names, lineterminator="\n", extrasaction="ignore")
+    rows.writeheader()
+    for it in events:
+        cause = " ".join(f"{key} {value}" for key, value in it.get("cause", {}).items())
+        rows.writerow({**it, "cause": cause, "shown": " ".join(it.get("shown", [])), **{f"arg{at}": value for at, value in enumerate(it["args"])}})
+    return text.getvalue()
+
+
 def add_words(parser: argparse.ArgumentParser) -> None:
     """Adds the words."""
     parser.add_argument("kind", choices=KINDS)
     parser.add_argument("file", nargs="?", metavar="FILE", help="the answer; standard input if it is absent")
     parser.add_argument("--limits", action=Once, metavar="LIMITS", help="the limits of the run, for a complete log")
     parser.add_argument("--scenario", action=Once, metavar="SCENARIO", help="its scenario")
+    parser.add_argument("--csv", action="store_true", help="a table of the events of a log")
+    add_labels(parser, needs_program=True)
 
 
 def run(given: argparse.Namespace) -> int:
     """Writes the objects."""
-    if (given.limits is None) != (given.scenario is None) or given.limits is not None and given.kind != "log":
+    if (given.limits is None) != (given.scenario is None) or (given.limits is not None or given.csv) and given.kind != "log":
         raise argparse.ArgumentTypeError("a complete log needs two files")
-    made = objects(given.kind, read(given.file, ANSWER), given.limits, given.scenario)
-    write("".join(json.dumps(it, separators=(",", ":")) + "\n" for it in made))
+    labels = labels_given(given, given.scenario)
+    made = [labels.json(it) for it in objects(given.kind, read(given.file, ANSWER), given.limits, given.scenario)]
+    write(table(made) if given.csv else "".join(json.dumps(it, separators=(",", ":")) + "\n" for it in made))
     return 0

@@ -9,7 +9,7 @@
 - `drive` draws what `drive` or `snap` printed for these files: which packet is before which stage, step by step.
 
 The answer is in the last file, or on standard input. Labels are cut at 40 letters and have their whole text as a tooltip; so do bars and
-arrows. An answer of another form, or one that does not fit the files, is refused, and nothing is drawn.
+arrows. --show and --names show values and switches as their owner reads them; formats need --program. An answer of another form, or one that does not fit the files, is refused, and nothing is drawn.
 """
 import argparse
 import re
@@ -24,6 +24,7 @@ from ..files import read_limits, read_scene
 from ..layout import read_layout
 from ..log import read_log
 from ..network import trace
+from ..runs import add_labels, labels_given
 from ..streams import ANSWER, read, write
 
 USAGE = ("%(prog)s log LIMITS SCENARIO [LOG] [--switches A,B..] [--ticks FROM..TO] [--without NAME,NAME..]"
@@ -58,6 +59,7 @@ def add_words(parser: argparse.ArgumentParser) -> None:
         own.add_argument("limits", metavar="LIMITS")
         if kind != "layout":
             own.add_argument("scenario", metavar="SCENARIO")
+            add_labels(own, needs_program=True)
         own.add_argument("answer", nargs="?", metavar=kind.upper(), help="the answer; standard input if it is absent")
         if kind == "log":
             own.add_argument("--switches", type=switches, action=Once, metavar="A,B..", help="the switches that are drawn")
@@ -71,11 +73,11 @@ def run(given: argparse.Namespace) -> int:
     if given.kind == "layout":
         write(draw_layout(read_layout(read(given.answer, ANSWER)), limits))
         return 0
-    scene = read_scene(read(given.scenario))
+    scene, labels = read_scene(read(given.scenario)), labels_given(given, given.scenario)
     text = read(given.answer, ANSWER)
     if given.kind == "drive":
-        write(draw_drive(read_drive(text), limits, scene))
+        write(draw_drive(read_drive(text), limits, scene, labels))
     else:
         choice = Choice(given.switches, given.ticks, given.without)
-        write(LogPicture(trace(read_log(text), limits, scene), limits, scene, choice).draw())
+        write(LogPicture(trace(read_log(text), limits, scene), limits, scene, choice, labels).draw())
     return 0

@@ -6,6 +6,7 @@ from typing import Dict, List, Optional, Tuple
 from ..drive import Drive, Step, by_stages
 from ..errors import FormatError
 from ..files import Limits, Scene
+from ..labels import Labels
 from ..lines import Event, Said
 from .svg import LETTER, SHADES, Picture, width_of
 
@@ -47,18 +48,18 @@ def check(drive: Drive, limits: Limits, scene: Scene) -> None:
             raise FormatError(f"line {event.line} does not fit the scenario")
 
 
-def lines_of(event: Event) -> List[str]:
+def lines_of(event: Event, labels: Labels) -> List[str]:
     """The lines of an event, as they are printed but without their indent."""
-    out = [str(event)]
+    out = [labels.event(event)]
     for it in event.outs:
         if isinstance(it, Said):
             out.append(f"say {it.text}")
         else:
-            out.append(f"generate {it} delay {it.delay} {'here' if it.to is None else f'to {it.to}'}")
+            out.append(f"generate {labels.call(it.name, it.args)} delay {it.delay} {'here' if it.to is None else f'to {labels.names.get(it.to, it.to)}'}")
     return out
 
 
-def rows_of(drive: Drive, stages: int) -> List[Row]:
+def rows_of(drive: Drive, stages: int, labels: Labels) -> List[Row]:
     """The rows of a drive. Steps that could not be done are joined."""
     rows: List[Row] = []
     slots: Dict[int, int] = {}
@@ -79,7 +80,8 @@ def rows_of(drive: Drive, stages: int) -> List[Row]:
             undone.append(step.text)
             continue
         join()
-        row = Row(step.text, False, {})
+        look = step.word == "look" and f"look {step.array}[{step.numbers[0]}] = {labels.value(step.array, step.numbers[1])}"
+        row = Row(look or step.text, False, {})
         if step.word == "enter":
             slots[0] = step.numbers[0]
         elif step.word == "go":
@@ -87,14 +89,14 @@ def rows_of(drive: Drive, stages: int) -> List[Row]:
             if step.numbers[0] + 1 < stages:
                 slots[step.numbers[0] + 1] = packet
             else:
-                row.left, row.notes = packet, lines_of(step.events[0])
+                row.left, row.notes = packet, lines_of(step.events[0], labels)
         row.slots = dict(slots)
         rows.append(row)
     join()
     for event in drive.flushed:
         stage = max(slots)
         packet = slots.pop(stage)
-        rows.append(Row("at the end", True, dict(slots), packet, lines_of(event)))
+        rows.append(Row("at the end", True, dict(slots), packet, lines_of(event, labels)))
     return rows
 
 
@@ -103,12 +105,12 @@ def packet(picture: Picture, x: float, y: float, number: int) -> None:
     picture.write(3, x + 11, y + 4, str(number), "white small" if number > 99 else "white", middle=True)
 
 
-def draw_drive(drive: Drive, limits: Limits, scene: Scene) -> str:
+def draw_drive(drive: Drive, limits: Limits, scene: Scene, labels: Labels = Labels()) -> str:
     """The SVG of a drive, or of a drive with a snapshot."""
     check(drive, limits, scene)
     picture = Picture()
     stages = limits.stages
-    rows = rows_of(drive, stages)
+    rows = rows_of(drive, stages, labels)
     left = 20 + max([60.0] + [width_of(it.text) for it in rows]) + 2 * LETTER
     out = left + stages * PITCH + 10
     picture.write_all(3, 20, 20, "a number is a packet, in the order of entry, from 0; it is before the stage that it does next", "small grey")
@@ -141,9 +143,9 @@ def draw_drive(drive: Drive, limits: Limits, scene: Scene) -> str:
             picture.write(3, left + (stage + 0.5) * PITCH, head, str(stage), "bold", middle=True)
         picture.write(3, 20, head, "step", "small grey")
         picture.write(3, out + 4, head, "has left, and sent", "small grey")
-    last = [it.label() for it in drive.cells] + [f"entered {drive.entered} left {drive.left}"]
+    last = [labels.cell(it) for it in drive.cells] + [f"entered {drive.entered} left {drive.left}"]
     if drive.snap:
-        last += [f"snap after {drive.snap[0]}"] + [it.label() for it in drive.snap[1]]
+        last += [f"snap after {drive.snap[0]}"] + [labels.cell(it) for it in drive.snap[1]]
     for at, text in enumerate(last, 1):
         picture.write(3, 20, y + 12 + 15 * at, text, "small")
     return picture.text()

@@ -10,6 +10,7 @@ from functools import cached_property
 from typing import Dict, List, Optional, Set, Tuple
 
 from ..files import Limits, Scene
+from ..labels import Labels
 from ..lines import Event, Said, Sent
 from ..network import Ledger
 from .svg import LETTER, SMALL, Colours, Picture, width_of
@@ -34,10 +35,11 @@ class Choice:
 
 @dataclass
 class Drawn:
-    """An event that is drawn: its number in the log, its notes as text and class, and where it stands."""
+    """An event that is drawn: its number in the log, its text, its notes as text and class, and where it stands."""
 
     number: int
     event: Event
+    label: str
     notes: List[Tuple[str, str]]
     leaves: int
     sends: bool
@@ -53,8 +55,8 @@ def plural(count: int, word: str) -> str:
 class LogPicture:
     """Draws one log."""
 
-    def __init__(self, trace: Ledger, limits: Limits, scene: Scene, choice: Choice) -> None:
-        self.trace, self.limits, self.scene = trace, limits, scene
+    def __init__(self, trace: Ledger, limits: Limits, scene: Scene, choice: Choice, labels: Labels = Labels()) -> None:
+        self.trace, self.limits, self.scene, self.labels = trace, limits, scene, labels
         self.stay, self.back = limits.stages, limits.stages + limits.recirc
         self.picture, self.colours = Picture(), Colours()
         numbers = [it for it, event in enumerate(trace.log.events) if choice.has(event)]
@@ -85,12 +87,16 @@ class LogPicture:
             if isinstance(out, Said):
                 notes.append((f'"{out.text}"', "small grey"))
                 continue
-            way, name = ways[index], str(out)
+            way, name = ways[index], self.labels.call(out.name, out.args)
             if way.fate.is_lost:
-                notes.append((f"lost at {way.sent}: {name} to {way.switch}, {way.fate.value}", "small red"))
+                notes.append((f"lost at {way.sent}: {name} to {self.named(way.switch)}, {way.fate.value}", "small red"))
             elif way.fate.is_pending:
-                notes.append((f"pending: {name}{'' if out.to is None else f' to {way.switch}'}, ready at {way.ready}", "small grey"))
-        return Drawn(number, event, notes, event.tick + self.stay, any(isinstance(it, Sent) for it in event.outs))
+                notes.append((f"pending: {name}{'' if out.to is None else f' to {self.named(way.switch)}'}, ready at {way.ready}", "small grey"))
+        return Drawn(number, event, self.labels.call(event.name, event.args), notes, event.tick + self.stay, any(isinstance(it, Sent) for it in event.outs))
+
+    def named(self, switch: int) -> str:
+        """The name of a switch, or its number."""
+        return self.labels.names.get(switch, str(switch))
 
     def sender_of(self, it: Drawn) -> Optional[Drawn]:
         """The event that sent an event, if it is drawn."""
@@ -100,12 +106,12 @@ class LogPicture:
     def title(self, it: Drawn) -> str:
         """The tooltip of an event: all its lines."""
         entry = self.trace.entries[it.number]
-        lines = [f"[{it.event.tick}] s{it.event.switch} {it.event.label()}"]
+        lines = [self.labels.event(it.event)]
         if entry.sender is not None:
-            lines.append(f"sent at {self.trace.log.events[entry.sender].tick} by s{entry.origin}, ready at {entry.ready}")
+            lines.append(f"sent at {self.trace.log.events[entry.sender].tick} by {self.labels.switch(entry.origin)}, ready at {entry.ready}")
         else:
             lines.append(f"event {entry.file} of the scenario, ready at {entry.ready}")
-        losses = [f"{send.label()} is lost: {send.why()}" for send in self.trace.sends[it.number] if send.fate.is_lost]
+        losses = [f"{self.labels.call(send.name, send.args)} is lost: {send.why()}" for send in self.trace.sends[it.number] if send.fate.is_lost]
         return "\n".join(lines + [text for text, _ in it.notes] + losses)
 
     # Places -----------------------------------------------------------------------------------------------------------------------
@@ -123,7 +129,7 @@ class LogPicture:
 
     def cells_of(self, switch: int) -> List[str]:
         """The first cells of a switch at the end, and how many more there are."""
-        found = [it.label() for it in self.trace.log.cells if it.switch == switch]
+        found = [self.labels.cell(it) for it in self.trace.log.cells if it.switch == switch]
         return found[:10] + ([f"and {len(found) - 10} more"] if len(found) > 10 else [])
 
     @cached_property
@@ -132,11 +138,12 @@ class LogPicture:
         return LETTER * max([4] + [len(str(it.event.tick)) for it in self.shown.values()]) + 28
 
     def set_columns(self) -> None:
-        wide = {switch: max([60.0] + [width_of(it, SMALL) for it in self.cells_of(switch)]) for switch in self.switches}
+        wide = {switch: max([60.0, width_of(self.labels.names.get(switch, ""))] + [width_of(it, SMALL) for it in self.cells_of(switch)])
+                for switch in self.switches}
         loops = {it.event.switch for it in self.shown.values() if self.sender_of(it) and self.trace.entries[it.number].origin == it.event.switch}
         for it in self.shown.values():
             switch = it.event.switch
-            wide[switch] = max([wide[switch], width_of(it.event.label())] + [8 + width_of(text, SMALL) for text, _ in it.notes])
+            wide[switch] = max([wide[switch], width_of(it.label)] + [8 + width_of(text, SMALL) for text, _ in it.notes])
         x = self.tick_width
         self.column: Dict[int, float] = {}
         self.pitch = 12.0
@@ -238,7 +245,8 @@ class LogPicture:
         x, x2, y2 = self.middle(sender), self.middle(it), it.y
         here = it.event.switch == sender.event.switch
         y = min(self.leave_y(sender), y2) if here else self.leave_y(sender)
-        title = f"{it.event.label()}: s{sender.event.switch}, left at {self.trace.entries[it.number].sent}, to s{it.event.switch}, entered at {it.event.tick}"
+        ends = self.labels.switch(sender.event.switch), self.labels.switch(it.event.switch)
+        title = f"{it.label}: {ends[0]}, left at {self.trace.entries[it.number].sent}, to {ends[1]}, entered at {it.event.tick}"
         look = f'fill="none" stroke="{shade}" stroke-width="1.3" opacity="{0.75 if self.is_wide else 0.5}"'
         if here and y2 - y > 12:
             bend = 26 if self.is_wide else 12
@@ -246,7 +254,7 @@ class LogPicture:
             self.arrow_head(x2 - 4, y2, 1, 0.4, shade)
             return
         if not here and x2 < x and self.is_wide:
-            x2 = self.text_x(it) + 2 + width_of(it.event.label())
+            x2 = self.text_x(it) + 2 + width_of(it.label)
         elif x2 != x:
             x2 += 5 if x2 < x else -5
         else:
@@ -263,7 +271,7 @@ class LogPicture:
             picture.line(2, self.middle(it), it.y, self.middle(it), end, 'stroke="#fff" stroke-width="1.5" stroke-dasharray="3 3"')
         if entry.ready is not None and entry.waited:
             picture.line(1, it.x - 2, self.y_at(entry.ready), it.x - 2, it.y, f'stroke="{shade}" stroke-width="1" stroke-dasharray="2 3"',
-                         f"{it.event.label()} waited from {entry.ready} to {it.event.tick}")
+                         f"{it.label} waited from {entry.ready} to {it.event.tick}")
         if it.sends and self.leave_y(it) > end:
             picture.line(2, self.middle(it), end, self.middle(it), self.leave_y(it), f'stroke="{shade}" stroke-width="1.3"')
         lost = [text for text, kind in it.notes if kind == "small red"]
@@ -278,17 +286,17 @@ class LogPicture:
     def write_event(self, it: Drawn, title: str) -> None:
         picture, x = self.picture, self.text_x(it)
         if self.is_wide:
-            picture.write_over(x, it.y + 4, it.event.label(), title=title)
+            picture.write_over(x, it.y + 4, it.label, title=title)
             for at, (text, kind) in enumerate(it.notes):
                 picture.write_over(x + 8, it.y + 18 + 14 * at, text, kind)
             return
         picture.line(1, self.middle(it) + 6, it.y, x - 4, it.y, 'stroke="#ddd" stroke-width="0.8"')
-        label = f"s{it.event.switch} {it.event.label()}"
+        label = f"{self.labels.switch(it.event.switch)} {it.label}"
         picture.write(4, x, it.y + 4, label, title=title)
         number = self.trace.sender(it.number)
         if number is not None:
             sender = self.trace.log.events[number]
-            picture.write(4, x + width_of(label) + 8, it.y + 4, f"← s{sender.switch} of {sender.tick}", "small grey")
+            picture.write(4, x + width_of(label) + 8, it.y + 4, f"← {self.labels.switch(sender.switch)} of {sender.tick}", "small grey")
         for at, (text, kind) in enumerate(it.notes):
             picture.write(4, x + 12, it.y + 17 + 13 * at, text, kind)
 
@@ -301,11 +309,11 @@ class LogPicture:
         picture.write(4, 20, y, "tick", "small grey")
         for at, switch in enumerate(self.switches):
             if self.is_wide:
-                picture.write(4, self.column[switch], y, f"switch {switch}", "big")
+                picture.write(4, self.column[switch], y, self.labels.names.get(switch, f"switch {switch}"), "big")
             else:
                 # In tight lanes every second number is higher, so that neighbours do not touch.
                 higher = 10 if self.is_tight and at % 2 else 0
-                picture.write(4, self.column[switch], y - higher, str(switch), "small bold", title=f"switch {switch}")
+                picture.write(4, self.column[switch], y - higher, str(switch), "small bold", title=self.labels.names.get(switch, f"switch {switch}"))
 
     def draw_legend(self) -> None:
         picture = self.picture
@@ -329,7 +337,7 @@ class LogPicture:
                 for at, text in enumerate(self.cells_of(switch)):
                     picture.write(4, self.column[switch], y + 18 + 14 * at, text, "small")
         else:
-            lines = [f"s{switch} {text}" for switch in self.switches for text in self.cells_of(switch)]
+            lines = [f"{self.labels.switch(switch)} {text}" for switch in self.switches for text in self.cells_of(switch)]
             for at, text in enumerate(lines):
                 picture.write(4, 20 + 290 * (at % 4), y + 18 + 14 * (at // 4), text, "small")
         entered, lost, pending = self.trace.log.end or (0, 0, 0)
