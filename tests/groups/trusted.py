@@ -105,7 +105,7 @@ EDITS = [
     Edit("a clause of the trait `Sink` says nothing", "trait lucid_io.sink.Sink has changed", (Change("crates/lucid_io/src/sink.rt", r"ensures bytes \{[^\n]*\}", "ensures bytes { written self.old ≡ written self.old }"),)),
     Edit("a field of a type of the sources has another width", "type lucid_base.event.Event has changed", (Change("crates/lucid_base/src/event.rt", r"pub id: u32", "pub id: u64"),)),
     Edit("the model of a type is always 0", "type lucid_base.width.Width has changed", (Change("crates/lucid_base/src/width.rt", r"ghost view = \{[^\n]*\};", "ghost view = { λ w. 0 };"),)),
-    Edit("the contract under `main` leaves out which passes run", "AreOurs has changed", (Change("crates/lucid_top_fit/specs/Ours.antt", r"(record AreOurs .*?)^  pub makes : [^\n]*\n", r"\1"),)),
+    Edit("the contract under `main` leaves out which passes run", "AreOurs has changed", (Change("crates/lucid_top_fit/specs/Passes.antt", r"(record AreOurs .*?)^  pub makes : [^\n]*\n", r"\1"),)),
     Edit("serializability says nothing of the cells", "MovesRunWhole has changed", (Change("crates/lucid_top_laws/specs/Moves.antt", r"(pub cells : [^\n]*\n)[^\n]*\n", r"\1      0 ≡ 0\n"),)),
     Edit("the definition of a law has a false premise", "FitsRunWhole has changed|CodesRunWhole has changed", (Change("crates/lucid_top_laws/specs/Texts.antt crates/lucid_top_laws/specs/Packet.antt", r"^((?:Fits|Codes)RunWhole(?: core)?) = ", r"\1 = ⊥ → "),)),
     Edit("the clause of a law has a false premise", "clause lucid_.*touches_rise.* has changed", (Change("crates/lucid_top_program/src/laws.rt", r"(pub fn touches_rise_in_texts\(\).*?ensures[ \w]*\{) ", r"\1 ⊥ → "),)),

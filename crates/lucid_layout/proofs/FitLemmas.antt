@@ -14,7 +14,7 @@ use Rattle.lucid_layout.specs.Fit.{StageFits, Admissible, Least, IsFirstFit, IsS
 use Rattle.lucid_stages.specs.Marks.{fed_by, raised, lowest, floor, Within, zeros, end_marks}
 use Rattle.lucid_stages.specs.NodeTables.{few_on_the_way, merged, tables_at, tables_of}
 use Rattle.lucid_layout.specs.Find.{Fits, Takes, TakesNone}
-use Rattle.lucid_stages.proofs.Growing.{too_many}
+use Rattle.lucid_stages.proofs.NodeTablesLaws.{too_many}
 use Rattle.lucid_stages.proofs.StageLemmas.{laid_length, filled_push}
 use Rattle.lucid_stages.proofs.MarksLemmas.{head_of, raised_length, length_zeros, Written, behind_to, behind_from, floor_zero, fed_by_marks}
 

@@ -11,7 +11,7 @@ use Rattle.lucid_layout.specs.Fit.{Admissible, NotBefore, IsFirstFit, IsStuck}
 use Rattle.lucid_stages.specs.declared.node.Work.{Work}
 use Rattle.lucid_stages.specs.declared.stage.Seat.{Seat}
 use Rattle.lucid_stages.specs.NodeTables.{few_on_the_way, tables_of}
-use Rattle.lucid_stages.proofs.Growing.{too_many}
+use Rattle.lucid_stages.proofs.NodeTablesLaws.{too_many}
 use Rattle.lucid_stages.specs.NodeWorks.{works}
 
 never : {A : Type 0} → false ≡ true → A

@@ -11,7 +11,7 @@ use Rattle.lucid_pass_spec.specs.Direct.{direct}
 use Rattle.lucid_pass_spec.specs.Looks.{copies, folded}
 use Rattle.lucid_pass_spec.specs.Replace.{Rewrite}
 use Rattle.lucid_top.specs.Call.{Ended}
-pub use Rattle.lucid_top_fit.specs.Ours.{AreOurs, our_makes}
+pub use Rattle.lucid_top_fit.specs.Passes.{AreOurs, our_makes}
 use Rattle.lucid_top_fit.specs.Passes.{PassView}
 use Rattle.lucid_top_words.specs.declared.refusal.Refusal.{Refusal}
 use Rattle.lucid_top_words.specs.declared.refusal.Refusal.TheVariants as refusal

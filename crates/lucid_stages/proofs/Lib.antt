@@ -1,7 +1,7 @@
 pub mod ExamplesLemmas
-pub mod Growing
 pub mod MarksLemmas
 pub mod NodeOrderLemmas
+pub mod NodeTablesLaws
 pub mod NodeTablesLemmas
 pub mod NodeWorksLemmas
 pub mod PlacingLemmas

@@ -1,9 +1,12 @@
 -- The model of passes in boxes, and the effect of a call on those that it runs.
-use Rattle.std.specs.Prelude.{◌≡◌, ◌⊎◌, ℕ, List, Result, Err, length, map, take}
+use Rattle.std.specs.Prelude.{◌≡◌, ◌⊎◌, ℕ, List, [], ◌∷◌, Result, Err, codes, length, map, take}
 use Rattle.std.specs.List.{AllByRecursion}
 use Rattle.lucid_code.specs.Parts as code
 use Rattle.lucid_pass.specs.Through.{gone, raised}
+use Rattle.lucid_pass_spec.specs.Dead.{alive}
+use Rattle.lucid_pass_spec.specs.Direct.{direct}
 use Rattle.lucid_pass_spec.specs.Laws.{KeepsNodes}
+use Rattle.lucid_pass_spec.specs.Looks.{copies, folded}
 use Rattle.lucid_pass_spec.specs.Replace.{Rewrite}
 use Rattle.lucid_top_words.specs.declared.refusal.Refusal.{Refusal}
 use Rattle.lucid_top_words.specs.declared.refusal.Refusal.TheVariants as refusal
@@ -43,3 +46,14 @@ PassesRun runs old new end =
 -- if nodes follow their reads, they do so in the result of each of these
 abbrev pub KeepNodes : List Rewrite → Type 0
 KeepNodes gives = AllByRecursion (λ (p : Rewrite). KeepsNodes p.makes) gives
+
+-- ---- the passes of the program
+
+-- the functions of the four passes, in their order
+abbrev pub our_makes : List (code.CodeParts → code.CodeParts)
+our_makes = folded ∷ copies ∷ alive ∷ direct ∷ []
+
+-- These are the four passes in the order in which they run, by their names and their functions.
+pub record AreOurs (passes : List PassView) : Type 0 where
+  pub names : map PassView.name passes ≡ codes "fold" ∷ codes "copies" ∷ codes "dead" ∷ codes "direct" ∷ []
+  pub makes : map (λ p. p.gives.makes) passes ≡ our_makes

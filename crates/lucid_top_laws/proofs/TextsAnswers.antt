@@ -28,12 +28,11 @@ use Rattle.lucid_top.specs.Placed.{AuditAnswers, IsAuditedIn, IsMeasured, Measur
 use Rattle.lucid_top.specs.RunPipe.{RunPipeAnswers}
 use Rattle.lucid_top.specs.Snap.{SnapAnswers}
 use Rattle.lucid_top_fit.specs.Fit.{Fit, composed, fit_of, normal_of}
-use Rattle.lucid_top_fit.specs.Passes.{PassView}
+use Rattle.lucid_top_fit.specs.Passes.{AreOurs, PassView, our_makes}
 use Rattle.lucid_top_fit.specs.Placing.{IsAudited, IsPlan}
 use Rattle.lucid_top_laws.proofs.TextsExamples.{accepted, audits, code, code_is, fits, has_normal, is_placed, limits, limits_are, normal_is, placed_there, plan, scene}
 use Rattle.lucid_top_laws.proofs.TextsProgram.{core, has_core}
 use Rattle.lucid_top_laws.proofs.TextsRun.{first_step, log_is, logged, net, second_step, sends, sights_are, sights_there_are}
-use Rattle.lucid_top_fit.specs.Ours.{AreOurs, our_makes}
 use Rattle.lucid_top_laws.specs.TextsWorked.{AreSeen, event, placement, sight, texts}
 use Rattle.lucid_top_words.specs.Words.{Bytes}
 use Rattle.lucid_types_spec.proofs.Rolled as rolled

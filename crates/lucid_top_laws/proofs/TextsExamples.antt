@@ -59,12 +59,11 @@ use Rattle.lucid_tables.specs.Placed.{PlacedParts, placed_of}
 use Rattle.lucid_top.specs.Headline.{Accepted, AuditAccepts, FirstFitPlaces, code_by}
 use Rattle.lucid_top.specs.Premises.{HasValue}
 use Rattle.lucid_top_fit.specs.Fit.{HasNormal, normal_of}
-use Rattle.lucid_top_fit.specs.Passes.{PassView}
+use Rattle.lucid_top_fit.specs.Passes.{PassView, our_makes}
 use Rattle.lucid_top_fit.specs.Placing.{IsAudited, IsPlan}
 use Rattle.lucid_types_spec.specs.Typed.{returning}
 use Rattle.lucid_top_laws.proofs.FlightExamples.{becomes, event_told, first as at_first, first_of}
 use Rattle.lucid_top_laws.proofs.TextsProgram.{core, has_core, steps}
-use Rattle.lucid_top_fit.specs.Ours.{our_makes}
 use Rattle.lucid_top_laws.specs.TextsWorked.{AllChange, AreTaken, IsInFlight, event, placement, texts}
 
 -- ---- the limits and the scenario

@@ -21,7 +21,7 @@ use Rattle.lucid_top.proofs.Headlines.{is-program}
 use Rattle.lucid_top.specs.Layout.{LayoutAnswers}
 use Rattle.lucid_top.specs.Pipes.{IsPiped, target}
 use Rattle.lucid_top_fit.specs.Fit.{IsFitted, composed}
-use Rattle.lucid_top_fit.specs.Passes.{PassView}
+use Rattle.lucid_top_fit.specs.Passes.{AreOurs, PassView}
 use Rattle.lucid_top_program.specs.Settings.{IsLimits}
 use Rattle.lucid_top_words.specs.declared.no_fit.NoFit.TheVariants as fit
 use Rattle.lucid_top_words.specs.declared.refusal.Refusal.{Refusal}
@@ -30,7 +30,6 @@ use Rattle.lucid_top_laws.proofs.FlightExamples.{first as at_first, first_of}
 use Rattle.lucid_top_laws.proofs.TextsAnswers.{same}
 use Rattle.lucid_top_laws.proofs.TextsExamples.{code, code_is, few_calls, has_normal}
 use Rattle.lucid_top_laws.proofs.TextsProgram.{core, has_core}
-use Rattle.lucid_top_fit.specs.Ours.{AreOurs}
 use Rattle.lucid_top_laws.specs.TextsWorked.{narrow, texts}
 
 abbrev limits : Limits

@@ -14,8 +14,7 @@ use Rattle.lucid_tables.specs.Placed.{PlacedParts}
 use Rattle.lucid_top.specs.Answer.{Answers, Question}
 use Rattle.lucid_top.specs.Headline.{Accepted, AuditAccepts, FirstFitPlaces, Three, code_by, network_sights, placed_by, steps_sights}
 use Rattle.lucid_top_fit.specs.Fit.{normal_of}
-use Rattle.lucid_top_fit.specs.Ours.{AreOurs, our_makes}
-use Rattle.lucid_top_fit.specs.Passes.{PassView}
+use Rattle.lucid_top_fit.specs.Passes.{AreOurs, PassView, our_makes}
 use Rattle.lucid_top_laws.specs.Moves.{entries}
 use Rattle.lucid_top_laws.specs.Snapshots.{snapshot}
 use Rattle.lucid_top_laws.specs.Texts.{makes_of}
