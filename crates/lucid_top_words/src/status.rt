@@ -44,7 +44,7 @@ impl Status {
     }
 }
 
-/// Words and files determine every status except that of a fault and that of a failed allocation.
+/// Every status but those of the two faults and of a failed allocation is that of an answer (`IsDetermined`).
 pub fn faults_alone_are_free()
     ensures { (s : Status) → s ≢ Status.ReadFault → s ≢ Status.WriteFault → s ≢ Status.Memory → IsDetermined s }
 {}
