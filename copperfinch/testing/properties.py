@@ -1,8 +1,10 @@
 """Properties of a network: tests of pytest that run a program on scenarios which hypothesis draws and shrinks."""
+import importlib.util
 import inspect
 import json
 import math
 import os
+import sys
 import traceback
 import zlib
 from collections import Counter
@@ -31,6 +33,12 @@ RUNS, PARTS = 200, 2
 
 class Vacuous(Error):
     """A property that looked at too little. Its text says at what."""
+
+
+def runs_of(usual: int) -> int:
+    """How many scenarios a test tries: $COPPERFINCH_RUNS, or its own number."""
+    given = os.environ.get("COPPERFINCH_RUNS", "")
+    return int(given) if given.isdecimal() and int(given) else usual
 
 
 @dataclass
@@ -155,19 +163,21 @@ class Property:
         """Tries the property, and fails the test by a text that says how to repeat it."""
         __tracebackhide__ = True
         seen: Counts[str] = Counter()
-        given = os.environ.get("COPPERFINCH_SCENARIO")
+        given, said = os.environ.get("COPPERFINCH_SCENARIO"), ""
         try:
             failure = self.judge(read_scene(Path(given).read_bytes()), seen) if given else self.find(part, seen)
-            if failure is None and not given:
+            if failure:
+                said = self.report(failure, part)
+            elif not given:
                 self.look_at(seen)
         except (Error, OSError) as fault:
-            pytest.fail(f"{self.name}: {fault}", pytrace=False)
-        if failure:
-            pytest.fail(self.report(failure, part), pytrace=False)
+            said = f"{self.name}: {fault}"
+        if said:
+            pytest.fail(said, pytrace=False)
 
     def find(self, part: int, seen: Counts[str]) -> Optional[Failure]:
         """Returns the scenario that is left when hypothesis has shrunk one for which the property fails."""
-        runs = math.ceil(int(os.environ.get("COPPERFINCH_RUNS", self.runs)) / self.parts)
+        runs = math.ceil(runs_of(self.runs) / self.parts)
         failures: List[Failure] = []
 
         def use(scene: Scene) -> None:
@@ -204,8 +214,9 @@ class Property:
         return failure
 
     def look_at(self, seen: Counts[str]) -> None:
-        """Refuses a property that looked at too little to say anything."""
-        for name, count in {**dict.fromkeys(sorted(seen), 1), **self.least}.items():
+        """Refuses a property that looked at too little to say anything. For fewer or more scenarios than its own, `least` counts as much less."""
+        least = {name: max(count * runs_of(self.runs) // self.runs, min(count, 1)) for name, count in self.least.items()}
+        for name, count in {**dict.fromkeys(sorted(seen), 1), **least}.items():
             if seen[name] < count:
                 raise Vacuous(f"it says too little: it looked at {seen[name]} of {name}, and at least {count} are wanted")
         if not sum(seen.values()):
@@ -255,3 +266,17 @@ class Property:
 def properties_of(module: Any) -> List[Property]:
     """The properties of a module of tests, in the order of their definition."""
     return [it.property for it in vars(module).values() if isinstance(getattr(it, "property", None), Property)]
+
+
+def load(path: Path) -> Any:
+    """Imports a file of tests."""
+    spec = importlib.util.spec_from_file_location(path.stem, path)
+    if spec is None or spec.loader is None or not path.exists():
+        raise Error(f"{path} is no file of Python")
+    module = importlib.util.module_from_spec(spec)
+    sys.modules[path.stem] = module
+    try:
+        spec.loader.exec_module(module)
+    except (ImportError, SyntaxError, NameError, TypeError) as fault:
+        raise Error(f"{path}: {fault}") from None
+    return module

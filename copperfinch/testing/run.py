@@ -1,15 +1,21 @@
 """A run of a network, and what a property may ask of it."""
-import sys
 from collections import Counter
 from functools import cached_property
-from typing import Any, Counter as Counts, Dict, Iterator, List, NoReturn, Optional, Sequence, Tuple, Union
+from itertools import islice
+from typing import Any, Counter as Counts, Dict, Iterator, List, Mapping, NoReturn, Optional, Sequence, Tuple, Union
 
 from ..files import Limits, Scene
+from ..follow import Follower
+from ..labels import Labels
 from ..lines import Event, Said, Sent
 from ..log import Broken, Log
-from ..network import Ledger, Packet, trace
+from ..network import Fate, Ledger, Packet, trace
 
 Out = Union[Sent, Said]
+# A switch, the name of an array, and an index.
+Cell = Tuple[int, str, int]
+# The most lines of what became of an event.
+MOST_LINES = 60
 
 
 def send(name: str, *args: int, to: Optional[int] = None, delay: int = 0) -> Sent:
@@ -92,11 +98,9 @@ class Run:
 
     def ends(self, it: Packet) -> List[Packet]:
         """Returns what a packet led to in the end: those that led to nothing, were lost or did not enter."""
-        return [packet for packet in [it, *self.caused(it)] if not self.outs(packet)]
-
-    def cells(self, switch: int, array: str) -> Dict[int, int]:
-        """Returns the cells of an array that are not 0 at the end, by their index."""
-        return {cell.index: cell.value for cell in self.log.cells if (cell.switch, cell.array) == (switch, array)}
+        found = [packet for packet in [it, *self.caused(it)] if not self.outs(packet)]
+        self.seen.update(packet.name for packet in found)
+        return found
 
     # Claims ------------------------------------------------------------------------------------------------------------------------------
 
@@ -111,48 +115,36 @@ class Run:
         if [form_of(out, here) for out in event.outs] != [form_of(out, here) for out in wanted]:
             self.fail(event, f"sends {texts_of(event.outs)}, and not {texts_of(wanted)}")
 
-    def expect_cells(self, switch: int, array: str, wanted: Dict[int, int]) -> None:
-        """An array of a switch has exactly these cells at the end; those that are missing are 0."""
-        found, wanted = self.cells(switch, array), {index: value for index, value in wanted.items() if value}
-        for index in sorted({*found, *wanted}):
-            if found.get(index, 0) != wanted.get(index, 0):
-                self.fail(None, f"s{switch} {array}[{index}] is {found.get(index, 0)}, and not {wanted.get(index, 0)}")
+    def expect_cells(self, wanted: Mapping[Cell, int]) -> None:
+        """The cells at the end are exactly these, by switch, array and index; those that are missing are 0."""
+        found = self.log.values
+        for cell in sorted({*found, *wanted}):
+            if found.get(cell, 0) != wanted.get(cell, 0):
+                switch, array, index = cell
+                self.fail(None, f"s{switch} {array}[{index}] is {found.get(cell, 0)}, and not {wanted.get(cell, 0)}")
 
-    def replay(self, model: Any, switch: Optional[int] = None) -> None:
-        """Each event does what a model says. A method of the model with the name of an event gets the event and its arguments, and returns what
-        its handler is to send and to print; an event without a method is to do nothing."""
-        for event in self.events(switch=switch):
+    def expect_explained(self) -> None:
+        """Nothing was lost but on a link that was down."""
+        for packet in self.ledger.lost():
+            if packet.fate is not Fate.DOWN:
+                self.fail(packet, f"is lost: {packet.why()}")
+
+    def replay(self, model: Any) -> None:
+        """Each event does what a model says, and the cells at the end are `model.cells`. A method of the model with the name of an event gets
+        the event and its arguments, and returns what its handler is to send and to print; an event without a method is to do nothing."""
+        for event in self.events():
             method = getattr(model, event.name, None)
-            try:
-                wanted = method(event, *event.args) if method else None
-            except TypeError as fault:
-                if method and sys.exc_info()[2] and not sys.exc_info()[2].tb_next:  # type: ignore[union-attr]
-                    self.fail(event, f"does not fit its method: {fault}")
-                raise
-            self.expect(event, *(wanted or ()))
+            self.expect(event, *((method(event, *event.args) if method else None) or ()))
+        self.expect_cells(model.cells)
 
     def told(self) -> str:
-        """Says what became of the event that the property looked at last: what led to it, and what it led to."""
+        """Says as `tools/follow` what led to the event that the property looked at last, and what came of it."""
         it = self.last
         if it is None:
             return ""
         packet = it if isinstance(it, Packet) else self.ledger.entries[self.numbers[it.line]]
-        before = [] if packet.sender is None else self.ledger.back(packet.sender)
-        lines = [self.line_of(self.ledger.entries[number]) for number in before]
-        waiting: List[Tuple[int, Packet]] = [(len(lines), packet)]
-        while waiting:
-            depth, one = waiting.pop()
-            lines.append("  " * min(depth, 40) + self.line_of(one))
-            waiting += [(depth + 1, sent) for sent in reversed(self.outs(one))]
-        return "\n".join(lines[:60])
-
-    def line_of(self, packet: Packet) -> str:
-        """A packet with what became of it."""
-        if packet.entered is None:
-            return f"{packet.label()} to s{packet.switch}: {packet.why()}"
-        waited = f", which waited {packet.waited}" if packet.waited else ""
-        said = "".join(f"; says {text}" for text in self.log.events[packet.number or 0].said)
-        return f"[{packet.entered}] s{packet.switch} {packet.label()}{waited}{said}"
+        first = packet if packet.sender is None else self.ledger.entries[self.ledger.back(packet.sender)[0]]
+        return "\n".join(islice(Follower(self.ledger, Labels()).tree(first), MOST_LINES))
 
 
 def name_of(it: Union[Event, Packet]) -> str:

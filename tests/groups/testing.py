@@ -75,7 +75,7 @@ def test_broken_firewall(group: Group) -> None:
     group.check("at most six events are left, and no outage", len(scene["events"]) <= 6 and not scene["down"], scene)
     group.check("ticks and arguments are small", all(it["at"] <= 4 for it in scene["events"]) and scene["links"] == [[0, 1, 1], [0, 2, 1]], scene)
     group.check("it prints the scenario", all(line in said for line in kept.read_text().splitlines()), said)
-    group.check("it follows the event", re.search(r"what became of the event:\n  \[\d+\] s0 outside.*\n    \[\d+\] s0 again.*\n      \[\d+\] s0 dropped", said) is not None, said[-900:])
+    group.check("it follows the event", re.search(r"what became of the event:\n  event \d+ \[\d+\] s0 outside.*sends again.*sends dropped", said, re.S) is not None, said[-900:])
     command = re.search(r"^  (lucid run whole .*)$", said, re.M)
     again = group.call(*command[1].split()[1:], cwd=group.room) if command else Ended(1, b"", b"")
     group.check("its call runs the scenario", again.status == 0 and b" again(" in again.out, again)
