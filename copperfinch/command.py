@@ -16,6 +16,7 @@ from .streams import complain, write
 COMMANDS = {
     "explain": "explains a refusal, or shows nodes, tables and first fit",
     "fmt": "writes a program in one style",
+    "watch": "makes a call again at each change of its files",
     "where": "shows the place of a refusal",
     "stages": "shows how many stages a program needs, and why",
     "follow": "shows what became of an event, and what came of it",

@@ -46,6 +46,7 @@ _lucid_tool() {
             COMPREPLY=()
             _lucid_words explain where stages fmt follow page picture json scenario
             _lucid_words explain where stages follow cells page picture json scenario
+            _lucid_words explain where stages fmt watch follow page picture json scenario
             return
         fi
         tool=${COMP_WORDS[1]} at=$((at - 1))
@@ -59,6 +60,12 @@ _lucid_tool() {
             case ${COMP_WORDS[COMP_CWORD]} in
                 --*) [ "${COMP_WORDS[1]}" = log ] && _lucid_words --switches --ticks --without --program --show --names ;;
                 *) _lucid_files json log ;;
+            esac
+            ;;
+        watch-*)
+            case ${COMP_WORDS[COMP_CWORD]} in
+                --*) _lucid_words --lucid --times ;;
+                *) _lucid_files luc json ;;
             esac
             ;;
         fmt-*)
@@ -109,3 +116,4 @@ _lucid_tool() {
 complete -F _lucid lucid ./lucid
 complete -F _lucid_tool lucid-tools lucid-fmt tools/fmt tools/where tools/stages tools/follow tools/explain tools/json tools/picture tools/page tools/scenario
 complete -F _lucid_tool lucid-tools tools/where tools/stages tools/follow tools/cells tools/explain tools/json tools/picture tools/page tools/scenario
+complete -F _lucid_tool lucid-tools lucid-fmt tools/fmt tools/watch tools/where tools/stages tools/follow tools/explain tools/json tools/picture tools/page tools/scenario

@@ -106,7 +106,7 @@ FAULTS: Dict[str, str] = {
 CALLS = {
     "explain": "explain examples/crossed.luc", "where": "where examples/crossed.luc token 1", "json": "json log log",
     "picture": "picture layout empty layout", "scenario": "scenario dns 10 1", "examples-table": "examples-table",
-    "fmt": "fmt examples/first.luc", "page": "page examples/first.luc empty scene",
+    "fmt": "fmt examples/first.luc", "watch": "watch examples/first.luc --times 1", "page": "page examples/first.luc empty scene",
 }
 
 
