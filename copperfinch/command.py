@@ -19,6 +19,8 @@ COMMANDS = {
     "watch": "makes a call again at each change of its files",
     "where": "shows the place of a refusal",
     "stages": "shows how many stages a program needs, and why",
+    "cover": "shows what scenarios reach of a program",
+    "mutants": "breaks a program in small ways, and says which breaks its tests notice",
     "follow": "shows what became of an event, and what came of it",
     "cells": "prints the changes of cells",
     "page": "writes a run as one HTML file",

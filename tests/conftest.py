@@ -18,7 +18,7 @@ import pytest  # noqa: E402
 from harness import TESTS, TOP, Group, Options  # noqa: E402
 from rowfile import Row, read_rows  # noqa: E402
 
-ON_DEMAND = "deep", "wide", "speed", "meaning"
+ON_DEMAND = "deep", "wide", "speed", "meaning", "mutants"
 # These need no program, and tests that measure seconds run one after another.
 WITHOUT = "edits", "house", "owed", "modelled", "meaning", "trusted"
 MEASURED = "hostile", "collisions", "words"

@@ -47,6 +47,7 @@ _lucid_tool() {
             _lucid_words explain where stages fmt follow page picture json scenario
             _lucid_words explain where stages follow cells page picture json scenario
             _lucid_words explain where stages fmt watch follow page picture json scenario
+            _lucid_words explain where stages follow page picture json scenario cover mutants
             return
         fi
         tool=${COMP_WORDS[1]} at=$((at - 1))
@@ -76,6 +77,7 @@ _lucid_tool() {
             ;;
         where-1 | page-1 | explain-1 | stages-1 | follow-1) _lucid_files luc ;;
         where-1 | page-1 | explain-1 | stages-1 | follow-1 | cells-1) _lucid_files luc ;;
+        where-1 | page-1 | explain-1 | stages-1 | follow-1 | cover-1 | mutants-1) _lucid_files luc ;;
         stages-2) _lucid_files json ;;
         scenario-1) _lucid_words aging countmin dns firewall flowcache gateways nat reroute rip sro ;;
         explain-*)
@@ -95,6 +97,16 @@ _lucid_tool() {
             case ${COMP_WORDS[COMP_CWORD]} in
                 --*) _lucid_words --switch --json --log --lucid --show --names ;;
                 *) _lucid_files json log ;;
+        cover-*)
+            case ${COMP_WORDS[COMP_CWORD]} in
+                --*) _lucid_words --brief --lucid ;;
+                *) _lucid_files json ;;
+            esac
+            ;;
+        mutants-*)
+            case ${COMP_WORDS[COMP_CWORD]} in
+                --*) _lucid_words --runs --write --lucid ;;
+                *) _lucid_files json py ;;
             esac
             ;;
         json-*)
@@ -117,3 +129,4 @@ complete -F _lucid lucid ./lucid
 complete -F _lucid_tool lucid-tools lucid-fmt tools/fmt tools/where tools/stages tools/follow tools/explain tools/json tools/picture tools/page tools/scenario
 complete -F _lucid_tool lucid-tools tools/where tools/stages tools/follow tools/cells tools/explain tools/json tools/picture tools/page tools/scenario
 complete -F _lucid_tool lucid-tools lucid-fmt tools/fmt tools/watch tools/where tools/stages tools/follow tools/explain tools/json tools/picture tools/page tools/scenario
+complete -F _lucid_tool lucid-tools tools/where tools/stages tools/follow tools/explain tools/json tools/picture tools/page tools/scenario tools/cover tools/mutants

@@ -38,6 +38,8 @@ tools/json a|audit
 tools/json log --l|--limits
 tools/follow |a.luc
 tools/follow a.luc b.json b.json --b|--back
+tools/cover a.luc b.json |b.json
+tools/mutants a.luc b.json --w|--write
 tools/explain |a.luc
 lucid-fmt --ch|--check
 lucid-tools fmt a.luc |a.luc
