@@ -5,6 +5,7 @@ docs/PYTHON.md has examples. The modules:
     program                  calls of the built program
     log, layout, drive       readers of its answers; `lines` has what they share
     files, scenarios         limits, scenarios and placements; scenarios that are drawn
+    traffic                  scenarios of captures, which scapy reads, and of CSV files
     network, follow          the ledger of a run: what became of each event; and its text
     cells                    the changes of cells in a run
     labels, runs             formats and names that a user gives; the files of a run for tools

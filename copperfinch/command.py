@@ -26,6 +26,7 @@ COMMANDS = {
     "page": "writes a run as one HTML file",
     "picture": "draws a log, a layout or a drive",
     "json": "turns an answer into JSON",
+    "trace": "writes a scenario of a capture or a CSV file",
     "scenario": "draws a scenario of one of the ten applications",
     "examples-table": "prints the table of the ten applications",
 }

@@ -48,6 +48,7 @@ _lucid_tool() {
             _lucid_words explain where stages follow cells page picture json scenario
             _lucid_words explain where stages fmt watch follow page picture json scenario
             _lucid_words explain where stages follow page picture json scenario cover mutants
+            _lucid_words explain where stages follow cells page picture json trace scenario
             return
         fi
         tool=${COMP_WORDS[1]} at=$((at - 1))
@@ -115,6 +116,12 @@ _lucid_tool() {
                 *) _lucid_files json log ;;
             esac
             ;;
+        trace-*)
+            case ${COMP_WORDS[COMP_CWORD]} in
+                --*) _lucid_words --event --switch --tick-us --stop --program --into ;;
+                *) _lucid_files pcap pcapng csv json luc ;;
+            esac
+            ;;
         page-*)
             case ${COMP_WORDS[COMP_CWORD]} in
                 --*) _lucid_words --lucid --cells --show --names ;;
@@ -130,3 +137,4 @@ complete -F _lucid_tool lucid-tools lucid-fmt tools/fmt tools/where tools/stages
 complete -F _lucid_tool lucid-tools tools/where tools/stages tools/follow tools/cells tools/explain tools/json tools/picture tools/page tools/scenario
 complete -F _lucid_tool lucid-tools lucid-fmt tools/fmt tools/watch tools/where tools/stages tools/follow tools/explain tools/json tools/picture tools/page tools/scenario
 complete -F _lucid_tool lucid-tools tools/where tools/stages tools/follow tools/explain tools/json tools/picture tools/page tools/scenario tools/cover tools/mutants
+complete -F _lucid_tool lucid-tools tools/where tools/stages tools/follow tools/cells tools/explain tools/json tools/picture tools/page tools/trace tools/scenario
