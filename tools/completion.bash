@@ -44,11 +44,7 @@ _lucid_tool() {
     if [ "$tool" = lucid-tools ]; then
         if [ "$at" -eq 1 ]; then
             COMPREPLY=()
-            _lucid_words explain where stages fmt follow page picture json scenario
-            _lucid_words explain where stages follow cells page picture json scenario
-            _lucid_words explain where stages fmt watch follow page picture json scenario
-            _lucid_words explain where stages follow page picture json scenario cover mutants
-            _lucid_words explain where stages follow cells page picture json trace scenario
+            _lucid_words explain where stages fmt watch follow cells cover mutants page picture json trace scenario
             return
         fi
         tool=${COMP_WORDS[1]} at=$((at - 1))
@@ -76,14 +72,12 @@ _lucid_tool() {
                 *) _lucid_files luc ;;
             esac
             ;;
-        where-1 | page-1 | explain-1 | stages-1 | follow-1) _lucid_files luc ;;
-        where-1 | page-1 | explain-1 | stages-1 | follow-1 | cells-1) _lucid_files luc ;;
-        where-1 | page-1 | explain-1 | stages-1 | follow-1 | cover-1 | mutants-1) _lucid_files luc ;;
+        where-1 | page-1 | explain-1 | stages-1 | follow-1 | cells-1 | cover-1 | mutants-1) _lucid_files luc ;;
         stages-2) _lucid_files json ;;
         scenario-1) _lucid_words aging countmin dns firewall flowcache gateways nat reroute rip sro ;;
         explain-*)
             case ${COMP_WORDS[COMP_CWORD]} in
-                --*) _lucid_words --nodes --layout --placement --json --lucid ;;
+                --*) _lucid_words --all --lint --nodes --layout --placement --json --where --lucid ;;
                 *) _lucid_files json ;;
             esac
             ;;
@@ -98,6 +92,8 @@ _lucid_tool() {
             case ${COMP_WORDS[COMP_CWORD]} in
                 --*) _lucid_words --switch --json --log --lucid --show --names ;;
                 *) _lucid_files json log ;;
+            esac
+            ;;
         cover-*)
             case ${COMP_WORDS[COMP_CWORD]} in
                 --*) _lucid_words --brief --lucid ;;
@@ -133,8 +129,4 @@ _lucid_tool() {
 }
 
 complete -F _lucid lucid ./lucid
-complete -F _lucid_tool lucid-tools lucid-fmt tools/fmt tools/where tools/stages tools/follow tools/explain tools/json tools/picture tools/page tools/scenario
-complete -F _lucid_tool lucid-tools tools/where tools/stages tools/follow tools/cells tools/explain tools/json tools/picture tools/page tools/scenario
-complete -F _lucid_tool lucid-tools lucid-fmt tools/fmt tools/watch tools/where tools/stages tools/follow tools/explain tools/json tools/picture tools/page tools/scenario
-complete -F _lucid_tool lucid-tools tools/where tools/stages tools/follow tools/explain tools/json tools/picture tools/page tools/scenario tools/cover tools/mutants
-complete -F _lucid_tool lucid-tools tools/where tools/stages tools/follow tools/cells tools/explain tools/json tools/picture tools/page tools/trace tools/scenario
+complete -F _lucid_tool lucid-tools lucid-fmt tools/fmt tools/watch tools/where tools/stages tools/follow tools/cells tools/cover tools/mutants tools/explain tools/json tools/picture tools/page tools/trace tools/scenario

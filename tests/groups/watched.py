@@ -55,7 +55,7 @@ def test_watch(group: Group) -> None:
     was = [line for line in changed[1:-1] if line.startswith("-")]
     group.check("the change of the log", changed[0] == changed[-1] == "-- changed: nat.luc" and bool(was) and {line[1:] for line in was} <= set(log), changed)
     group.check("a file that is gone", lost[0] == "read fault: nat.luc", lost)
-    group.check("a refusal", "types: declaration 1 line 3" in refused and "remedy: write an int" in refused, refused)
+    group.check("a refusal", "types: declaration 1 line 4" in refused and "remedy: write an int" in refused, refused)
     group.check("the lines against the last answer", status == 0 and last.count("\n+") == len(was), last)
 
 
