@@ -1,9 +1,9 @@
-"""Further passes, which bring code to fewer stages: `casts`, `sources` and `lift` (crates/lucid_pass_more_spec/specs)."""
+"""Further passes, which bring code to fewer stages: `casts`, `sources`, `merge` and `lift` (crates/lucid_pass_more_spec/specs)."""
 from collections import defaultdict
 from dataclasses import replace
 from typing import Callable, DefaultDict, Dict, List, Set, Tuple
 
-from .nodes import Code, Literal, Op
+from .nodes import Code, Literal, Op, Operand
 from .passes import PASSES, dead, only_writers
 
 PURE = ('un', 'bin', 'cast', 'hash', 'move')
@@ -77,7 +77,33 @@ def lift(code: Code) -> List[Op]:
     return [lifted(op) for op in code.ops]
 
 
-# The four passes with the further ones between and behind them.
+def merge(code: Code) -> List[Op]:
+    """A call writes the field that its answer is moved to; the move then writes 0 to the field of the answer, which nobody reads."""
+    readers: DefaultDict[int, List[Op]] = defaultdict(list)
+    for op in code.ops:
+        for field in set(op.reads()):
+            readers[field].append(op)
+    goals: Dict[int, int] = {}
+    for field, i in only_writers(code.ops).items():
+        writer = code.ops[i]
+        if writer.kind != 'touch' or len(readers[field]) != 1:
+            continue
+        move = readers[field][0]
+        alike = set(writer.guard) == set(move.guard) and code.widths[field] == code.widths[move.to or 0]
+        if move.kind == 'move' and move.operands[0] == Operand(True, field) and alike:
+            goals[field] = move.to
+
+    def merged(op: Op) -> Op:
+        if op.kind == 'touch' and op.to in goals:
+            return replace(op, to=goals[op.to])
+        if op.kind == 'move' and op.operands[0].is_field and op.operands[0].value in goals:
+            return replace(op, operands=(Operand(False, 0),), to=op.operands[0].value)
+        return op
+
+    return [merged(op) for op in code.ops]
+
+
+# The four passes with the further ones between and behind them. `merge` has no code in Rattle yet.
 FOUR = dict(PASSES)
 MORE: List[Tuple[str, Callable[[Code], List[Op]]]] = [
     ('fold', FOUR['fold']), ('casts', casts), ('copies', FOUR['copies']), ('sources', sources), ('dead', dead), ('direct', FOUR['direct']),

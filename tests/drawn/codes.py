@@ -127,6 +127,14 @@ class Drawn:
             base = op.guard if self.rng.random() < 0.8 else ()
             self.guards = (self.guards + [base + (Literal(op.to, True, bit),) for bit in (0, 1)] * 2)[-8:]  # type: ignore[arg-type]
 
+    def move_answer(self, call: Op, width: int) -> None:
+        """Moves the answer of a call to another field, mostly under the guard of the call; mostly nothing else reads the answer."""
+        assert call.to is not None
+        guard = call.guard if self.rng.random() < 0.7 else call.guard[::-1] if self.rng.random() < 0.5 else self.guard()
+        self.add(Op(guard, 0, "move", (Operand(True, call.to),), None, 0), width)
+        if self.rng.random() < 0.8:
+            del self.keys[call.to]
+
     def step(self) -> None:
         rng, guard, width = self.rng, self.guard(), self.rng.choice(WIDTHS)
         kind = rng.choice(("move", "move", "cast", "cast", "bin", "bin", "bin", "un", "hash", "touch", "gen", "say"))
@@ -148,7 +156,10 @@ class Drawn:
                         MemAlu(wide, ("==", "stored", 0), ("arg",), ("stored",)))
                 to = wide if rng.random() < 0.8 else None
                 operands = (one, two, self.operand())
+                before = len(self.ops)
                 self.add(Op(guard, 0, kind, operands, None, 0, number=number, get=rng.choice(alus), set=rng.choice(alus), width=wide), to)
+                if len(self.ops) > before and to is not None and rng.random() < 0.7:
+                    self.move_answer(self.ops[-1], to if rng.random() < 0.8 else width)
         elif kind in ("gen", "say"):
             delay = (Operand(False, 0),) if kind == "gen" else ()
             self.add(Op(guard, 0, kind, (one, two) + delay, None, 0, number=rng.randrange(3), slot=rng.randrange(8)), None)

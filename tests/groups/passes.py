@@ -13,7 +13,7 @@ from dataclasses import replace
 from typing import Any, Callable, Dict, List, Optional, Tuple
 
 from harness import TOP, Group
-from copperfinch.model.more_passes import MORE
+from copperfinch.model.more_passes import MORE, merge
 from copperfinch.model.nodes import Code, Op
 from drawn.codes import difference, draw_code, fault_of
 
@@ -35,6 +35,9 @@ MUTANTS: List[Tuple[str, str, str, str, str]] = [
     ("tests a source outside the guard of its writer", "more_passes", "sources", "has_source(code, writer) and all(set(writer.guard) <= guard for guard in guards[field])", "has_source(code, writer)"),
     ("tests a source by a comparison of another width", "more_passes", "sources", "and op.width == code.widths[source.value] and", "and"),
     ("tests a source with a number that does not fit", "more_passes", "sources", "and number.value < 2 ** op.width", ""),
+    ("merges over a reader", "more_passes", "merge", "or len(readers[field]) != 1", "or not readers[field]"),
+    ("merges under another guard", "more_passes", "merge", "set(writer.guard) == set(move.guard)", "set(writer.guard) <= set(move.guard)"),
+    ("merges into a field of another width", "more_passes", "merge", "and code.widths[field] == code.widths[move.to or 0]", ""),
     ("lifts from literals that readers lack", "more_passes", "lift", "return set(op.reads()) | ({op.to} if op.to is not None else set())", "return {op.to} if op.to is not None else set()"),
     ("lifts from literals that other writers lack", "more_passes", "lift", "*users[op.to]", "*(users[op.to][1:] or users[op.to])"),
     ("lifts an operation with an effect", "more_passes", "lift", "if op.kind not in PURE or op.to is None:", "if op.to is None:"),
@@ -47,7 +50,7 @@ def run(group: Group) -> None:
     invalid = [(seed, fault_of(code)) for seed, code in codes.items() if fault_of(code) is not None]
     group.check("drawn codes are valid", not invalid, invalid[:1])
     changed: Dict[str, int] = {}
-    for name, one in dict(MORE).items():
+    for name, one in {**dict(MORE), "merge": merge}.items():
         made = {seed: replace(code, ops=one(code)) for seed, code in codes.items()}
         faults = ((seed, difference(codes[seed], new, random.Random(seed), RUNS)) for seed, new in made.items())
         wrong = next((fault for fault in faults if fault[1] is not None), None)

@@ -1,3 +1,4 @@
 pub mod CastsLemmas
 pub mod LiftLemmas
+pub mod MergeLemmas
 pub mod SourcesLemmas

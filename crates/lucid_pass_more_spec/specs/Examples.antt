@@ -1,6 +1,6 @@
 -- Code that is worked by hand through the passes of this crate, on the fields of lucid_code's examples: inputs of 32, 32, 32 and 16 bits, then
 -- fields of 8, 1, 8 and 16 bits.
-use Rattle.std.specs.Prelude.{◌≡◌, List, [], ◌∷◌, Some, None}
+use Rattle.std.specs.Prelude.{◌≡◌, ℕ, List, [], ◌∷◌, ◌++◌, Some, None}
 use Rattle.lucid_base.specs.declared.ops.BinOp.TheVariants.{Add}
 use Rattle.lucid_base.specs.declared.ops.CmpOp.TheVariants.{Eq, Ne}
 use Rattle.lucid_base.specs.declared.ops.UnOp.TheVariants.{Neg}
@@ -11,6 +11,7 @@ use Rattle.lucid_code.specs.Examples.{add, bare, field, fixed, is, isnt, move, o
 use Rattle.lucid_pass_spec.specs.Examples.{copy, reader}
 use Rattle.lucid_pass_more_spec.specs.Casts.{uncast_ops}
 use Rattle.lucid_pass_more_spec.specs.Lift.{lift_ops}
+use Rattle.lucid_pass_more_spec.specs.Merge.{merged_ops}
 use Rattle.lucid_pass_more_spec.specs.Sources.{source_ops}
 
 -- A sum of field 3 and 1 in 16 bits, for field 7.
@@ -23,6 +24,17 @@ source = source_ops widths
 -- Field 5 says that field 3 differs from 7.
 abbrev pub differs_from_seven : Op
 differs_from_seven = bare (act.Cmp Ne 16 (field 3) (fixed 7) 5)
+
+-- With one field more, of 16 bits.
+abbrev pub merge : List Op → List Op
+merge = merged_ops (widths ++ 16 ∷ [])
+
+-- A call for event 1 that answers in field 7, and a move of the answer.
+abbrev pub call : ℕ → Op
+call k = op (is 0 1 ∷ []) 0 (add (fixed 0) (fixed 1) (Some k))
+
+abbrev pub answer_to : ℕ → Op
+answer_to k = op (is 0 1 ∷ []) 1 (act.Move (field 7) k)
 
 pub record MoreExamples : Type 0 where
   -- `Casts`: of a field and of a number, under a guard; other acts stay
@@ -70,3 +82,10 @@ pub record MoreExamples : Type 0 where
   pub fewer_bits_stay : source (bare (act.Cmp Ne 8 (field 3) (fixed 7) 5) ∷ reader (is 5 1 ∷ []) 3 ∷ []) ≡ bare (act.Cmp Ne 8 (field 3) (fixed 7) 5) ∷ reader (is 5 1 ∷ []) 3 ∷ []
   pub wide_number_stays : source (bare (act.Cmp Ne 16 (field 3) (fixed 65543) 5) ∷ reader (is 5 1 ∷ []) 3 ∷ []) ≡ bare (act.Cmp Ne 16 (field 3) (fixed 65543) 5) ∷ reader (is 5 1 ∷ []) 3 ∷ []
   pub equality_stays : source (bare (act.Cmp Eq 16 (field 3) (fixed 7) 5) ∷ reader (is 5 1 ∷ []) 3 ∷ []) ≡ bare (act.Cmp Eq 16 (field 3) (fixed 7) 5) ∷ reader (is 5 1 ∷ []) 3 ∷ []
+  -- `Merge`: the call writes the field, and the move is left for `Dead`
+  pub merges : merge (call 7 ∷ answer_to 8 ∷ reader [] 8 ∷ []) ≡ call 8 ∷ op (is 0 1 ∷ []) 1 (act.Move (fixed 0) 7) ∷ reader [] 8 ∷ []
+  -- another reader of the answer, another guard, a narrower field, and what is no call
+  pub read_answer_stays : merge (call 7 ∷ answer_to 8 ∷ reader [] 7 ∷ []) ≡ call 7 ∷ answer_to 8 ∷ reader [] 7 ∷ []
+  pub other_guard_stays : merge (bare (add (fixed 0) (fixed 1) (Some 7)) ∷ answer_to 8 ∷ []) ≡ bare (add (fixed 0) (fixed 1) (Some 7)) ∷ answer_to 8 ∷ []
+  pub narrow_answer_stays : merge (call 7 ∷ answer_to 4 ∷ []) ≡ call 7 ∷ answer_to 4 ∷ []
+  pub sum_stays : merge (op (is 0 1 ∷ []) 0 sum ∷ answer_to 8 ∷ []) ≡ op (is 0 1 ∷ []) 0 sum ∷ answer_to 8 ∷ []

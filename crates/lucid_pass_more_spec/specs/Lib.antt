@@ -1,4 +1,5 @@
 pub mod Casts
 pub mod Examples
 pub mod Lift
+pub mod Merge
 pub mod Sources

@@ -2,12 +2,14 @@
 ghost use Rattle.lucid_pass_spec.specs.Laws.{KeepsNodes, Replaces};
 ghost use Rattle.lucid_pass_more_spec.specs.Casts.{uncast};
 ghost use Rattle.lucid_pass_more_spec.specs.Lift.{lift};
+ghost use Rattle.lucid_pass_more_spec.specs.Merge.{merged};
 ghost use Rattle.lucid_pass_more_spec.specs.Sources.{sources};
 
 /// The result of a pass on valid code may replace it.
 pub fn more_passes_replace()
     ensures casts { Replaces uncast }
     ensures sources { Replaces sources }
+    ensures merge { Replaces merged }
     ensures lift { Replaces lift }
 {}
 
@@ -15,5 +17,6 @@ pub fn more_passes_replace()
 pub fn more_passes_keep_nodes()
     ensures casts { KeepsNodes uncast }
     ensures sources { KeepsNodes sources }
+    ensures merge { KeepsNodes merged }
     ensures lift { KeepsNodes lift }
 {}

@@ -28,4 +28,9 @@ returns c = record {
   fewer_bits_stay = refl;
   wide_number_stays = refl;
   equality_stays = refl;
+  merges = refl;
+  read_answer_stays = refl;
+  other_guard_stays = refl;
+  narrow_answer_stays = refl;
+  sum_stays = refl;
 }
