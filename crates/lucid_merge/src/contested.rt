@@ -130,10 +130,22 @@ pub(crate) fn lone_literals(alloc: Global, a: &[Row], b: &[Row]) -> Result<Vec<L
         equal: false,
         value: u64::MAX,
     };
-    let mut lone = vec![in alloc; none; 4096]?;
+    let size = most_field(a).max(most_field(b)).saturating_add(1).min(4096);
+    let mut lone = vec![in alloc; none; size]?;
     note_rows(&mut lone, a);
     note_rows(&mut lone, b);
     Ok(lone)
+}
+
+/// Returns the largest field that these rows name.
+fn most_field(rows: &[Row]) -> usize {
+    let mut most = 0;
+    for row in rows {
+        for literal in row.pattern.as_slice() {
+            most = most.max(literal.field as usize);
+        }
+    }
+    most
 }
 
 fn note_rows(lone: &mut Vec<Literal>, rows: &[Row]) {

@@ -38,7 +38,7 @@ pub(crate) fn with_bits(bits: &[u64], from: u64, pattern: &[Literal]) -> u64
 /// Returns a bit for each literal of these rows, by its slot: mostly one for literals of the same rows, and another for others, so that the
 /// common literals of most rows take few bits. Any bits would be right; these exclude the most. Few pairs cost less than a table, and get none.
 pub(crate) fn bits_for(alloc: Global, a: &[Row], b: &[Row]) -> Result<Vec<u64>, Memory> {
-    if a.len().saturating_mul(b.len()) <= 16 {
+    if a.len().saturating_mul(b.len()) <= 64 {
         return Ok(Vec::new(alloc));
     }
     let mut bits = vec![in alloc; 0u64; 4097]?;
