@@ -16,6 +16,7 @@ from .streams import complain, write
 COMMANDS = {
     "explain": "explains a refusal, or shows nodes, tables and first fit",
     "fmt": "writes a program in one style",
+    "lsp": "serves an editor by the language server protocol",
     "watch": "makes a call again at each change of its files",
     "where": "shows the place of a refusal",
     "stages": "shows how many stages a program needs, and why",
@@ -32,7 +33,7 @@ COMMANDS = {
 }
 PROG = "lucid-tools"
 # Commands that are installed under a name of their own, too.
-SHORT = {"lucid-fmt": "fmt"}
+SHORT = {"lucid-fmt": "fmt", "lucid-lsp": "lsp"}
 
 
 class Parser(argparse.ArgumentParser):

@@ -9,8 +9,12 @@ from dataclasses import dataclass, field
 from typing import Iterator, List, Optional, Tuple, Union
 
 from .errors import Error
-from .explain import explain
-from .model.lexer import Token, lex
+from .explain import explanation_of
+from .explain.places import Sources
+from .model.answers import MOST_BYTES, Answer, Call, Program
+from .model.lexer import lex
+from .model.parser import parse
+from .model.refusals import Refused
 from .streams import Source
 
 WIDTH, STEP, DEEPER = 140, "  ", "    "
@@ -67,7 +71,7 @@ class Line:
         return first.open.breaks if isinstance(first, Block) else first.breaks
 
 
-def gaps(tokens: List[Token]) -> Iterator[str]:
+def gaps(tokens: List[Piece]) -> Iterator[str]:
     """What stands before each token that does not begin a line."""
     closes: List[Tuple[int, str]] = []  # the widths that are open: where each ends, and what stands behind it
     is_operand, before, casts = False, "", 0
@@ -93,17 +97,25 @@ def gaps(tokens: List[Token]) -> Iterator[str]:
 
 def pieces_of(text: str) -> List[Piece]:
     """Returns the tokens and the comments of a text. Raises Refused where no token begins."""
-    tokens = lex(text)
     found: List[Piece] = []
-    for token, gap in zip(tokens, [*gaps(tokens[:-1]), " "]):
+    for token in lex(text):
         at = token.before
         for comment in COMMENT.finditer(text, token.before, token.at):
             kind = "line" if comment.group().startswith("//") else "block"
             found.append(Piece(comment.group().rstrip(" \t\r"), kind, text.count("\n", at, comment.start())))
             at = comment.end()
-        is_bare = bool(found) and found[-1].kind == "block" and token.before < at and token.text not in (")", ",", ";")
-        found.append(Piece(token.text, token.kind, text.count("\n", at, token.at), " " if is_bare else gap))
+        found.append(Piece(token.text, token.kind, text.count("\n", at, token.at)))
     return found
+
+
+def space(pieces: List[Piece]) -> None:
+    """Sets what stands before each piece that does not begin a line: a blank, or nothing."""
+    tokens = [piece for piece in pieces if not piece.is_comment]
+    for piece, gap in zip(tokens, gaps(tokens)):
+        piece.gap = gap
+    for before, piece in zip(pieces, pieces[1:]):
+        if before.kind == "block" and not piece.is_comment and piece.text not in (")", ",", ";"):
+            piece.gap = " "
 
 
 class Reader:
@@ -253,6 +265,7 @@ def words_of(parts: List[Union[Piece, Block]]) -> List[str]:
 def formatted(text: str) -> str:
     """Returns a text in the style. A text is a `str` with one character for each byte. Raises Refused where no token begins."""
     pieces = pieces_of(text)
+    space(pieces)
     writer = Writer()
     writer.block(Reader(pieces).lines(False), "")
     made = "".join(f"{line}\n" for line in writer.out)
@@ -268,7 +281,14 @@ def same(pieces: List[Piece], text: str) -> bool:
 
 def format_program(source: Source) -> bytes:
     """Returns a program in the style. Raises Error with the place if it is too long, or if it is no tree of the language."""
-    found = explain(["check", source.name], lambda _: source.data, False).explanation
-    if found is not None and found.status in (3, 4, 13):
-        raise Error(f"{found.place.head()}: {found.words.problem}" if found.place else found.refusal)
-    return formatted(source.data.decode("latin-1")).encode("latin-1")
+    if len(source.data) > MOST_BYTES["program"]:
+        raise Error(f"too long: {source.name}")
+    program = Program(source.data.decode("latin-1"))
+    try:
+        expanded = program.expand()
+        parse(expanded, lex(expanded))
+    except Refused as refused:
+        answer = Answer(call=Call("check", {"program": source.name}, "", []), files={"program": source.data}, program=program)
+        found = explanation_of(Sources(answer), refused)
+        raise Error(f"{found.place.head()}: {found.words.problem}" if found.place else found.refusal) from None
+    return formatted(program.text).encode("latin-1")

@@ -44,7 +44,7 @@ _lucid_tool() {
     if [ "$tool" = lucid-tools ]; then
         if [ "$at" -eq 1 ]; then
             COMPREPLY=()
-            _lucid_words explain where stages fmt watch follow cells cover mutants page picture json trace scenario
+            _lucid_words explain where stages fmt watch lsp follow cells cover mutants page picture json trace scenario
             return
         fi
         tool=${COMP_WORDS[1]} at=$((at - 1))

@@ -107,7 +107,7 @@ def collect(allow_unproved: bool, prefix: str) -> Files:
     files[f"{HOME}/lucid"] = Text((TOP / "tools/lucid_build/installed.sh").read_bytes(), True)
     files["bin/lucid"] = Link(f"../{HOME}/lucid")
     files[f"{HOME}/lucid-tools"] = Text((TOP / "tools/lucid_build/installed_tools.py").read_bytes(), True)
-    for name in ("lucid-tools", "lucid-fmt"):
+    for name in ("lucid-tools", "lucid-fmt", "lucid-lsp"):
         files[f"bin/{name}"] = Link(f"../{HOME}/lucid-tools")
     files.update(read_folder(TOP / "copperfinch", f"{HOME}/copperfinch"))
     files[f"{COMPLETIONS}/lucid-tools"] = Link("lucid")
@@ -217,6 +217,7 @@ Section: net
 Priority: optional
 Architecture: {architecture}
 Depends: libc6, python3:any
+Recommends: python3-pylsp-jsonrpc
 Installed-Size: {size}
 Maintainer: {maintainer}
 Description: compiler and simulator for a variant of Lucid
