@@ -41,7 +41,7 @@ def add_words(parser: argparse.ArgumentParser) -> None:
         parser.add_argument(name, nargs="?", metavar=name[:9].upper())
     parser.add_argument("--nodes", action="store_true", help="the nodes: number, place, what each is and reads, its array, stage, rows and bits")
     parser.add_argument("--layout", action="store_true", help="the tables of first fit, each with its nodes")
-    parser.add_argument("--placement", action="store_true", help="first fit as a placement file, for `audit` and `run placed`")
+    parser.add_argument("--placement", action="store_true", help="first fit as a placement file, for `audit` and `run placed`; a refusal goes to standard error")
     parser.add_argument("--all", action="store_true", help="all that is wrong, and not only what is refused first")
     parser.add_argument("--lint", action="store_true", help="warnings of what is accepted and probably wrong")
     parser.add_argument("--json", action="store_true", help="all of this as one JSON object")
@@ -175,5 +175,9 @@ def tell(report: Report, given: argparse.Namespace, ended: Optional[Ended], left
         lines += [left_out] if left_out else []
     else:
         lines = ["nothing is refused"]
-    write("".join(f"{printable(text)}\n" for text in lines))
+    if given.placement and report.placement is None:  # standard output becomes a placement file, or nothing
+        for text in lines:
+            complain(text)
+    else:
+        write("".join(f"{printable(text)}\n" for text in lines))
     return status

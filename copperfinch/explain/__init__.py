@@ -2,7 +2,8 @@
 
 `explain(words, read_file)` explains the call of `lucid` with these words, and `every.explain_all(words, read_file)` all that is wrong with
 it; tools/explain is their command line. The modules are `words` for the text of each refusal, `places` for lines and columns, `nodes` for
-the nodes of a program, `recover` for what is wrong behind a refusal, and `where` for the line of a refusal.
+the nodes of a program, `published` for forms of the published language, `remedies` for what depends on the text round a fault, `recover` for what is wrong behind a refusal, and `where` for the
+line of a refusal.
 """
 from __future__ import annotations
 
@@ -13,10 +14,12 @@ from ..model.answers import Answer, ReadFile, Word, judge
 from ..model.json_files import Limits, read_limits
 from ..model.layout import Layout
 from ..model.passes import compose
-from ..model.refusals import Refused
+from ..model.refusals import Fault, Refused
 
 from .nodes import Described
 from .places import Edit, Place, Sources
+from .published import name_form
+from .remedies import mend, of_size
 from .words import Words, words_of
 
 GREATEST = Limits(stages=32, tables=64, rows=1024, arrays=64, arms=64, bits=1048576)
@@ -56,6 +59,14 @@ class Explanation:
                 'edits': [edit.data() for edit in self.edits]}
 
 
+def remedies(text: str, fault: Fault, words: Words) -> List[Edit]:
+    """Writes what the text round a fault of a program says of it: a form of the published language, or a remedy; returns its edits."""
+    if not isinstance(fault.at, int) or fault.rule in ('no token', 'no tree') and of_size(text, fault.at, words):
+        return []
+    edits = name_form(text, fault, words)
+    return mend(text, fault, words) if edits is None else edits
+
+
 def explanation_of(sources: Sources, refused: Refused) -> Explanation:
     """Explains a refusal of the files of a call."""
     fault = refused.fault
@@ -68,10 +79,15 @@ def explanation_of(sources: Sources, refused: Refused) -> Explanation:
     if fault.rule == 'no token':
         more = {'at': at}
     words = words_of(fault.rule, fault.values, **more)
+    edits: List[Edit] = []
+    if refused.file == 'program':
+        text = sources.text(fault.rule)
+        edits = sources.edits(remedies(text, fault, words))
     notes = list(words.notes) + fault.notes
     if at is None and notes:
         at = notes[0][0]
-    made = Explanation(refused.line, refused.status, words, notes=[(sources.place('program', place), text) for place, text in notes])
+    made = Explanation(refused.line, refused.status, words, notes=[(sources.place('program', place), text) for place, text in notes],
+                       edits=edits)
     if at is not None:
         made.place = sources.place(refused.file, at)
         made.details = sources.copies(at) if refused.file == 'program' else []

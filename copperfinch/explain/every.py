@@ -1,7 +1,9 @@
 """Explains all that is wrong with the files of a call, and not only what is refused first."""
 from __future__ import annotations
 
+from bisect import bisect_right
 from copy import copy
+from dataclasses import dataclass, replace
 from typing import Any, List, Optional, Sequence, Set, Tuple
 
 from ..model.answers import Answer, Program, ReadFile, Word, judge
@@ -14,10 +16,12 @@ from ..model.passes import compose
 from ..model.refusals import Fault, Refused
 
 from . import Explanation, explanation_of
-from .places import Sources
+from .places import Edit, Sources, apart
+from .published import PUBLISHED
 from .recover import all_wrong
 
 MOST = 100
+ROUNDS = 4
 NOWHERE = (-1, -1)
 
 
@@ -79,9 +83,92 @@ def later_files(answer: Answer, core: Optional[Core]) -> List[Refused]:
     return found
 
 
-def same(a: Refused, b: Refused) -> bool:
-    """Whether two refusals are of one fault."""
-    return a.fault is not None and b.fault is not None and (a.file, a.fault.rule, a.fault.at) == (b.file, b.fault.rule, b.fault.at)
+@dataclass
+class Edited:
+    """A text after changes, and for each piece of it where it begins, where it comes from, and whether it was written by a change."""
+
+    data: bytes
+    pieces: List[Tuple[int, int, bool]]
+
+    def back(self, at: int) -> Tuple[int, bool]:
+        """Returns the byte of the text before the changes, and whether it was changed."""
+        begin, source, is_new = self.pieces[bisect_right(self.pieces, (at, len(self.data) * 2, True)) - 1]
+        return (source, True) if is_new else (source + at - begin, False)
+
+
+def edited(data: bytes, edits: Sequence[Edit]) -> Edited:
+    """Makes changes of a text."""
+    made, pieces, size, begin = [], [], 0, 0
+    for edit in apart(edits):
+        for text, source, is_new in ((data[begin:edit.start], begin, False), (edit.text.encode('latin-1', 'replace'), edit.start, True)):
+            pieces.append((size, source, is_new))
+            made.append(text)
+            size += len(text)
+        begin = edit.end
+    return Edited(b''.join(made) + data[begin:], pieces + [(size, begin, False)])
+
+
+class Rounds:
+    """All that is wrong in a program: each round mends what has an edit, and shows what was hidden behind it."""
+
+    def __init__(self, answer: Answer, most: int) -> None:
+        self.call, self.most = answer.call, most
+        self.data = answer.files['program']
+        self.plain = Sources(Answer(call=answer.call, files=answer.files, program=Program(answer.program.text)))
+        self.before: List[Edited] = []
+        self.found: List[Explanation] = []
+        self.seen: Set[int] = set()
+        self.problems: Set[str] = set()
+        for _ in range(ROUNDS):
+            made = one_round(self.call, self.data, most)
+            edits = [edit for one in made if one.status == 4 or is_unknown(one) for edit in one.edits]
+            for one in made:
+                self.keep(one)
+            if not edits or len(self.found) >= most:
+                break
+            self.before.append(edited(self.data, edits))
+            self.data = self.before[-1].data
+        self.found.sort(key=lambda one: one.place.at if one.place else 0)
+
+    def back(self, at: int) -> Tuple[int, bool]:
+        """Returns the byte of the program as it was given, and whether a round changed it."""
+        is_changed = False
+        for step in reversed(self.before):
+            at, is_new = step.back(at)
+            is_changed = is_changed or is_new
+        return at, is_changed
+
+    def keep(self, one: Explanation) -> None:
+        """Keeps an explanation of a place that has none yet, with the places of the program as it was given."""
+        at, is_changed = self.back(one.place.at) if one.place else (0, False)
+        if self.before and (is_changed or at in self.seen or one.words.problem in self.problems and PUBLISHED not in one.words.problem):
+            return
+        self.seen.add(at)
+        self.problems.add(one.words.problem)
+        if self.before:
+            one.place = self.plain.place('program', at)
+            one.notes = [(self.plain.place('program', self.back(place.at)[0]), text) for place, text in one.notes]
+            spans = [(self.back(edit.start), self.back(edit.end)) for edit in one.edits]
+            one.edits = [replace(edit, start=a, end=b) for edit, ((a, new), (b, newer)) in zip(one.edits, spans)
+                         if not new and not newer and b - a == edit.end - edit.start]
+        self.found.append(one)
+
+
+def is_unknown(one: Explanation) -> bool:
+    """Whether a refusal is of a name of the published language that is not declared here."""
+    return one.words.found == 'an unknown name' and PUBLISHED in one.words.problem
+
+
+def one_round(call: Any, data: bytes, most: int) -> List[Explanation]:
+    """Returns what is wrong in a program as it stands, in the order of places."""
+    text = data.decode('latin-1')
+    wrong = all_wrong(text)
+    files = {'program': data}
+    in_file = Sources(Answer(call=call, files=files, program=Program(text)))
+    in_text = Sources(Answer(call=call, files=files, program=Program(wrong.repaired.text, expanded=wrong.repaired.expanded)))
+    found = [(in_file if of_file(one) else in_text, one) for one in wrong.refusals]
+    found.sort(key=lambda pair: place_of(*pair))
+    return [explanation_of(where, one) for where, one in found[:most]]
 
 
 def explain_all(words: Sequence[Word], read: ReadFile, most: int = MOST) -> List[Explanation]:
@@ -91,24 +178,23 @@ def explain_all(words: Sequence[Word], read: ReadFile, most: int = MOST) -> List
     reported that follows from a refused declaration. The others are in the order of their places in the program, and then of the files.
     """
     answer = judge(list(words), read, runs=False)
-    own = answer.refused
+    own, sources = answer.refused, Sources(answer)
     if own is None:
         return []
+    first = explanation_of(sources, own)
     if answer.program is None:
-        return [explanation_of(Sources(answer), own)]
-    found: List[Tuple[Any, Refused]] = []
-    sources = Sources(answer)
-    in_file, in_text = Sources(Answer(call=answer.call, files=answer.files, program=Program(answer.program.text))), sources
-    if answer.program.core is None:
-        wrong = all_wrong(answer.program.text)
-        made = Program(wrong.repaired.text, expanded=wrong.repaired.expanded)
-        in_text = Sources(Answer(call=answer.call, files=answer.files, program=made))
-        is_nested = own.fault is not None and own.fault.rule == 'nesting'
-        found = [(in_file if of_file(one) else in_text, one) for one in wrong.refusals if not is_nested or of_file(one)]
-        found.sort(key=lambda pair: place_of(*pair))
-    found += [(in_text, one) for one in later_files(answer, answer.program.core)]
-    others = [pair for pair in found if not same(pair[1], own)][:most - 1]
-    return [explanation_of(where, one) for where, one in [(sources, own)] + others]
+        return [first]
+    found: List[Explanation] = []
+    if answer.program.core is None and (own.fault is None or own.fault.rule != 'nesting'):
+        found = Rounds(answer, most).found
+    found += [explanation_of(sources, one) for one in later_files(answer, answer.program.core)]
+    return [first] + [one for one in found if not same(one, first)][:most - 1]
+
+
+def same(a: Explanation, b: Explanation) -> bool:
+    """Whether two explanations are of one fault."""
+    places = [one.place and (one.place.file, one.place.at) for one in (a, b)]
+    return a.refusal == b.refusal and places[0] == places[1]
 
 
 def of_file(refused: Refused) -> bool:

@@ -54,10 +54,19 @@ class Edit:
         return {'start': self.start, 'end': self.end, 'text': self.text}
 
 
+def apart(edits: Sequence[Edit]) -> List[Edit]:
+    """Returns changes in the order of their places; of those that meet, the one that is given first."""
+    kept: List[Edit] = []
+    for edit in edits:
+        if all(edit.end < other.start or other.end < edit.start or edit.end == other.start != edit.start for other in kept):
+            kept.append(edit)
+    return sorted(kept, key=lambda one: one.start)
+
+
 def applied(data: bytes, edits: Sequence[Edit]) -> bytes:
-    """Returns a file with changes made, none of which meets another."""
-    for edit in sorted(edits, key=lambda one: one.start, reverse=True):
-        data = data[:edit.start] + edit.text.encode('latin-1') + data[edit.end:]
+    """Returns a file with changes made; of those that meet, the one that is given first."""
+    for edit in reversed(apart(edits)):
+        data = data[:edit.start] + edit.text.encode('latin-1', 'replace') + data[edit.end:]
     return data
 
 
@@ -124,6 +133,15 @@ class Sources:
             return at
         begin, source = self.expanded.pieces[max(0, bisect_right(self.begins, at) - 1)]
         return int(at + source - begin)
+
+    def text(self, rule: str) -> str:
+        """The text of the program of which the places of a broken rule are: as it was given, or expanded."""
+        return str(self.answer.program.text if rule == 'no token' or self.expanded is None else self.expanded.text)
+
+    def edits(self, edits: Sequence[Edit]) -> List[Edit]:
+        """Changes of the program as it was given, of changes of the expanded text; none if one is not of one piece of it."""
+        found = [Edit(self.source_of(one.start), self.source_of(one.end), one.text) for one in edits]
+        return found if all(a.end - a.start == b.end - b.start for a, b in zip(edits, found)) else []
 
     def place(self, file: str, at: int) -> Place:
         """A place of the program as it was given, or of the limits, the scenario or the placement."""

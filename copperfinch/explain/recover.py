@@ -21,6 +21,7 @@ from ..model.parser import Parser
 from ..model.refusals import Fault, Refused
 from ..model.statements import ALWAYS, NEVER, Statements, Steps
 from ..model.types import LOGIC, Entry, Type, bits, value_type
+from .published import is_published
 
 UNSURE = 'unsure'
 DECLARES = ('const', 'global', 'memop', 'event', 'handle', 'fun', 'group')
@@ -219,6 +220,9 @@ class Recovering(Parser):
         depth = 0
         while self.token.kind != 'end' and (not self.declares() or self.tokens[self.here - 1].text == 'extern'):
             token = self.token
+            is_other = self.tokens[start].text not in DECLARES and self.here > start and self.text[token.at - 1:token.at] == '\n'
+            if is_other and depth <= 0 and token.text not in ('{', '}'):
+                break
             if token.text == '{' and self.begins_block(depth):
                 if self.tokens[start].text in DECLARES or self.tokens[self.here - 1].text == ')':
                     made.body = self.block()
@@ -438,7 +442,7 @@ class Elaborating(Elaboration):
         """Keeps a fault of the declaration at hand as a refusal: once for each place, and once for each name that is not declared."""
         number, d = self.here
         place: Tuple[str, Any] = (fault.rule, fault.at)
-        if fault.rule == 'name' and fault.values[2] is None:
+        if fault.rule == 'name' and fault.values[2] is None and not is_published(fault.values[0]):
             place = 'name', fault.values[0]
             if self.is_nameless:
                 return

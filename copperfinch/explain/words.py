@@ -143,10 +143,16 @@ def bits(code: Code, limits: Limits) -> Words:
 
 
 def arms(code: Code, array: int, limits: Limits) -> Words:
-    """The places at which an array is called."""
+    """The places at which an array is called, and whether they are in one handler."""
     name, calls = code.core.arrays[array].name, code.calls(array)
-    return Words(f'{name} is called at {len(calls)} places, and `arms` is {limits.arms}',
-                 'An array is called at no more places than `arms`.', 'make one call, with the cell chosen before it',
+    handlers = {x.value for i in calls for x in code.ops[i].guard if x.field == 0 and x.equal}
+    remedy = 'make one call, with the cell chosen before it'
+    problem = f'{name} is called at {len(calls)} places, and `arms` is {limits.arms}'
+    if len(handlers) > 1:
+        problem = f'{name} is called at {len(calls)} places of {len(handlers)} handlers, and `arms` is {limits.arms}'
+        remedy = 'allow more `arms`, or let the handlers send an event whose handler makes the call'
+    return Words(problem, 'An array is called at no more places than `arms`: in all handlers together, and a call in a function counts at each '
+                 'call of that function.', remedy,
                  notes=[(code.ops[i].at, f'{name} is called here') for i in calls])
 
 
@@ -159,7 +165,10 @@ def node(made: Layout) -> Words:
 
 SHAPE = ('A memop is one return, or one `if` with one return in each branch; each returned expression and the condition '
          'have one or two operands, and use each parameter at most once.')
-REMEDIES = {'the condition is no comparison': 'compare two operands by one of == != < > <= >=',
+OPERAND = 'an operand is a parameter, a number or a constant, and nothing else'
+REMEDIES = {OPERAND: 'compute it outside: give the sum as the argument of the call, compare the stored number with the limit less the step, or use two '
+                     'memops in one `Array.update`; in the handler a sum that stops is `|+|`',
+            'the condition is no comparison': 'compare two operands by one of == != < > <= >=',
             'the body is no return and no `if`': 'write `return ..;`',
             'a branch is one return with a value, and nothing else': 'write `return ..;`'}
 # What each key must be, by the file and the key.
@@ -172,6 +181,7 @@ KEYS = {'limits': 'Each key of a limits file is a number within its range (docs/
         'down': 'A window is of a pair that a link joins, begins before it ends, and needs `"version": 2`.',
         'events': 'An event has a tick, a switch of the network, the name of an event of the program, and arguments that fit it.',
         'steps': 'A step enters the next event, moves the packet of a slot, or looks at a cell.'}
+VALUES = {'no windows without `"version": 2`': 'add `"version": 2`, or write no windows'}
 WORDS: Dict[str, Callable[..., Words]] = {
     'usage': lambda problem: Words(problem, 'The words must be one of the forms of docs/ERRORS.md and the README.',
                                    'use a form of the table in the README'),
@@ -262,7 +272,7 @@ WORDS: Dict[str, Callable[..., Words]] = {
                                               'remove or rename this key', 'one of the keys ' + ', '.join(keys), found),
     'value': lambda wanted, found='', file='', key='': Words(
         f'expected {wanted}, found {found}', KEYS.get(key if file == 'scenario' else file, KEYS['scenario']),
-        f'write {wanted}', wanted, found)}
+        VALUES.get(wanted, f'write {wanted}'), wanted, found)}
 
 
 def words_of(rule: str, values: Tuple[Any, ...], **more: Any) -> Words:

@@ -18,6 +18,7 @@ PAGES = {
     "docs/OUTPUT.md": "",
     "examples/README.md": "applications",
     "tools/README.md": "heavy",
+    "tools/MISTAKES.md": "mistakes",
 }
 
 

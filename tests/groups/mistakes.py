@@ -121,7 +121,7 @@ def check_tool(group: Group) -> None:
 def check_rows(group: Group) -> None:
     refused = 0
     for row in all_rows():
-        if row.status in (10, 11) or row.bytes_read() > 5_000:
+        if row.status in (10, 11) or row.bytes_read() > 2_000:
             continue
         made, found = explain(row.words, row.read, with_nodes=False).explanation, explain_all(row.words, row.read)
         refused += made is not None
@@ -149,8 +149,8 @@ def check_left_out(group: Group) -> None:
 
 def check_long(group: Group) -> None:
     many = "event e(int n);\nhandle e(int n) {\n" + "n = n * 2; x++;\n" * 30_000 + "}\n"
-    signs, broken = "' @ ` $ ?\n" * 6_000, "handle e() { x = ; }\n" * 20_000
-    for name, text in (("60,000 mistakes", many), ("30,000 bytes of no token", signs), ("20,000 declarations", broken)):
+    signs, broken = "' @ ` $ ?\n" * 6_000, "handle e() { x = ; }\n" * 10_000
+    for name, text in (("60,000 mistakes", many), ("30,000 bytes of no token", signs), ("10,000 declarations", broken)):
         started = time.process_time()
         found = explain_all(["check", "p"], lambda _: text.encode())
         spent = time.process_time() - started

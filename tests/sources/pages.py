@@ -5,6 +5,8 @@ import re
 from pathlib import Path
 from typing import Callable, Dict, List, Optional, Tuple
 
+from copperfinch.explain.published import tables
+
 from .below import Repository
 from .crates import crates_page, item_table, libraries, wrong_bodies
 from .theorems import misquoted
@@ -48,7 +50,7 @@ def all_pages(top: Path, kit: Optional[Path]) -> Tuple[Dict[str, str], List[str]
     if not trusted.lucid:
         return {}, repository.notes.found, []
     texts = {"docs/TRUSTED.md": trusted.text(), "docs/CRATES.md": crates_page(top), SUMS: trusted.sums_text()}
-    makes: Makes = {"libraries": lambda _: libraries(top), "definitions": lambda _: trusted.in_short(), "lines": trusted.lines_of}
+    makes: Makes = {"libraries": lambda _: libraries(top), "definitions": lambda _: trusted.in_short(), "lines": trusted.lines_of, "published": lambda _: tables()}
     for path in [top / "README.md", *sorted((top / "docs").glob("*.md"))]:
         name, text = str(path.relative_to(top)), path.read_text(encoding="utf-8")
         if name not in texts and PART.search(text):
