@@ -68,7 +68,7 @@ class Labels:
             if "args" in it:
                 made["shown"] = self.values(it["name"], it["args"])
             elif "array" in it:
-                made["shown"] = self.value(it["array"], it["value"])
+                made["shown"] = self.value(it["array"], it["value"]) if "value" in it else [self.value(it["array"], it[key]) for key in ("old", "new")]
         switch = it.get("switch", it.get("to"))
         if switch in self.names:
             made["named"] = self.names[switch]

@@ -52,7 +52,11 @@ class Log:
 
     def json(self) -> List[Json]:
         """Returns the objects of the log, one for each event, for each cell and for the last line."""
-        found = [event.json() for event in self.events] + [cell.json() for cell in self.cells]
+        return [event.json() for event in self.events] + self.json_end()
+
+    def json_end(self) -> List[Json]:
+        """Returns the objects behind those of the events."""
+        found = [cell.json() for cell in self.cells]
         return found if self.end is None else [*found, {"kind": "end", **dict(zip(("entered", "lost", "pending"), self.end))}]
 
 

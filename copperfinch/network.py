@@ -167,10 +167,11 @@ class Ledger:
         return {**event.json(), "outs": outs, "number": number, "cause": packet.cause, "sent": packet.sent, "ready": packet.ready,
                 "waited": packet.waited, "entered": packet.entered}
 
-    def json(self) -> List[Json]:
+    def json(self) -> Iterator[Json]:
         """Returns the objects of the log, with the events that did not enter behind those that did."""
-        events = [self.event_json(number) for number in range(len(self.entries))]
-        return events + [packet.json() for packet in self.packets if packet.number is None] + self.log.json()[len(events):]
+        yield from map(self.event_json, range(len(self.entries)))
+        yield from (packet.json() for packet in self.packets if packet.number is None)
+        yield from self.log.json_end()
 
 
 # What waits at a switch: its order of entry, a number that no other has, and the packet.

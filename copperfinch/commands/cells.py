@@ -45,6 +45,6 @@ def run(given: argparse.Namespace) -> int:
             event, labels = run.ledger.log.events[it.event], run.labels
             values = f"{labels.value(named[1], it.old)} -> {labels.value(named[1], it.new)}"
             text = f"[{event.tick}] {labels.switch(it.switch)} {named[1]}[{it.cell}]: {values}, by event {it.event} {labels.call(event.name, event.args)}"
-            lines.append(json.dumps(made.json(it, event), separators=(",", ":")) if given.json else text)
+            lines.append(json.dumps(labels.json(made.json(it, event)), separators=(",", ":")) if given.json else text)
     write("".join(f"{line}\n" for line in lines))
     return 0

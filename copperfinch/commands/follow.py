@@ -46,7 +46,7 @@ def run(given: argparse.Namespace) -> int:
             made = [packet.json()] if packet.number is None else []
             numbers = numbers_of(run.ledger, packet, given.back)
             follower.written.update(numbers)
-            lines += [json.dumps(it, separators=(",", ":")) for it in made + [run.ledger.event_json(number) for number in numbers]]
+            lines += [json.dumps(run.labels.json(it), separators=(",", ":")) for it in made + [run.ledger.event_json(number) for number in numbers]]
         else:
             lines += follower.back(packet) if given.back else follower.tree(packet)
     write("".join(f"{line}\n" for line in lines))

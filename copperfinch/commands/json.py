@@ -15,8 +15,9 @@ of these files prints is refused. --csv prints a row for each event in place of 
 import argparse
 import csv
 import io
+import itertools
 import json
-from typing import List, Optional
+from typing import Iterable, Iterator, Optional
 
 from ..command import Once
 from ..drive import read_drive
@@ -31,25 +32,27 @@ from ..streams import ANSWER, read, write
 
 KINDS = ("log", "layout", "audit", "drive", "snap")
 USAGE = f"%(prog)s {'|'.join(KINDS)} [FILE] [--csv] [--limits LIMITS --scenario SCENARIO] {SHOWN_BY}"
+PART = 10000  # so many objects are written together
 COLUMNS = ["kind", "number", "at", "switch", "name"]
 WAYS = ["cause", "sent", "ready", "waited", "why"]
 
 
-def objects(kind: str, text: bytes, limits: Optional[str] = None, scenario: Optional[str] = None) -> List[Json]:
-    """Returns the objects of a text of this kind; of a log with two files, the complete ones."""
-    if limits is not None and scenario is not None:
-        return trace(read_log(text), read_limits(read(limits)), read_scene(read(scenario))).json()
+def objects(kind: str, text: bytes, limits: Optional[str] = None, scenario: Optional[str] = None) -> Iterator[Json]:
+    """Returns the objects of a text of this kind; of a log with two files, the complete ones. They are made one after another."""
     if kind == "log":
-        return read_log(text).json()
+        log = read_log(text)
+        if limits is not None and scenario is not None:
+            return trace(log, read_limits(read(limits)), read_scene(read(scenario))).json()
+        return itertools.chain((event.json() for event in log.events), log.json_end())
     if kind in ("layout", "audit"):
-        return read_layout(text).json()
+        return iter(read_layout(text).json())
     drive = read_drive(text)
     if (drive.snap is None) != (kind == "drive"):
         raise FormatError("it ends with a snapshot" if drive.snap else "it ends without a snapshot")
-    return drive.json()
+    return iter(drive.json())
 
 
-def table(made: List[Json]) -> str:
+def table(made: Iterable[Json]) -> str:
     """Returns a row for each event: what it is, its arguments, and of a complete log its cause and its ticks."""
     events = [it for it in made if "args" in it]
     is_complete, most = any("cause" in it for it in events), max((len(it["args"]) for it in events), default=0)
@@ -80,6 +83,9 @@ def run(given: argparse.Namespace) -> int:
     if (given.limits is None) != (given.scenario is None) or (given.limits is not None or given.csv) and given.kind != "log":
         raise argparse.ArgumentTypeError("a complete log needs two files")
     labels = labels_given(given, given.scenario)
-    made = [labels.json(it) for it in objects(given.kind, read(given.file, ANSWER), given.limits, given.scenario)]
-    write(table(made) if given.csv else "".join(json.dumps(it, separators=(",", ":")) + "\n" for it in made))
+    made = (labels.json(it) for it in objects(given.kind, read(given.file, ANSWER), given.limits, given.scenario))
+    if given.csv:
+        write(table(made))
+    for part in iter(lambda: list(itertools.islice(made, PART)), []):
+        write("".join(json.dumps(it, separators=(",", ":")) + "\n" for it in part))
     return 0

@@ -10,7 +10,8 @@ import io
 import json
 from typing import Any, Dict, List
 
-from harness import Group
+from harness import TOP, Group
+from jsonschema import Draft202012Validator
 from samples import scene
 
 from copperfinch.labels import FORMATS
@@ -58,6 +59,13 @@ def test_answers(group: Group) -> None:
     complete = list(csv.DictReader(io.StringIO(group.tool("json", "log", "--csv", "--limits", files[1], "--scenario", files[2], given=log).out.decode())))
     group.check("a complete table", [(it["number"], it["cause"], it["sent"], it["ready"], it["waited"], it["why"]) for it in complete]
                 == [("0", "scenario 0", "0", "0", "0", ""), ("1", "event 0 out 0", "4", "7", "0", "")], complete)
+    schema = json.loads((TOP / "tools/schema/log.schema.json").read_text())
+    lines = group.tool("follow", *files, "0", "--json", "--show", SHOW, "--names", "0=edge", "--lucid", group.options.program).out.splitlines()
+    lines += group.tool("json", "log", "--limits", files[1], "--scenario", files[2], *words, given=log).out.splitlines()
+    wrong = [it for it in map(json.loads, lines) if not Draft202012Validator(schema).is_valid(it)]
+    group.check("texts are in the schema", not wrong and len(lines) > 5 and "shown" in json.loads(lines[0]), wrong)
+    change = json.loads(group.tool("cells", *files, "seen", "--json", "--show", SHOW, "--names", "0=edge", "--lucid", group.options.program).out)
+    group.check("a change", (change["old"], change["new"], change["shown"], change["named"]) == (0, 255, ["0x0000", "0x00ff"], "edge"), change)
     drawn = group.tool("picture", "log", *files[1:], *words, given=log).out.decode()
     wanted = (">edge<", ">core<", f"pkt({','.join(shown)})", "seen[1] = 0x00ff", "sent at 0 by edge, ready at 7")
     group.check("a picture of a log", all(it in drawn for it in wanted) and "switch 0" not in drawn and "pkt(1677" not in drawn, drawn[-900:])

@@ -161,6 +161,7 @@ def test_keys(group: Group) -> None:
         plain = b"".join(json.dumps(it, separators=(",", ":")).encode() + b"\n" for it in without(ended.out))
         group.check(f"the complete log of {name} has the objects of the log", plain == group.tool("json", "log", given=log).out != b"", ended.err)
         add(ended.out, ("event", "generate", "lost", "pending"))
+    add(group.tool("cells", *example("heavy"), "first", "--json", "--lucid", group.options.program).out)
     group.check("the keys of docs/OUTPUT.md are those that tools/json prints", printed_keys == listed_keys(), (printed_keys, listed_keys()))
 
 
