@@ -202,7 +202,7 @@ def check_whole(path: str, data: bytes) -> None:
 
 
 def from_capture(path: str, data: bytes) -> Iterator[Record]:
-    """The packets of a capture. A field is named LAYER.FIELD as scapy names both, in small letters (`eth` is `ether`); `len` is the length."""
+    """The packets of a capture. A field is named LAYER.FIELD as scapy names both, in small letters (`eth` is `ether`); `len` is the length on the wire."""
     check_whole(path, data)
     logging.getLogger("scapy").setLevel(logging.CRITICAL)
     warnings.filterwarnings("ignore")
@@ -229,9 +229,9 @@ def reader_of(packet: Any) -> Record:
 
     def value(name: str) -> Any:
         if name in ("len", "time"):
-            return len(packet) if name == "len" else packet.time
+            return (packet.wirelen or len(packet)) if name == "len" else packet.time
         layer, _, rest = name.partition(".")
         found = layers.get({"eth": "ether", "vlan": "dot1q"}.get(layer, layer))
-        return None if found is None else getattr(packet[found], rest, None)
+        return packet[found].getfieldval(rest) if found is not None and rest in {it.name for it in found.fields_desc} else None
 
     return value
