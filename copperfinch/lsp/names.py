@@ -1,4 +1,5 @@
 """The names of a program text: where each is declared, where it is visible, and what uses it. Made from tokens, so that a broken text has names."""
+from bisect import bisect_left, bisect_right
 from dataclasses import dataclass, field
 from typing import Dict, List, Optional, Tuple
 
@@ -80,17 +81,10 @@ class Names:
 
     def token_at(self, at: int) -> Optional[int]:
         """Returns the number of the token at a place, or that ends there."""
-        low, high = 0, len(self.tokens)
-        while low < high:
-            middle = (low + high) // 2
-            low, high = (middle + 1, high) if self.tokens[middle].at <= at else (low, middle)
-        for number in (low - 1, low - 2):
-            if number >= 0:
-                token = self.tokens[number]
-                end = token.at + len(token.text)
-                if at < end or at == end and token.kind in ("name", "word", "number"):
-                    return number
-        return None
+        count = bisect_right([token.at for token in self.tokens], at)
+        near = [(number, token) for number in (count - 1, count - 2) if number >= 0 for token in [self.tokens[number]] if at <= token.at + len(token.text)]
+        words = [number for number, token in near if token.kind in ("name", "word", "number")]
+        return words[0] if words else near[0][0] if near and at < near[0][1].at + len(near[0][1].text) else None
 
     def symbol_at(self, at: int) -> Optional[Symbol]:
         """Returns the symbol whose name is at a place, where it is declared or used."""
@@ -176,12 +170,12 @@ class Names:
 
     def offered(self, at: int) -> List[Tuple[str, str, str]]:
         """Returns the words that may stand at a place: each with its kind and what it is."""
-        number = self.token_at(max(0, at - 1))
-        before = [token.text for token in self.tokens[max(0, number - 2):number + 1]] if number is not None else []
-        if before and before[-1] != "." and self.tokens[number or 0].kind in ("name", "word"):
+        count = bisect_left([token.at for token in self.tokens], at)
+        before = self.tokens[max(0, count - 3):count]
+        if before and before[-1].kind in ("name", "word") and before[-1].at + len(before[-1].text) >= at:  # what is being typed
             before = before[:-1]
-        if before and before[-1] == ".":
-            return [(name, "member", text) for name, text in MEMBERS.get(before[-2] if len(before) > 1 else "", {}).items()]
+        if before and before[-1].text == ".":
+            return [(name, "member", text) for name, text in MEMBERS.get(before[-2].text if len(before) > 1 else "", {}).items()]
         found = {one.name: one for one in sorted(self.symbols, key=lambda one: one.visible[0]) if one.visible[0] <= at < one.visible[1]}
         return [(one.name, one.kind, self.head(one)) for one in found.values()] + [(word, "word", FORMS.get(word, "")) for word in RESERVED]
 

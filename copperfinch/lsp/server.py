@@ -346,7 +346,7 @@ def described(names: Names, symbol: Symbol) -> str:
     if symbol.kind == "global":
         arrays = [one for one in names.symbols if one.kind == "global"]
         at = arrays.index(symbol)
-        order = [f"behind {arrays[at - 1].name}"] * (at > 0) + [f"before {arrays[at + 1].name}"] * (at + 1 < len(arrays))
+        order = [f"behind {one.name}" for one in arrays[:at][-1:]] + [f"before {one.name}" for one in arrays[at + 1:at + 2]]
         return f"array {at + 1} of {len(arrays)}, cells{size}; a handler calls it {' and '.join(order) or 'at most once'}"
     if symbol.kind == "event":
         handlers = names.handlers.get(symbol.at, [])

@@ -7,6 +7,7 @@ from __future__ import annotations
 
 import os
 import shutil
+import sys
 from pathlib import Path
 from typing import Dict, List
 
@@ -92,6 +93,11 @@ def installed(group: Group, room: Path, prefix: Path, sums: str) -> None:
     group.check("lucid-tools explain", ended.status == 6 and ended.out.startswith(b"order: declaration 4 line 5 cycle x y\n"), ended)
     ended = without_kit(room, prefix / "bin/lucid-fmt", "--check", first, examples / "crossed.luc")
     group.expect("lucid-fmt", ended, 0)
+    ended = call([sys.executable, "-B", prefix / "bin/lucid-lsp"], cwd=room, given=b"Content-Length: 2\r\n\r\n{}")
+    group.check("lucid-lsp", ended.status == 1 and b'"code": -32600' in ended.out.replace(b":-", b": -"), ended)
+    wanted = ("nvim/site/ftplugin/lucid.lua", "nvim/site/syntax/lucid.vim", "vim/vimfiles/ftplugin/lucid.vim", "vim/vimfiles/ftdetect/lucid.vim",
+              "emacs/site-lisp/lucid-mode.el", "copperfinch/editor/vscode/package.json", "copperfinch/editor/vscode/syntaxes/lucid.tmLanguage.json")
+    group.check("the files of editors", all((prefix / "share" / name).is_file() for name in wanted))
     page = without_kit(room, prefix / "bin/lucid-tools", "page", *(examples / f"heavy.{it}" for it in ("luc", "limits.json", "scenario.json")))
     group.check("lucid-tools page", page.status == 0 and b"</html>" in page.out and b"not proved" not in page.out, page)
     modes = [oct(path.stat().st_mode & 0o777) for path in (prefix / "lib/copperfinch/lucid_main", first)]

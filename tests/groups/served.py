@@ -143,6 +143,11 @@ def test_requests(group: Group) -> None:
     value = client.at("hover", text, "Array.|update")["contents"]["value"]
     group.check("hover of a form", value.startswith("update(array, index, memop"), value)
     group.check("hover of a blank", client.at("hover", text, "//| A stateful") is None)
+    for line, words in enumerate(text.split("\n")):
+        for method in ("hover", "references", "completion") if line % 3 == 0 else ("hover",):
+            for found in re.finditer(r"\b", words):
+                answer = client.whole(f"textDocument/{method}", {"textDocument": {"uri": URI}, "position": {"line": line, "character": found.start()}})
+                group.check(f"{method} at {line}:{found.start()}", "result" in answer, answer)
     where = client.at("definition", text, "cell_of(1, |from, to)")
     line = text.split("\n")[where["range"]["start"]["line"]]
     group.check("definition of a parameter", where["uri"] == URI and line.startswith("handle inside(int from"), where)

@@ -21,6 +21,7 @@ HOME = "lib/copperfinch"
 SHARE = "share/copperfinch"
 DOCUMENTS = "share/doc/copperfinch"
 VIM = "share/vim/vimfiles"
+NEOVIM = "share/nvim/site"
 COMPLETIONS = "share/bash-completion/completions"
 MAN = "share/man/man1/lucid.1"
 MAN_OF_TOOLS = "share/man/man1/lucid-tools.1"
@@ -113,15 +114,25 @@ def collect(allow_unproved: bool, prefix: str) -> Files:
     files[f"{COMPLETIONS}/lucid-tools"] = Link("lucid")
     files[f"{COMPLETIONS}/lucid"] = Text((TOP / "tools/completion.bash").read_bytes())
     files.update(read_folder(TOP / "tools/schema", f"{SHARE}/schema"))
-    files[f"{SHARE}/editor/lucid.tmLanguage.json"] = Text((TOP / "tools/editor/lucid.tmLanguage.json").read_bytes())
-    files[f"{VIM}/syntax/lucid.vim"] = Text((TOP / "tools/editor/lucid.vim").read_bytes())
-    files[f"{VIM}/ftdetect/lucid.vim"] = Text(b"au BufRead,BufNewFile *.luc set filetype=lucid\n")
+    files.update(read_editors(TOP / "tools/editor"))
     date = time.strftime("%Y-%m-%d", time.gmtime((TOP / "VERSION").stat().st_mtime))
     files[MAN] = Text(manual.page(help_text, version, date, f"{prefix}/{DOCUMENTS}").encode())
     files[MAN_OF_TOOLS] = Link("lucid.1")
     files[f"{DOCUMENTS}/README.md"] = Text((TOP / "README.md").read_bytes())
     for folder in ("docs", "examples"):
         files.update(read_folder(TOP / folder, f"{DOCUMENTS}/{folder}"))
+    return files
+
+
+def read_editors(folder: Path) -> Files:
+    """Returns the files of editors, where those look for them; the extension of VS Code is a folder."""
+    names = {f"{SHARE}/editor/lucid.tmLanguage.json": "lucid.tmLanguage.json", f"{VIM}/ftplugin/lucid.vim": "ftplugin.vim",
+             f"{NEOVIM}/ftplugin/lucid.lua": "lucid.lua", "share/emacs/site-lisp/lucid-mode.el": "lucid-mode.el"}
+    files = read_folder(folder / "vscode", f"{SHARE}/editor/vscode")
+    for place in (VIM, NEOVIM):
+        names[f"{place}/syntax/lucid.vim"] = "lucid.vim"
+        files[f"{place}/ftdetect/lucid.vim"] = Text(b"au BufRead,BufNewFile *.luc set filetype=lucid\n")
+    files.update({name: Text((folder / file).read_bytes()) for name, file in names.items()})
     return files
 
 
