@@ -103,8 +103,8 @@ def merge(code: Code) -> List[Op]:
     return [merged(op) for op in code.ops]
 
 
-# The four passes with the further ones between and behind them. `merge` has no code in Rattle yet.
+# The four passes with the further ones between and behind them.
 FOUR = dict(PASSES)
 MORE: List[Tuple[str, Callable[[Code], List[Op]]]] = [
     ('fold', FOUR['fold']), ('casts', casts), ('copies', FOUR['copies']), ('sources', sources), ('dead', dead), ('direct', FOUR['direct']),
-    ('dead', dead), ('lift', lift)]
+    ('dead', dead), ('merge', merge), ('dead', dead), ('lift', lift)]

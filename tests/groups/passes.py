@@ -13,7 +13,7 @@ from dataclasses import replace
 from typing import Any, Callable, Dict, List, Optional, Tuple
 
 from harness import TOP, Group
-from copperfinch.model.more_passes import MORE, merge
+from copperfinch.model.more_passes import MORE
 from copperfinch.model.nodes import Code, Op
 from drawn.codes import difference, draw_code, fault_of
 
@@ -50,7 +50,7 @@ def run(group: Group) -> None:
     invalid = [(seed, fault_of(code)) for seed, code in codes.items() if fault_of(code) is not None]
     group.check("drawn codes are valid", not invalid, invalid[:1])
     changed: Dict[str, int] = {}
-    for name, one in {**dict(MORE), "merge": merge}.items():
+    for name, one in dict(MORE).items():
         made = {seed: replace(code, ops=one(code)) for seed, code in codes.items()}
         faults = ((seed, difference(codes[seed], new, random.Random(seed), RUNS)) for seed, new in made.items())
         wrong = next((fault for fault in faults if fault[1] is not None), None)

@@ -17,10 +17,10 @@ use Rattle.lucid_pass_rewrites.specs.declared.writers.Writer.TheVariants.{Nobody
 use Rattle.lucid_pass.specs.Marks.{marked, writes_below}
 use Rattle.lucid_pass_rewrites.specs.Covering.{Uncovered}
 use Rattle.lucid_pass_rewrites.specs.Comparisons.{direct_by, Stands, ReadMarks, test_at, is_still_needed}
-use Rattle.lucid_pass_rewrites.specs.Writers.{Tells}
+use Rattle.lucid_pass_rewrites.specs.Writers.{Tells, found_at}
 use Rattle.lucid_pass.proofs.DeadLemmas.{marked_length, marked_at}
 use Rattle.lucid_pass_rewrites.proofs.CoveringLemmas.{all_taken, at_some, take_one_more}
-use Rattle.lucid_pass_rewrites.proofs.WritersLemmas.{found_at, writer_is}
+use Rattle.lucid_pass_rewrites.proofs.WritersLemmas.{writer_is}
 
 pub not_not : (b : Bool) → not (not b) ≡ b
 not_not true = refl

@@ -1,6 +1,8 @@
 mod ChangedLemmas
 mod ComparisonsLemmas
 mod CoveringLemmas
+mod MergeLemmas
+mod ReadersLemmas
 mod SettleLemmas
 mod SourcesLemmas
 mod TrailLemmas

@@ -1,21 +1,20 @@
 -- A literal of a field, by the writer of the field and its mark.
-use Rattle.std.proofs.Common.{◌≡◌, ℕ, ◌<◌, List, Bool, true, false, not, ◌&&◌, Option, None, Some, if◌then◌else◌, length, take, slice_get, slice_index_or, refl, sym, ap, ◌∙◌, ⊎_elim, arith}
+use Rattle.std.proofs.Common.{◌≡◌, ℕ, ◌<◌, List, Bool, true, false, not, ◌&&◌, Option, None, Some, if◌then◌else◌, length, take, slice_index_or, refl, sym, ap, ◌∙◌, ⊎_elim, arith}
 use Rattle.std.specs.Option.{option_and_then, option_map_or}
 use Rattle.std.proofs.lemmas.Bool.{cases_lt}
 use Rattle.std.proofs.lemmas.List.{get_or_past}
-use Rattle.lucid_code.specs.declared.op.Act.{Act}
 use Rattle.lucid_code.specs.declared.op.Literal.{Literal}
 use Rattle.lucid_code.specs.declared.op.Op.{Op}
 use Rattle.lucid_pass_spec.specs.Direct.{covers}
 use Rattle.lucid_pass_spec.specs.Looks.{only_writer}
 use Rattle.lucid_pass_more_spec.specs.Sources.{has_source, of_source, source_literal, source_of}
 use Rattle.lucid_pass_rewrites.specs.declared.writers.Writer.{Writer}
-use Rattle.lucid_pass_rewrites.specs.declared.writers.Writer.TheVariants.{Nobody, One, Many}
+use Rattle.lucid_pass_rewrites.specs.declared.writers.Writer.TheVariants.{Nobody}
 use Rattle.lucid_pass_rewrites.specs.Covering.{Uncovered}
-use Rattle.lucid_pass_rewrites.specs.Writers.{Tells}
+use Rattle.lucid_pass_rewrites.specs.Writers.{Tells, found_at}
 use Rattle.lucid_pass_rewrites.proofs.ComparisonsLemmas.{not_not}
 use Rattle.lucid_pass_rewrites.proofs.CoveringLemmas.{all_taken}
-use Rattle.lucid_pass_rewrites.proofs.WritersLemmas.{found_at, writer_is}
+use Rattle.lucid_pass_rewrites.proofs.WritersLemmas.{writer_is}
 
 module _ (widths : List ℕ) (ops : List Op) (writers : List Writer) (marks : List Bool) (tells : Tells ops writers) (u : Uncovered ops (length writers) (length ops) marks) (l : Literal) where
   abbrev by_mark : Op → Literal

@@ -9,10 +9,10 @@ use Rattle.lucid_code.specs.declared.op.Op.{Op}
 use Rattle.lucid_code.specs.Uses.{written_by, is_same, writes}
 use Rattle.lucid_pass_spec.specs.Looks.{same_literal, only, only_writer}
 use Rattle.lucid_pass_rewrites.specs.declared.writers.Writer.{Writer}
-use Rattle.lucid_pass_rewrites.specs.declared.writers.Writer.TheVariants.{Nobody, One, Many}
+use Rattle.lucid_pass_rewrites.specs.declared.writers.Writer.TheVariants.{Nobody}
 use Rattle.lucid_pass.specs.Marks.{writes_below}
 use Rattle.lucid_pass_rewrites.specs.Changed.{standing}
-use Rattle.lucid_pass_rewrites.specs.Writers.{Tells, places_of, writer_at, with_writer}
+use Rattle.lucid_pass_rewrites.specs.Writers.{Tells, places_by, places_of, found_at, writer_at, with_writer}
 
 -- a literal at some position is in the guard
 pub found_in : (l : Literal) (guard : List Literal) (at : ℕ) → option_map_or (same_literal l) (slice_get guard at) false ≡ true → list_any (same_literal l) guard ≡ true
@@ -50,23 +50,17 @@ at_seam : {A : Type 0} (xs : List A) (y : A) (ys : List A) → slice_get (xs ++ 
 at_seam [] y ys = refl
 at_seam (x ∷ xs) y ys = at_seam xs y ys
 
-places_are : (k n : ℕ) (before ops : List Op) → length before ≡ n → map (λ (o : Op). Some o) (filter (λ o. writes o k) ops) ≡ map (slice_get (before ++ ops)) (places_of k n ops)
-places_are k n before [] e = refl
-places_are k n before (o ∷ ops) e = by
-    (places_are k (n + 1) (before ++ o ∷ []) ops (length-append before (o ∷ []) ∙ ap (λ m. m + 1) e)
-    ∙ ap (λ l. map (slice_get l) (places_of k (n + 1) ops)) (append_assoc before (o ∷ []) ops)) (writes o k)
+pub places_are : (p : Op → Bool) (n : ℕ) (before ops : List Op) → length before ≡ n → map (λ (o : Op). Some o) (filter p ops) ≡ map (slice_get (before ++ ops)) (places_by p n ops)
+places_are p n before [] e = refl
+places_are p n before (o ∷ ops) e = by
+    (places_are p (n + 1) (before ++ o ∷ []) ops (length-append before (o ∷ []) ∙ ap (λ m. m + 1) e)
+    ∙ ap (λ l. map (slice_get l) (places_by p (n + 1) ops)) (append_assoc before (o ∷ []) ops)) (p o)
   where
-    by : map (λ (o : Op). Some o) (filter (λ o. writes o k) ops) ≡ map (slice_get (before ++ o ∷ ops)) (places_of k (n + 1) ops) → (b : Bool) → map (λ (o : Op). Some o) (if b then o ∷ filter (λ o. writes o k) ops else filter (λ o. writes o k) ops) ≡ map (slice_get (before ++ o ∷ ops)) (if b then n ∷ places_of k (n + 1) ops else places_of k (n + 1) ops)
+    by : map (λ (o : Op). Some o) (filter p ops) ≡ map (slice_get (before ++ o ∷ ops)) (places_by p (n + 1) ops) → (b : Bool) → map (λ (o : Op). Some o) (if b then o ∷ filter p ops else filter p ops) ≡ map (slice_get (before ++ o ∷ ops)) (if b then n ∷ places_by p (n + 1) ops else places_by p (n + 1) ops)
     by rest true = ap₂ (λ (x : Option Op) (xs : List (Option Op)). x ∷ xs) (sym (at_seam before o ops) ∙ ap (slice_get (before ++ o ∷ ops)) e) rest
     by rest false = rest
 
--- the operation at the writer's recorded position
-abbrev pub found_at : List Op → Writer → Option Op
-found_at ops Nobody = None
-found_at ops (One at) = slice_get ops at
-found_at ops Many = None
-
-only_is : (get : ℕ → Option Op) (fs : List Op) (ns : List ℕ) → map (λ (o : Op). Some o) fs ≡ map get ns → (ops : List Op) → ((n : ℕ) → get n ≡ slice_get ops n) → only fs ≡ found_at ops (writer_at ns)
+pub only_is : (get : ℕ → Option Op) (fs : List Op) (ns : List ℕ) → map (λ (o : Op). Some o) fs ≡ map get ns → (ops : List Op) → ((n : ℕ) → get n ≡ slice_get ops n) → only fs ≡ found_at ops (writer_at ns)
 only_is get [] [] e ops g = refl
 only_is get [] (n ∷ ns) e ops g = absurd (cc)
 only_is get (x ∷ fs) [] e ops g = absurd (cc)
@@ -77,26 +71,26 @@ only_is get (x ∷ y ∷ fs) (n ∷ m ∷ ns) e ops g = refl
 
 pub writer_is : (ops : List Op) (writers : List Writer) (k : ℕ) (w : Writer) → Tells ops writers → w ≡ slice_index_or writers k Nobody → only_writer ops k ≡ found_at ops w
 writer_is ops writers k w tells e =
-    only_is (slice_get ops) (filter (λ o. writes o k) ops) (places_of k 0 ops) (places_are k 0 [] ops refl) ops (λ n. refl)
+    only_is (slice_get ops) (filter (λ o. writes o k) ops) (places_of k 0 ops) (places_are (λ o. writes o k) 0 [] ops refl) ops (λ n. refl)
     ∙ ap (found_at ops) (sym (e ∙ tells k))
 
 -- ---- one more
 
-places_end : (k n : ℕ) (ops : List Op) (o : Op) → places_of k n (ops ++ o ∷ []) ≡ places_of k n ops ++ (if writes o k then (n + length ops) ∷ [] else [])
-places_end k n [] o = ap (λ m. if writes o k then m ∷ [] else []) none
+pub places_end : (p : Op → Bool) (n : ℕ) (ops : List Op) (o : Op) → places_by p n (ops ++ o ∷ []) ≡ places_by p n ops ++ (if p o then (n + length ops) ∷ [] else [])
+places_end p n [] o = ap (λ m. if p o then m ∷ [] else []) none
   where
     none : n ≡ n + 0
     none = omega arith
-places_end k n (x ∷ ops) o = by (places_end k (n + 1) ops o ∙ ap (λ m. places_of k (n + 1) ops ++ (if writes o k then m ∷ [] else [])) next) (writes x k)
+places_end p n (x ∷ ops) o = by (places_end p (n + 1) ops o ∙ ap (λ m. places_by p (n + 1) ops ++ (if p o then m ∷ [] else [])) next) (p x)
   where
     next : n + 1 + length ops ≡ n + suc (length ops)
     next = omega arith
 
-    by : places_of k (n + 1) (ops ++ o ∷ []) ≡ places_of k (n + 1) ops ++ (if writes o k then (n + suc (length ops)) ∷ [] else []) → (b : Bool) → (if b then n ∷ places_of k (n + 1) (ops ++ o ∷ []) else places_of k (n + 1) (ops ++ o ∷ [])) ≡ (if b then n ∷ places_of k (n + 1) ops else places_of k (n + 1) ops) ++ (if writes o k then (n + suc (length ops)) ∷ [] else [])
+    by : places_by p (n + 1) (ops ++ o ∷ []) ≡ places_by p (n + 1) ops ++ (if p o then (n + suc (length ops)) ∷ [] else []) → (b : Bool) → (if b then n ∷ places_by p (n + 1) (ops ++ o ∷ []) else places_by p (n + 1) (ops ++ o ∷ [])) ≡ (if b then n ∷ places_by p (n + 1) ops else places_by p (n + 1) ops) ++ (if p o then (n + suc (length ops)) ∷ [] else [])
     by rest true = ap (λ l. n ∷ l) rest
     by rest false = rest
 
-at_more : (ns : List ℕ) (at : ℕ) → writer_at (ns ++ at ∷ []) ≡ with_writer (writer_at ns) at
+pub at_more : (ns : List ℕ) (at : ℕ) → writer_at (ns ++ at ∷ []) ≡ with_writer (writer_at ns) at
 at_more [] at = refl
 at_more (n ∷ []) at = refl
 at_more (n ∷ m ∷ ns) at = refl
@@ -111,11 +105,11 @@ tells_none fields k = by fields k
 
 module _ (ops : List Op) (writers : List Writer) (o : Op) (tells : Tells ops writers) where
   places_more : (k : ℕ) (b : Bool) → writes o k ≡ b → writer_at (places_of k 0 (ops ++ o ∷ [])) ≡ (if b then with_writer (writer_at (places_of k 0 ops)) (length ops) else writer_at (places_of k 0 ops))
-  places_more k true e = ap writer_at (places_end k 0 ops o ∙ ap (λ b. places_of k 0 ops ++ (if b then (0 + length ops) ∷ [] else [])) e) ∙ at_more (places_of k 0 ops) (0 + length ops) ∙ ap (with_writer (writer_at (places_of k 0 ops))) zero_plus
+  places_more k true e = ap writer_at (places_end (λ o. writes o k) 0 ops o ∙ ap (λ b. places_of k 0 ops ++ (if b then (0 + length ops) ∷ [] else [])) e) ∙ at_more (places_of k 0 ops) (0 + length ops) ∙ ap (with_writer (writer_at (places_of k 0 ops))) zero_plus
     where
       zero_plus : 0 + length ops ≡ length ops
       zero_plus = omega arith
-  places_more k false e = ap writer_at (places_end k 0 ops o ∙ ap (λ b. places_of k 0 ops ++ (if b then (0 + length ops) ∷ [] else [])) e ∙ nil (places_of k 0 ops))
+  places_more k false e = ap writer_at (places_end (λ o. writes o k) 0 ops o ∙ ap (λ b. places_of k 0 ops ++ (if b then (0 + length ops) ∷ [] else [])) e ∙ nil (places_of k 0 ops))
     where
       nil : (l : List ℕ) → l ++ [] ≡ l
       nil [] = refl
@@ -148,7 +142,7 @@ pub record Counted (fields : ℕ) (ops : List Op) (n : ℕ) (writers : List Writ
   pub long : length writers ≡ fields
   pub told : Tells (take n ops) writers
 
-take_more : (ops : List Op) (n : ℕ) (o : Op) → n < length ops → o ≡ slice_index_or ops n o → take (n + 1) ops ≡ take n ops ++ o ∷ []
+pub take_more : (ops : List Op) (n : ℕ) (o : Op) → n < length ops → o ≡ slice_index_or ops n o → take (n + 1) ops ≡ take n ops ++ o ∷ []
 take_more ops n o h is = let e : n + 1 ≡ suc n = omega arith in ap (λ m. take m ops) e ∙ by ops n h is
   where
     by : (ops : List Op) (n : ℕ) → n < length ops → o ≡ slice_index_or ops n o → take (suc n) ops ≡ take n ops ++ o ∷ []
