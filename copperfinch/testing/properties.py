@@ -35,6 +35,11 @@ class Vacuous(Error):
     """A property that looked at too little. Its text says at what."""
 
 
+def near(path: Path) -> str:
+    """A path from the current folder, if that is shorter."""
+    return min(os.path.relpath(path), str(path), key=len)
+
+
 def runs_of(usual: int) -> int:
     """How many scenarios a test tries: $COPPERFINCH_RUNS, or its own number."""
     given = os.environ.get("COPPERFINCH_RUNS", "")
@@ -247,7 +252,7 @@ class Property:
         lines += [f"the scenario, of {count} event{'s' * (count != 1)} on {scene.switches} switch{'es' * (scene.switches != 1)}: {path}"]
         lines += text_of(json.loads(scene.text())).splitlines()
         node = os.environ.get("PYTEST_CURRENT_TEST", self.name).split(" ")[0]
-        lines += ["to repeat it:", f"  lucid run whole {self.network.program} {self.network.limits_file} {path}", f"  COPPERFINCH_SCENARIO={path} pytest '{node}'"]
+        lines += ["to repeat it:", f"  lucid run whole {near(self.network.program)} {near(self.network.limits_file)} {path}", f"  COPPERFINCH_SCENARIO={path} pytest '{node}'"]
         try:
             told = failure.run.told() if failure.run else ""
         except Error as why:

@@ -85,6 +85,21 @@ def test_broken_firewall(group: Group) -> None:
     group.check("and not the one of the firewall", again.status == 0, again.out.decode()[-500:])
 
 
+def test_page(group: Group) -> None:
+    """The test of examples/properties/README.md holds for the firewall, and fails as the page shows for one that lets nothing out."""
+    blocks = re.findall(r"^```(?:python)?\n(.*?)^```$", (TOP / "examples/properties/README.md").read_text(), re.M | re.S)
+    text = (EXAMPLES / "firewall.luc").read_text()
+    group.file("test_firewall.py", blocks[0])
+    group.file("firewall.limits.json", (EXAMPLES / "firewall.limits.json").read_bytes())
+    group.file("firewall.luc", text)
+    ended = tried(group, "test_firewall.py", COPPERFINCH_RUNS=60)
+    group.check("the test of the page", ended.status == 0 and b"2 passed" in ended.out, ended.out.decode()[-500:])
+    group.file("firewall.luc", text.replace("generate Event.locate(passed(from, to), outer);", ""))
+    said = tried(group, "test_firewall.py", COPPERFINCH_RUNS=60).out.decode().splitlines()
+    for line in blocks[1].splitlines():
+        group.check(f"the failure of the page: {line}", line in said, said[:30])
+
+
 VACUOUS = """
 @fw.given(plan, runs=10, parts=1)
 def test_of_nothing(run):
