@@ -1,4 +1,4 @@
-"""Prints the rows of the table in examples/README.md: the sizes of the ten applications, their speed, and the sizes in the paper.
+"""Prints the rows of the tables in examples/README.md: the sizes of the applications, the speed of the ten, and the sizes in the paper.
 
 The sizes are computed from the files NAME.luc and NAME.layout. Lines that are empty or only a comment are not counted. The speed is empty
 unless a built PROGRAM is given: then it is the number of events that enter in a second of a processor in `run pipe`, on the scenario that
@@ -14,7 +14,7 @@ from typing import Optional, Tuple
 from ..command import number
 from ..errors import Error
 from ..program import Program
-from ..scenarios import MOST, draw, text_of
+from ..scenarios import MAKERS, MOST, draw, text_of
 from ..streams import Source, write
 
 TOP = Path(__file__).resolve().parent.parent.parent
@@ -43,6 +43,13 @@ APPLICATIONS = [
     Application("RIP", "rip", "routing-by-distance-vectors"),
     Application("NAT", "nat", "network-address-translation"),
     Application("Count-min sketch with historical queries", "countmin", "a-count-min-sketch-with-historical-queries"),
+    # These are not of the paper, and no scenario is drawn to measure them.
+    Application("Address resolution", "arp", "address-resolution"),
+    Application("Liveness of neighbours", "bfd", "liveness-of-neighbours"),
+    Application("In-band telemetry", "telemetry", "in-band-telemetry"),
+    Application("Load balancer", "balancer", "a-load-balancer"),
+    Application("Token bucket", "bucket", "a-token-bucket-for-each-user"),
+    Application("Guard against SYN floods", "synguard", "a-guard-against-syn-floods"),
 ]
 
 
@@ -99,7 +106,7 @@ def run(given: argparse.Namespace) -> int:
     """Prints the rows."""
     for it in APPLICATIONS:
         try:
-            measured = f"{speed(given.program, it.name, given.events):,}" if given.program else ""
+            measured = f"{speed(given.program, it.name, given.events):,}" if given.program and it.name in MAKERS else ""
         except (Error, IndexError):
             raise Error(f"{given.program} does not run the scenario of {it.name}") from None
         write(row(it, measured) + "\n")

@@ -35,6 +35,8 @@ class Application:
 
 
 APPLICATIONS = [Application(**it) for it in json.loads((TESTS / "applications.json").read_text())]
+# Others with a picture; their properties are tried by the group `properties`.
+MORE = [Application(name, "layout" if name in ("arp", "balancer", "bfd") else "log", [], []) for name in ("arp", "balancer", "bfd", "bucket", "synguard", "telemetry")]
 
 
 def run(group: Group) -> None:
@@ -43,6 +45,7 @@ def run(group: Group) -> None:
     group.side_by_side(lambda path: check_example(group, path), files)
     shown_lines(group)
     group.side_by_side(lambda it: try_application(group, it), APPLICATIONS)
+    group.side_by_side(lambda it: picture(group, it), MORE)
     table_of_the_page(group)
     other_texts(group)
 
@@ -171,11 +174,13 @@ def table_of_the_page(group: Group) -> None:
     """The table of the page has the rows that tools/examples-table prints. Its measured cells are a number each, and are not compared."""
     tool = TOP / "tools/examples-table"
     rows, measured = ([cells_of(row) for row in call([tool, *words]).out.decode().splitlines()] for words in ([], [group.options.program, "20"]))
-    group.check("tools/examples-table prints ten rows", len(rows) == len(measured) == len(APPLICATIONS), rows)
+    group.check("tools/examples-table prints a row for each", len(rows) == len(measured) == len(APPLICATIONS) + len(MORE), rows)
     page = [cells_of(line) for line in (EXAMPLES / "README.md").read_text().splitlines() if line.startswith("| [")]
     for row, with_speed in zip(rows, measured):
         sizes, is_number = row[:-FILLED], r"[0-9,]+"
-        group.check(f"a measured row: {row[0]}", with_speed[:-FILLED] == sizes and re.fullmatch(is_number, with_speed[-FILLED]) is not None, with_speed)
+        has_speed = re.fullmatch(is_number, with_speed[-FILLED]) is not None
+        is_measured = any(f"{it.name}.luc" in row[1] for it in APPLICATIONS)
+        group.check(f"a measured row: {row[0]}", with_speed[:-FILLED] == sizes and has_speed == is_measured, with_speed)
         found = [cells for cells in page if cells[: len(sizes)] == sizes]
         # A cell of the page that was not measured is empty.
         good = len(found) == 1 and re.fullmatch(f"({is_number})?", found[0][-FILLED]) is not None and found[0][1 - FILLED :] == row[1 - FILLED :]

@@ -32,6 +32,12 @@ BROKEN = [
 ]
 
 
+# What a section of examples/README.md says to try next.
+TRIED = [("arp", "return now + hold", "return stored + hold"), ("bfd", "sent > patience", "sent >= patience"),
+         ("telemetry", "number > before + 1", "number > before"), ("balancer", "asked > patience", "asked > patience + 1"),
+         ("bucket", "before < depth", "before <= depth"), ("synguard", "cookie == cookie_of(client)", "cookie != 0")]
+
+
 def properties(group: Group, path: Path) -> List[Property]:
     """The properties of a file, asked of the program under test."""
     found = properties_of(load(path))
@@ -80,6 +86,19 @@ def test_broken(group: Group, name: str, what: str, edits: list, refuses: str, m
     monkeypatch.setenv("COPPERFINCH_FAILED", str(group.room))
     said = next((it.report(failure, 0) for failure in failures if failure), "")
     group.check(f"{what}: the failure names the property", said.startswith(f"{refuses} does not hold: ") and str(path) in said, said[:400])
+
+
+@pytest.mark.parametrize("name, old, new", TRIED, ids=[it[0] for it in TRIED])
+def test_try_next(group: Group, name: str, old: str, new: str) -> None:
+    """The change that the page says to try breaks a property."""
+    text = (EXAMPLES / f"{name}.luc").read_text()
+    group.check(f"examples/README.md says {new}", old in text and f"`{new}` for `{old}`" in (EXAMPLES / "README.md").read_text())
+    found = properties(group, EXAMPLES / f"properties/test_{name}.py")
+    scenes = found[0].scenes(30)
+    found[0].network.program = group.file(f"{name}.luc", text.replace(old, new))
+    broken = {it.name for it in found if any(it.judge(scene, Counter()) for scene in scenes)}
+    group.check(f"{name}: {new} breaks a property", len(broken) >= 1, broken)
+    group.note(f"{name}: {new} breaks {', '.join(sorted(broken))}")
 
 
 def test_by_pytest(group: Group) -> None:
