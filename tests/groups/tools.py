@@ -20,7 +20,7 @@ from typing import Dict, List
 from harness import EXAMPLES, Group
 from samples import example
 
-from copperfinch.command import run_tool
+from copperfinch import command
 
 
 def test_one_word(group: Group) -> None:
@@ -68,7 +68,7 @@ def test_mutated(group: Group) -> None:
         before = sys.stdout, sys.stderr
         sys.stdout, sys.stderr = out, err
         try:
-            status = run_tool(words[0], words[1:])
+            status = command.run_tool(words[0], words[1:])
         finally:
             sys.stdout, sys.stderr = before
         said, answer = err.buffer.getvalue(), out.buffer.getvalue()
