@@ -83,7 +83,7 @@ def test_style(group: Group) -> None:
 
 def test_examples(group: Group) -> None:
     """The examples are in the style, and the laws hold on them with other blanks."""
-    for path in sorted(EXAMPLES.glob("*.luc")):
+    for path in sorted(EXAMPLES.rglob("*.luc")):
         text = path.read_bytes().decode("latin-1")
         group.check(f"{path.name} is in the style", formatted(text) == text)
         for seed in range(5):

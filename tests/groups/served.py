@@ -2,8 +2,9 @@
 
 Neovim's built-in client opens two examples: a diagnostic, a hover and a rename; without neovim this is left out, and said. Fails on a
 diagnostic at another place, a rename of another variable of the same name, an answer of more than 200 ms of a processor for 1,000 lines (of three
-tries the best), a server that ends. Seen to fail: columns in bytes, names that are visible before their declaration, a rename that takes a name of another
-block, diagnostics of the text before a change, a reader that ends at a message without a length. Sees no other client.
+tries the best), a server that ends. Seen to fail: columns in bytes, names that are visible before their declaration or behind their
+block, a rename to a name that is taken, diagnostics of the text before a change, limits that are not read, a reader that ends at a header without
+a length or loses the message behind it, a second `initialize`, an analysis without a bound. Sees no other client.
 """
 from __future__ import annotations
 
@@ -20,6 +21,8 @@ from typing import Any, Dict, List, Optional
 
 import pytest
 from harness import EXAMPLES, TOP, Group, call
+
+from copperfinch.lsp.names import Names
 
 WORDS = [sys.executable, "-B", TOP / "tools/lsp"]
 SECONDS = 60
@@ -180,6 +183,24 @@ def test_requests(group: Group) -> None:
     group.check("the end", client.end() == 0)
 
 
+# A text, and for each name in the order of their declarations the places of its uses, as numbers of the words that are this name.
+SCOPES = """const int x = 1; event e(int x); fun <<w>> int<<w>> f(int<<w>> y) { return y + (int<<w>>) x; }
+handle e(int y) { int z = x; if (y == x) { int x = x + 1; int z = x; generate e(z); } x = z; Array.x(x); match x with | 1 -> { int z = 2; z = z; } | _ -> { z = 3; } }
+"""
+USES = {"x": [[2, 3, 4, 6, 8, 9, 10], [], [7]], "e": [[1, 2]], "w": [[1, 2, 3]], "f": [[]], "y": [[1], [3]], "z": [[3, 7], [2], [5, 6]]}
+
+
+def test_names(group: Group) -> None:
+    """What each name means where it is used: behind its declaration, up to the end of its block, and the innermost of one name."""
+    names = Names(SCOPES)
+    for word, wanted in USES.items():
+        places = [it.start() for it in re.finditer(rf"(?<!\.)\b{word}\b", SCOPES)]
+        found = [[places.index(at) for at in symbol.uses] for symbol in names.by_name[word]]
+        group.check(f"uses of {word}", found == wanted, found)
+    broken = Names("event a(;\nhandle b( { int x = 1; x = 2;\nfun int c() { return 1; }\nevent d();")
+    group.check("names of a broken text", [it.name for it in broken.symbols] == ["a", "x", "c", "d"] and len(broken.by_name["x"][0].uses) == 1, broken.symbols)
+
+
 def test_diagnostics(group: Group) -> None:
     """All mistakes at once, warnings, limits of the file beside the program, and columns in units of UTF-16."""
     client = Client()
@@ -188,7 +209,8 @@ def test_diagnostics(group: Group) -> None:
     places = [(it["range"]["start"]["line"], it["range"]["start"]["character"], it["range"]["end"]["character"], it["severity"]) for it in found]
     group.check("three mistakes and their places", places == [(1, 23, 24, 1), (1, 36, 40, 1), (2, 7, 8, 1)], (places, found))
     group.check("the words of a mistake", "remedy: " in found[0]["message"] and found[0]["source"] == "lucid" and found[0]["code"] == "types", found[0])
-    client.change("event a();\nhandle a() { }\nevent b();\n", 2)
+    client.change((EXAMPLES / "nat.luc").read_text() + "event b(int x); handle b(int x) { generate c(x); }" * 500, 2)
+    time.sleep(0.2)  # it is being judged
     client.change("event a();\nhandle a() { generate a(); }\n", 3)
     found = client.diagnostics(3)
     group.check("a warning of the last text", [(it["severity"], it["range"]["start"]["line"]) for it in found] == [(2, 1)], found)
