@@ -111,7 +111,7 @@ def edited(data: bytes, edits: Sequence[Edit]) -> Edited:
 class Rounds:
     """All that is wrong in a program: each round mends what has an edit, and shows what was hidden behind it."""
 
-    def __init__(self, answer: Answer, most: int) -> None:
+    def __init__(self, answer: Answer, most: int, rounds: int) -> None:
         self.call, self.most = answer.call, most
         self.data = answer.files['program']
         self.plain = Sources(Answer(call=answer.call, files=answer.files, program=Program(answer.program.text)))
@@ -119,7 +119,7 @@ class Rounds:
         self.found: List[Explanation] = []
         self.seen: Set[int] = set()
         self.problems: Set[str] = set()
-        for _ in range(ROUNDS):
+        for _ in range(rounds):
             made = one_round(self.call, self.data, most)
             edits = [edit for one in made if one.status == 4 or is_unknown(one) for edit in one.edits]
             for one in made:
@@ -171,11 +171,12 @@ def one_round(call: Any, data: bytes, most: int) -> List[Explanation]:
     return [explanation_of(where, one) for where, one in found[:most]]
 
 
-def explain_all(words: Sequence[Word], read: ReadFile, most: int = MOST) -> List[Explanation]:
+def explain_all(words: Sequence[Word], read: ReadFile, most: int = MOST, rounds: int = ROUNDS) -> List[Explanation]:
     """Explains all that is wrong with a call of `lucid`, at most so many; the first is the program's own refusal.
 
     `words` are those of the call and `read` gives the bytes of a file, or raises OSError. An accepted call gives no explanation. Nothing is
     reported that follows from a refused declaration. The others are in the order of their places in the program, and then of the files.
+    Each round mends what has an edit, and finds what was hidden behind it: one round is quicker.
     """
     answer = judge(list(words), read, runs=False)
     own, sources = answer.refused, Sources(answer)
@@ -186,7 +187,7 @@ def explain_all(words: Sequence[Word], read: ReadFile, most: int = MOST) -> List
         return [first]
     found: List[Explanation] = []
     if answer.program.core is None and (own.fault is None or own.fault.rule != 'nesting'):
-        found = Rounds(answer, most).found
+        found = Rounds(answer, most, rounds).found
     found += [explanation_of(sources, one) for one in later_files(answer, answer.program.core)]
     return [first] + [one for one in found if not same(one, first)][:most - 1]
 

@@ -15,7 +15,7 @@ import random
 import time
 from typing import List
 
-from harness import EXAMPLES, Group
+from harness import EXAMPLES, TESTS, Group
 from copperfinch.bounded import deeply
 from copperfinch.explain import Explanation, explain
 from copperfinch.explain.every import MOST, explain_all
@@ -75,6 +75,8 @@ handle h(int n) {
     "fun <<w>> int<<w>> f(int<<w>> n) { return n; }\nfun <<w>> int<<w>> f(int<<w>> n) { return n; }\nevent e(int n);\n"
     "handle e(int n) { n = f<<32>>(n); n = q; }\n": "2:20 4:39",
 }
+PIECES = """int<32>|auto x = |x++;|n += 1;|{|}|(|)|;|@a|"|/*|for (|match (a, b) with|[7:0]|?|:|*|'a|fun <<w>> |fun |handle |event |if (|else|generate |<<|^^|5w8|
+10us|\xe9|entry |size n = 4;|const group|return|true|65536|-1|0x|SELF|self|Sys.random()|skip;|//|hash<32>(|#define A|Array.update(a, 1, m, 2)""".split("|")
 LAYOUT = """global Array.t<<32>> x = Array.create(4);
 event seen(int n);
 event e(int n);
@@ -147,6 +149,25 @@ def check_left_out(group: Group) -> None:
     group.check("one mistake gives one explanation", sum(counts[2:]) <= sum(counts) // 10, counts)
 
 
+def check_drawn(group: Group) -> None:
+    """Texts with pieces put in and left out: no fault, the own refusal first, no place twice, and all places and edits within the text."""
+    drawn = random.Random(group.options.seed)
+    texts = [path.read_text() for folder in (EXAMPLES, EXAMPLES / "recipes", TESTS / "ported") for path in sorted(folder.glob("*.luc"))]
+    for number in range(group.options.runs or 300):
+        text = drawn.choice(texts)
+        for _ in range(drawn.randint(1, 6)):
+            at = drawn.randrange(len(text) + 1)
+            text = text[:at] + drawn.choice(["", *PIECES]) + text[at + drawn.choice((0, 0, 1, 5)) :]
+        data = text.encode("latin-1")
+        found, own = explain_all(["check", "p"], lambda _: data), explain(["check", "p"], lambda _: data, with_nodes=False).explanation
+        group.check(f"drawn {number}: the own refusal first", [made.refusal for made in found[:1]] == ([own.refusal] if own else []), found[:1])
+        keys = [(made.refusal, made.place.at) for made in found if made.place]
+        group.check(f"drawn {number}: no mistake twice", len(keys) == len(set(keys)), places(found))
+        edits = [edit for made in found for edit in made.edits]
+        within = all(0 <= edit.start <= edit.end <= len(data) for edit in edits) and all(made.place.end <= len(data) for made in found if made.place)
+        group.check(f"drawn {number}: places and edits within the text", within, edits)
+
+
 def check_long(group: Group) -> None:
     many = "event e(int n);\nhandle e(int n) {\n" + "n = n * 2; x++;\n" * 30_000 + "}\n"
     signs, broken = "' @ ` $ ?\n" * 6_000, "handle e() { x = ; }\n" * 10_000
@@ -162,6 +183,7 @@ def work(group: Group) -> None:
     check_tool(group)
     check_rows(group)
     check_left_out(group)
+    check_drawn(group)
     check_long(group)
 
 

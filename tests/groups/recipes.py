@@ -17,7 +17,7 @@ from copperfinch.explain import explain
 from copperfinch.lint import lint
 
 RECIPES = EXAMPLES / "recipes"
-ROW = re.compile(r"^\| \[.+?\]\(\.\./examples/recipes/(\w+)\.luc\) \| .+? \| (.+?) \|$", re.M)
+ROW = re.compile(r"^\| `(\w+)`: .+? \| .+? \| (.+?) \|$", re.M)
 
 
 def read(name: bytes) -> bytes:
