@@ -88,17 +88,12 @@ def refused(one: Explanation, lines: Lines) -> Json:
     is_here = place is not None and place.file == "program"
     text = [words.problem if is_here or place is None else f"{place.head()}: {words.problem}", f"rule: {words.rule}", f"remedy: {words.remedy}"]
     notes = [f"{note.line}:{note.column}: {said}" for note, said in one.notes]
-    return item(1, one.refusal.partition(":")[0], place if is_here else None, "\n".join([*text, *notes, *one.details]), edits_of(one), lines)
+    return item(1, one.refusal.partition(":")[0], place if is_here else None, "\n".join([*text, *notes, *one.details]), one.edits, lines)
 
 
 def warned(name: str, place: Place, text: str, remedy: str, page: str, edits: List[Edit], lines: Lines) -> Json:
     """Returns the diagnostic of a warning."""
     return item(2, name, place, f"{text}\nremedy: {remedy}\npage: {page}", edits, lines)
-
-
-def edits_of(one: Explanation) -> List[Edit]:
-    """Returns the edits of a remedy."""
-    return list(getattr(one, "edits", []))
 
 
 def item(severity: int, code: str, place: Optional[Place], text: str, edits: List[Edit], lines: Lines) -> Json:

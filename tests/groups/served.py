@@ -216,6 +216,16 @@ def test_diagnostics(group: Group) -> None:
     group.check("a warning of the last text", [(it["severity"], it["range"]["start"]["line"]) for it in found] == [(2, 1)], found)
     names = {it.get("code") for it in found}
     group.check("its name", names == {"endless"}, names)
+    ask = {"textDocument": {"uri": URI}, "range": {"start": {"line": 1, "character": 0}, "end": {"line": 1, "character": 0}}, "context": {"diagnostics": []}}
+    group.check("no action for a remedy that is no edit", client.ask("textDocument/codeAction", ask) == [])
+    text = "event b();\nevent a(int<8> x);\n"
+    client.change(text, 4)
+    client.diagnostics(4)
+    actions = client.ask("textDocument/codeAction", ask)
+    edits = [changed(text, it["edit"]["changes"][URI]) for it in actions]
+    group.check("an action for a remedy that is an edit", edits == ["event b();\nevent a(int<<8>> x);\n"] and actions[0]["kind"] == "quickfix", actions)
+    ask["range"] = {"start": {"line": 0, "character": 0}, "end": {"line": 0, "character": 5}}
+    group.check("no action on another line", client.ask("textDocument/codeAction", ask) == [])
     path, limits = group.file("stages.luc", (EXAMPLES / "stages.luc").read_bytes()), group.file("stages.limits.json", '{"stages": 3}')
     client.open(path.read_text(), path.as_uri(), 7)
     found = client.diagnostics(7)
