@@ -2,7 +2,8 @@
 
 Fails if fewer than LEAST of 100 of those that change a log are noticed, on a break that survives and is not in tests/survivors with a reason,
 and on a line of that file that no longer survives. Prints a row of the table in tests/README.md for each application. `--runs N` draws N
-networks of each plan. Seen to fail: with the properties of the ledger alone (73 to 92 of 100), and on a property that asserts nothing.
+networks of each plan. Seen to fail: without the replay, since the others notice 24 of 52 of
+reroute, and on a property that asserts nothing.
 """
 from __future__ import annotations
 

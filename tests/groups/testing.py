@@ -1,8 +1,7 @@
 """copperfinch.testing: what a test of a user's own program prints, for properties that fail, and for those that say nothing.
 
-Each test writes a file for pytest and calls pytest on it. Seen to fail: on a failure without its scenario or without its event; on a scenario
-that `run whole` refuses, or that does not break the property again; on more than six events, with hypothesis alone (nine were left); on a
-property of an empty log that passes; on a program that stays after an interrupt. Sees nothing of how well scenarios are drawn, which the
+Each test writes a file for pytest and calls pytest on it. Seen to fail: on eight and nine events, which hypothesis left by itself; on a property
+that the firewall itself breaks; on an interrupt that named no scenario. Sees nothing of how well scenarios are drawn, which the
 groups `properties` and `mutants` ask.
 """
 from __future__ import annotations
