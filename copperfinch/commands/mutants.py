@@ -2,7 +2,7 @@
 
 A break is another comparison, operator, number, argument, array, event, memop or target, a condition that is always true or never, or a statement
 that is left out. It counts if the program is accepted and fits the limits, and if it changes a log of the scenarios that the properties of TESTS
-draw (examples/properties/README.md). Each break that no property notices is printed with its line. Without TESTS all breaks are printed that are accepted and
+draw (docs/TESTING.md). Each break that no property notices is printed with its line. Without TESTS all breaks are printed that are accepted and
 fit; --write FOLDER writes them as programs.
 """
 import argparse

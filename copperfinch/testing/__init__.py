@@ -1,4 +1,4 @@
-"""Properties of a network, tried on scenarios that are drawn (examples/properties/README.md). It needs pytest and hypothesis.
+"""Properties of a network, tried on scenarios that are drawn (docs/TESTING.md). It needs pytest and hypothesis.
 
     from copperfinch.testing import network, scenarios, some
     fw = network("firewall.luc", "firewall.limits.json")

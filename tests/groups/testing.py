@@ -85,8 +85,8 @@ def test_broken_firewall(group: Group) -> None:
 
 
 def test_page(group: Group) -> None:
-    """The test of examples/properties/README.md holds for the firewall, and fails as the page shows for one that lets nothing out."""
-    blocks = re.findall(r"^```(?:python)?\n(.*?)^```$", (TOP / "examples/properties/README.md").read_text(), re.M | re.S)
+    """The test of docs/TESTING.md holds for the firewall, and fails as the page shows for one that lets nothing out."""
+    blocks = re.findall(r"^```(?:python)?\n(.*?)^```$", (TOP / "docs/TESTING.md").read_text(), re.M | re.S)
     text = (EXAMPLES / "firewall.luc").read_text()
     group.file("test_firewall.py", blocks[0])
     group.file("firewall.limits.json", (EXAMPLES / "firewall.limits.json").read_bytes())

@@ -182,7 +182,6 @@ class Trusted:
             rows = self.page_rows(part.adds, described)
             title = f"{part.title} rests on" if not large else f"{part.title} adds"
             large.append("\n".join([f"## What {title}: {number(self.lines(part.adds))} lines", "", "| Page | What it says | Lines |", "|---|---|---|", *rows]))
-        rest = f"Pages that the rows behind these two add, each with its lines: {self.pages_in_short(without(self.read, [node for part in self.parts[:DESCRIBED] for node in part.adds]))}."
         models = without(self.of("definition", self.nodes), self.read)
         types = ["## Types, traits and JSON", "", "A type has the lines that declare it and those of its model, which says what a clause sees of it.", "", "| Crate | Types | Lines |", "|---|---|---|"]
         for crate in dict.fromkeys(node.crate for node in self.of("type", self.nodes)):
@@ -190,7 +189,7 @@ class Trusted:
             types.append(f"| {crate.replace('lucid_', '', 1)} | {len(its)} | {self.lines(its)} |")
         below = f"Pages that a model or a trait alone names, each with its lines: {self.pages_in_short(models)}."
         kit = f"Pages of the kit: {self.pages_in_short(self.of('kit', self.nodes))}."
-        return [*large, rest, "\n".join(types), below, kit]
+        return [*large, "\n".join(types), below, kit]
 
     def text(self) -> str:
         """Returns docs/TRUSTED.md."""
