@@ -1,6 +1,7 @@
-"""Prints the rows of the tables in examples/README.md: the sizes of the applications, the speed of the ten, and the sizes in the paper.
+"""Prints the rows of the tables in examples/README.md: the sizes of the applications, and the speed of the ten.
 
-The sizes are computed from the files NAME.luc and NAME.layout. Lines that are empty or only a comment are not counted. The speed is empty
+The sizes are computed from the files NAME.luc and NAME.layout. Lines that are empty or only a comment are not counted. Beside the stages of
+the layout are those with the further passes and the number that no pass goes below, as `stages NAME.luc` gives them. The speed is empty
 unless a built PROGRAM is given: then it is the number of events that enter in a second of a processor in `run pipe`, on the scenario that
 `scenario NAME EVENTS 1` prints (EVENTS is 10 to 20,000, and 20,000 if it is not given). It is the best of three runs, in thousands.
 """
@@ -9,13 +10,14 @@ import re
 import resource
 from dataclasses import dataclass
 from pathlib import Path
-from typing import Optional, Tuple
+from typing import Tuple
 
 from ..command import number
 from ..errors import Error
 from ..program import Program
 from ..scenarios import MAKERS, MOST, draw, text_of
 from ..streams import Source, write
+from .stages import counts_of
 
 TOP = Path(__file__).resolve().parent.parent.parent
 USAGE = "%(prog)s [PROGRAM [EVENTS]]"
@@ -23,13 +25,11 @@ USAGE = "%(prog)s [PROGRAM [EVENTS]]"
 
 @dataclass(frozen=True)
 class Application:
-    """An application: its name in the paper, its file, its section of the page, and the lines and stages that the paper reports, if known."""
+    """An application: its name in the paper, its file, and its section of the page."""
 
     title: str
     name: str
     section: str
-    lines: Optional[int] = None
-    stages: Optional[int] = None
 
 
 APPLICATIONS = [
@@ -58,8 +58,9 @@ def is_code(line: str) -> bool:
 
 
 def sizes(name: str) -> Tuple[int, ...]:
-    """Lines, stages, tables, rows, operations, bits and arrays of an example."""
-    program = (TOP / f"examples/{name}.luc").read_text(encoding="utf-8")
+    """Lines, stages, stages with -O, the number that no pass goes below, tables, rows, operations, bits and arrays of an example."""
+    source = Source.of(str(TOP / f"examples/{name}.luc"))
+    program = source.data.decode()
     layout = (TOP / f"examples/{name}.layout").read_text(encoding="utf-8")
     tables = [(int(stage), int(rows)) for stage, rows in re.findall(r"^stage (\d+) table \d+ rows (\d+)", layout, re.MULTILINE)]
     counts = re.search(r"^ops (\d+) bits (\d+)", layout, re.MULTILINE)
@@ -68,7 +69,8 @@ def sizes(name: str) -> Tuple[int, ...]:
     lines = sum(map(is_code, program.split("\n")))
     stages = len({stage for stage, _ in tables})
     rows = sum(rows for _, rows in tables)
-    return lines, stages, len(tables), rows, int(counts[1]), int(counts[2]), len(re.findall(r"^global ", program, re.MULTILINE))
+    _, more, below = counts_of(source, None)
+    return lines, stages, more, below, len(tables), rows, int(counts[1]), int(counts[2]), len(re.findall(r"^global ", program, re.MULTILINE))
 
 
 def spent() -> float:
@@ -91,8 +93,7 @@ def speed(program: str, name: str, events: int) -> int:
 
 def row(it: Application, speed_of_it: str) -> str:
     """A row of the table."""
-    paper = ("" if number is None else str(number) for number in (it.lines, it.stages))
-    cells = [f"[{it.title}](#{it.section})", f"[{it.name}.luc]({it.name}.luc)", *map(str, sizes(it.name)), speed_of_it, *paper]
+    cells = [f"[{it.title}](#{it.section})", f"[{it.name}.luc]({it.name}.luc)", *map(str, sizes(it.name)), speed_of_it]
     return "|" + "".join(f" {cell} |" if cell else " |" for cell in cells)
 
 

@@ -6,7 +6,7 @@ what is accepted and probably wrong; tools/LINT.md has a section for each warnin
 
 The first line is the program's own refusal: that of the built program if there is one (--lucid, $LUCID, or that of the checkout), or else
 that of the second implementation. All other lines come from that second implementation, copperfinch.model, which is not verified; if both
-differ, the call ends with 70.
+differ, the call ends with 70. With -O all is that of a program with the further passes.
 
 An explanation that takes more than 6 seconds of a processor, or more than 300 MB, is left out, and a line says which part. Without LIMITS
 the nodes are placed within the greatest limits. The exit code is that of the explained call.
@@ -24,11 +24,13 @@ from ..explain import Explanation, Report, fill
 from ..explain.every import MOST, explain_all
 from ..lint import Warning, lint_answer
 from ..model import agrees
+from ..model.more_passes import MORE
+from ..model.passes import PASSES
 from ..program import Ended, Program, Running, built
 from ..streams import Source, complain, printable, read_again, write
 from .where import show
 
-USAGE = "%(prog)s PROGRAM [LIMITS [SCENARIO [PLACEMENT]]] [--nodes] [--layout] [--placement] [--json] [--all] [--lint] [--lucid COMMAND] | PROGRAM --where REFUSAL"
+USAGE = "%(prog)s PROGRAM [LIMITS [SCENARIO [PLACEMENT]]] [-O] [--nodes] [--layout] [--placement] [--chain] [--json] [--all] [--lint] [--lucid COMMAND] | PROGRAM --where REFUSAL"
 SECONDS, MEGABYTES = 6, 300
 # The most seconds of a processor and bytes of output of the program's own call.
 ITS_SECONDS, ITS_BYTES = 9, 2**20
@@ -39,9 +41,11 @@ def add_words(parser: argparse.ArgumentParser) -> None:
     parser.add_argument("program", metavar="PROGRAM")
     for name in ("limits", "scenario", "placement_file"):
         parser.add_argument(name, nargs="?", metavar=name[:9].upper())
+    parser.add_argument("-O", dest="more", action="store_true", help="explain the call with the further passes, which no program runs yet")
     parser.add_argument("--nodes", action="store_true", help="the nodes: number, place, what each is and reads, its array, stage, rows and bits")
     parser.add_argument("--layout", action="store_true", help="the tables of first fit, each with its nodes")
     parser.add_argument("--placement", action="store_true", help="first fit as a placement file, for `audit` and `run placed`; a refusal goes to standard error")
+    parser.add_argument("--chain", action="store_true", help="a longest chain of nodes that wait for one another, if the program fits")
     parser.add_argument("--all", action="store_true", help="all that is wrong, and not only what is refused first")
     parser.add_argument("--lint", action="store_true", help="warnings of what is accepted and probably wrong")
     parser.add_argument("--json", action="store_true", help="all of this as one JSON object")
@@ -91,6 +95,8 @@ def shown(report: Report, given: argparse.Namespace, asked: Asked) -> List[str]:
                 lines.append(f"  node {node['node']}: {node['what']} ({node['line']}:{node['column']})")
     if given.placement and report.placement is not None:
         lines.append(json.dumps(report.placement))
+    if given.chain:
+        lines += report.chain
     return lines
 
 
@@ -102,7 +108,7 @@ def run(given: argparse.Namespace) -> int:
     files = [path for number, path in enumerate(paths) if path is not None and not (command == "audit" and number == 2)]
     # Each file is read once, and its bytes go to both implementations.
     sources = {os.fsencode(path): source_of(path) for path in files}
-    path = given.lucid or built()
+    path, passes = given.lucid or (None if given.more else built()), MORE if given.more else PASSES
     program = Program(path) if path else None
     running: Optional[Running] = None
     if program is not None:
@@ -111,17 +117,17 @@ def run(given: argparse.Namespace) -> int:
     asked = Asked()
 
     def work() -> None:
-        fill(report, words, lambda name: sources_data(sources, name), wanted)
+        fill(report, words, lambda name: sources_data(sources, name), wanted, passes)
         if given.all:
             report.part = "all but the first refusal"
-            asked.every = explain_all(words, lambda name: sources_data(sources, name))
+            asked.every = explain_all(words, lambda name: sources_data(sources, name), passes=passes)
         if given.lint and report.answer is not None:
             report.part = "the warnings"
             asked.warnings = lint_answer(report.answer)
 
     try:
         words = [os.fsencode(word) for word in [*command.split(), *files]]
-        wanted = bool(given.nodes or given.layout or given.placement or given.json)
+        wanted = bool(given.nodes or given.layout or given.placement or given.chain or given.json)
         try:
             deeply(work, SECONDS, MEGABYTES)
         except Exceeded as why:
@@ -171,7 +177,7 @@ def tell(report: Report, given: argparse.Namespace, ended: Optional[Ended], left
         return status
     lines = [first] if first else []
     lines += shown(report, given, asked)
-    if first or given.lint or given.nodes or given.layout or given.placement:
+    if first or given.lint or given.nodes or given.layout or given.placement or given.chain:
         lines += [left_out] if left_out else []
     else:
         lines = ["nothing is refused"]

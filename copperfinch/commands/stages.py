@@ -1,106 +1,88 @@
 """Shows how many stages a program needs, and a longest chain of nodes that wait for one another.
 
 The first line is the number of stages of first fit after the four passes, if 32 stages may be taken; the other limits are those of LIMITS, or
-the greatest. The second line is the number with the passes `casts` and `lift` too. These are proved, and no program runs them yet. Then each
-node of the chain after the four passes has a line: its stage, its place, what it is, its handlers, and how it waits for the node before it.
+the greatest. The second line is the number after the further passes, and the third a number that no pass goes below. There only calls
+of arrays and outs count, and one stage for all that is computed between two of them. Then each node of a longest chain after the four
+passes, or with -O after those, has a line: its stage, its place, what it is, its handlers, and how it waits for the node before it.
 
 All of it comes from the second implementation, copperfinch.model, which is not verified.
 """
 import argparse
 from dataclasses import replace
-from typing import Callable, List, Optional, Sequence, Tuple
+from typing import List, Optional
 
 from ..bounded import deeply
 from ..errors import Error
 from ..explain import GREATEST
+from ..explain.chains import least, shown, stages_of
 from ..explain.nodes import Described
 from ..explain.places import Sources
 from ..model import judge
-from ..model.answers import Answer
-from ..model.inline import check_counts
 from ..model.json_files import Limits, read_limits
 from ..model.layout import Layout
 from ..model.more_passes import MORE
-from ..model.nodes import Code, Op
+from ..model.core import Core
 from ..model.normal import normal
-from ..model.passes import PASSES
+from ..model.passes import PASSES, Passes, compose
 from ..model.refusals import Refused
 from ..streams import Source, write
 
-USAGE = "%(prog)s PROGRAM [LIMITS]"
+USAGE = "%(prog)s PROGRAM [LIMITS] [-O]"
 SECONDS, MEGABYTES = 60, 1000
-Passes = Sequence[Tuple[str, Callable[[Code], List[Op]]]]
 
 
 def add_words(parser: argparse.ArgumentParser) -> None:
     """Adds the words."""
     parser.add_argument("program", metavar="PROGRAM")
     parser.add_argument("limits", nargs="?", metavar="LIMITS")
+    parser.add_argument("-O", dest="more", action="store_true", help="show the chain after the further passes")
 
 
 def run(given: argparse.Namespace) -> int:
     """Prints the lines."""
     program = Source.of(given.program)
     limits = None if given.limits is None else Source.of(given.limits)
-    lines = deeply(lambda: shown(program, limits), SECONDS, MEGABYTES)
+    lines = deeply(lambda: lines_of(Placed(program, limits), given.more), SECONDS, MEGABYTES)
     write("".join(f"{line}\n" for line in lines))
     return 0
 
 
-def shown(program: Source, limits: Optional[Source]) -> List[str]:
+class Placed:
+    """A program, placed after the four passes and after the further ones. Raises Error if it is refused or does not fit."""
+
+    def __init__(self, program: Source, limits: Optional[Source]) -> None:
+        self.answer = judge(["check", program.name], lambda name: program.data)
+        if self.answer.refused is not None:
+            raise Error(f"{program.name}: {self.answer.refused.line}")
+        assert self.answer.program is not None and self.answer.program.core is not None  # it is not refused
+        self.core: Core = self.answer.program.core
+        try:
+            bounds = GREATEST if limits is None else replace(read_limits(limits.data), stages=GREATEST.stages)
+            self.made = [fitted(self.core, passes, bounds) for passes in (PASSES, MORE)]
+        except Refused as refused:
+            raise Error(refused.line) from None
+
+    def counts(self) -> List[int]:
+        """Returns the stages after the four passes, those with -O, and the number that no pass goes below."""
+        return [*map(stages_of, self.made), least(normal(self.core))]
+
+
+def counts_of(program: Source, limits: Optional[Source]) -> List[int]:
+    """Returns these three numbers of a program."""
+    return deeply(lambda: Placed(program, limits).counts(), SECONDS, MEGABYTES)
+
+
+def lines_of(placed: Placed, more: bool) -> List[str]:
     """Returns the lines for a program."""
-    answer = judge(["check", program.name], lambda name: program.data)
-    if answer.refused is not None:
-        raise Error(f"{program.name}: {answer.refused.line}")
-    try:
-        bounds = GREATEST if limits is None else replace(read_limits(limits.data), stages=GREATEST.stages)
-        four = fitted(answer, PASSES, bounds)
-        more = fitted(answer, MORE, bounds)
-    except Refused as refused:
-        raise Error(refused.line) from None
-    lines = [f"{name}: {counted(made)}" for name, made in (("four passes", four), ("with casts and lift", more))]
-    return lines + chain(four, Described(four.code, Sources(answer)))
+    names = ("four passes", "with -O", "no pass goes below")
+    lines = [f"{name}: {number} stage{'' if number == 1 else 's'}" for name, number in zip(names, placed.counts())]
+    made = placed.made[more]
+    return lines + shown(made, Described(made.code, Sources(placed.answer)))
 
 
-def fitted(answer: Answer, passes: Passes, limits: Limits) -> Layout:
+def fitted(core: Core, passes: Passes, limits: Limits) -> Layout:
     """Returns first fit of a program after some passes. Raises Refused if it does not fit."""
-    assert answer.program is not None and answer.program.core is not None  # it is not refused
-    check_counts(answer.program.core)
-    code = normal(answer.program.core)
-    for _, one in passes:
-        code = replace(code, ops=one(code))
-    made = Layout(code, limits)
+    made = Layout(compose(core, passes), limits)
     made.check_code()
     made.fit()
     return made
-
-
-def counted(made: Layout) -> str:
-    """Returns the number of stages that are taken, in words."""
-    count = max((stage + 1 for stage, _ in made.pairs), default=0)
-    return f"{count} stage{'' if count == 1 else 's'}"
-
-
-def chain(made: Layout, described: Described) -> List[str]:
-    """Returns a line for each node of a chain that ends in the last stage, the first node first."""
-    if not made.pairs:
-        return []
-    lines: List[str] = []
-    at = max(range(len(made.pairs)), key=lambda i: made.pairs[i][0])
-    while True:
-        stage = made.pairs[at][0]
-        before = [i for i, node in enumerate(made.nodes) if made.pairs[i][0] == stage - 1 and node.writes & made.nodes[at].reads]
-        handlers = ", ".join(described.handlers(made.nodes[at])) or "all events"
-        lines.append(f"stage {stage}: {described.where(at)} {described.what(at)}, of {handlers}{waits(made, at, before[:1])}")
-        if not before:
-            return lines[::-1]
-        at = before[0]
-
-
-def waits(made: Layout, at: int, before: List[int]) -> str:
-    """Says how a node waits for the one before it: by a guard, or by an operand."""
-    if not before:
-        return "" if made.pairs[at][0] == 0 else ": no earlier stage has room for it"
-    written = made.nodes[before[0]].writes
-    guards = {literal.field for op in made.nodes[at].ops for literal in made.code.ops[op].guard}
-    return ": an operand waits" if not written & guards else ": a guard waits"

@@ -13,9 +13,10 @@ from typing import Any, Dict, List, Optional, Sequence, Tuple
 from ..model.answers import Answer, ReadFile, Word, judge
 from ..model.json_files import Limits, read_limits
 from ..model.layout import Layout
-from ..model.passes import compose
+from ..model.passes import PASSES, Passes, compose
 from ..model.refusals import Fault, Refused
 
+from . import chains
 from .nodes import Described
 from .places import Edit, Place, Sources
 from .published import name_form
@@ -120,12 +121,13 @@ class Report:
     table: List[str] = field(default_factory=list)
     tables: List[Dict[str, Any]] = field(default_factory=list)
     placement: Optional[Dict[str, Any]] = None
+    chain: List[str] = field(default_factory=list)
     counts: Dict[str, Any] = field(default_factory=dict)
 
     def data(self) -> Dict[str, Any]:
         """The report as JSON."""
         return {'refused': self.explanation.data() if self.explanation else None, 'counts': self.counts or None, 'nodes': self.nodes,
-                'tables': self.tables, 'placement': self.placement}
+                'tables': self.tables, 'placement': self.placement, 'chain': self.chain}
 
 
 def tables_of(made: Layout) -> List[Dict[str, Any]]:
@@ -140,16 +142,16 @@ def tables_of(made: Layout) -> List[Dict[str, Any]]:
     return found
 
 
-def explain(words: Sequence[Word], read: ReadFile, with_nodes: bool = True) -> Report:
-    """Explains a call of `lucid`; also lists the nodes of the program, unless that is not wanted. No network runs."""
+def explain(words: Sequence[Word], read: ReadFile, with_nodes: bool = True, passes: Passes = PASSES) -> Report:
+    """Explains a call of the program with these passes; also lists the nodes of the program, unless that is not wanted. No network runs."""
     report = Report()
-    fill(report, words, read, with_nodes)
+    fill(report, words, read, with_nodes, passes)
     return report
 
 
-def fill(report: Report, words: Sequence[Word], read: ReadFile, with_nodes: bool) -> None:
+def fill(report: Report, words: Sequence[Word], read: ReadFile, with_nodes: bool, passes: Passes = PASSES) -> None:
     """Explains a call, part by part: the answer, the explanation, and the nodes."""
-    answer = judge(list(words), read, runs=False)
+    answer = judge(list(words), read, runs=False, passes=passes)
     report.answer = answer
     if answer.refused is not None:
         fill_explanation(report, answer, answer.refused)
@@ -159,7 +161,7 @@ def fill(report: Report, words: Sequence[Word], read: ReadFile, with_nodes: bool
     report.part = 'the nodes and the tables of the program'
     try:
         limits = read_limits(answer.files['limits']) if 'limits' in answer.files else GREATEST
-        code = compose(program.core)
+        code = compose(program.core, passes)
     except Refused:
         return
     made = Layout(code, limits)
@@ -171,5 +173,6 @@ def fill(report: Report, words: Sequence[Word], read: ReadFile, with_nodes: bool
     described = Described(code, Sources(answer))
     report.nodes = [described.data(i, made) for i in range(len(made.nodes))]
     report.table = described.table(made)
+    report.chain = chains.shown(made, described) if report.placement is not None else []
     report.tables = tables_of(made)
-    report.counts = {'ops': len(code.ops), 'bits': code.bits(), 'nodes': len(made.nodes), 'removed': code.gone, 'limits': vars(limits)}
+    report.counts = {'ops': len(code.ops), 'bits': code.bits(), 'nodes': len(made.nodes), 'removed': [count for _, count in code.gone], 'limits': vars(limits)}

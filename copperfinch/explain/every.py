@@ -12,7 +12,7 @@ from ..model.core import Core
 from ..model.json_files import Limits, read_limits, read_scene
 from ..model.layout import Layout
 from ..model.nodes import Code, Node
-from ..model.passes import compose
+from ..model.passes import PASSES, Passes, compose
 from ..model.refusals import Fault, Refused
 
 from . import Explanation, explanation_of
@@ -61,7 +61,7 @@ class Leaving(Layout):
         return found
 
 
-def later_files(answer: Answer, core: Optional[Core]) -> List[Refused]:
+def later_files(answer: Answer, core: Optional[Core], passes: Passes) -> List[Refused]:
     """Returns a refusal of each file behind the program, and of the layout, as far as each can be judged."""
     found: List[Refused] = []
     files, limits, code = answer.files, None, None
@@ -72,7 +72,7 @@ def later_files(answer: Answer, core: Optional[Core]) -> List[Refused]:
             elif core is None:
                 continue
             elif file == 'layout' and limits is not None and answer.call.command != 'run whole':
-                code = compose(core)
+                code = compose(core, passes)
                 found += Leaving(code, limits).all_refused() if 'placement' not in files else []
             elif file == 'scenario' and file in files:
                 read_scene(files[file], core)
@@ -171,14 +171,14 @@ def one_round(call: Any, data: bytes, most: int) -> List[Explanation]:
     return [explanation_of(where, one) for where, one in found[:most]]
 
 
-def explain_all(words: Sequence[Word], read: ReadFile, most: int = MOST, rounds: int = ROUNDS) -> List[Explanation]:
+def explain_all(words: Sequence[Word], read: ReadFile, most: int = MOST, rounds: int = ROUNDS, passes: Passes = PASSES) -> List[Explanation]:
     """Explains all that is wrong with a call of `lucid`, at most so many; the first is the program's own refusal.
 
     `words` are those of the call and `read` gives the bytes of a file, or raises OSError. An accepted call gives no explanation. Nothing is
     reported that follows from a refused declaration. The others are in the order of their places in the program, and then of the files.
     Each round mends what has an edit, and finds what was hidden behind it: one round is quicker.
     """
-    answer = judge(list(words), read, runs=False)
+    answer = judge(list(words), read, runs=False, passes=passes)
     own, sources = answer.refused, Sources(answer)
     if own is None:
         return []
@@ -188,7 +188,7 @@ def explain_all(words: Sequence[Word], read: ReadFile, most: int = MOST, rounds:
     found: List[Explanation] = []
     if answer.program.core is None and (own.fault is None or own.fault.rule != 'nesting'):
         found = Rounds(answer, most, rounds).found
-    found += [explanation_of(sources, one) for one in later_files(answer, answer.program.core)]
+    found += [explanation_of(sources, one) for one in later_files(answer, answer.program.core, passes)]
     return [first] + [one for one in found if not same(one, first)][:most - 1]
 
 

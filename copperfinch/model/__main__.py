@@ -1,4 +1,4 @@
-"""`python3 -m copperfinch.model WORDS`: answers as the program `lucid` does, by its streams and its exit code. Not verified."""
+"""`python3 -m copperfinch.model [-O] WORDS`: answers as `lucid` does, with -O as it would with the further passes, by streams and exit code. Not verified."""
 import os
 import sys
 
@@ -6,6 +6,8 @@ from ..bounded import deeply
 from ..streams import read_again
 
 from .answers import Answer, judge
+from .more_passes import MORE
+from .passes import PASSES
 
 
 def write_all(stream: int, data: bytes) -> bool:
@@ -19,7 +21,9 @@ def write_all(stream: int, data: bytes) -> bool:
 
 
 if __name__ == '__main__':
-    made: Answer = deeply(lambda: judge([os.fsencode(word) for word in sys.argv[1:]], read_again))
+    more = sys.argv[1:2] == ['-O']
+    words = [os.fsencode(word) for word in sys.argv[1 + more:]]
+    made: Answer = deeply(lambda: judge(words, read_again, passes=MORE if more else PASSES))
     if not write_all(1, made.out):
         made = Answer(10, b'', b'write fault\n')
     write_all(2, made.err)

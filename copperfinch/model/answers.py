@@ -16,7 +16,7 @@ from .network import Network
 from .nodes import Code
 from .order import check_order
 from .parser import parse
-from .passes import compose
+from .passes import PASSES, Passes, compose
 from .refusals import Fault, Refused
 from .values import fnv
 
@@ -132,7 +132,7 @@ def once(core: Core, name: str, args: List[int]) -> str:
     return block_text(core, 0, 0, event, args, [(out, False) for out in outs]) + cells_text(core, 0, cells)
 
 
-def run_call(call: Call, files: Dict[str, bytes], program: Program, runs: bool = True) -> str:
+def run_call(call: Call, files: Dict[str, bytes], program: Program, passes: Passes, runs: bool = True) -> str:
     """Does the work of a command that reads a program, and refuses what is wrong first in the order of docs/ERRORS.md.
 
     A network runs after all that can be refused; where `runs` is false, it does not, and there is no output.
@@ -150,7 +150,7 @@ def run_call(call: Call, files: Dict[str, bytes], program: Program, runs: bool =
     if command == 'run whole':
         network = Network(core, limits, read_scene(files['scenario'], core), None)
         return network.run() if runs else ''
-    program.code = compose(core)
+    program.code = compose(core, passes)
     placed = Layout(program.code, limits)
     placed.check_code()
     if 'placement' not in files:  # for `audit` and `run placed` only the counts of a layout come before the scenario
@@ -165,28 +165,31 @@ def run_call(call: Call, files: Dict[str, bytes], program: Program, runs: bool =
     return drive(placed, scene, call.numbers[0] if command == 'snap' else None)
 
 
-def generated(call: Call) -> str:
+def generated(call: Call, passes: Passes) -> str:
     """README, Usage: does the work of `gen` and `bench`."""
     seed, count = call.numbers
     texts = {'gen program': gen.make_program(seed), 'gen limits': gen.make_limits(), 'gen scene': gen.make_scene(seed, count)}
     if call.command != 'bench':
         return texts[call.command]
     files = {'limits': texts['gen limits'].encode(), 'scenario': texts['gen scene'].encode()}
-    text = run_call(Call('run pipe', {}, '', []), files, Program(texts['gen program']))
+    text = run_call(Call('run pipe', {}, '', []), files, Program(texts['gen program']), passes)
     return f'bench seed {seed} n {count} {text.splitlines()[-1]} bytes {len(text)} fnv {fnv(text.encode()):016x}\n'
 
 
-def judge(words: Sequence[Word], read: ReadFile, runs: bool = True) -> Answer:
-    """Returns the answer of a call; `runs` says whether a network runs. Texts are `str` with one character for each byte."""
+def judge(words: Sequence[Word], read: ReadFile, runs: bool = True, passes: Passes = PASSES) -> Answer:
+    """Returns the answer of a call of the program with these passes; `runs` says whether a network runs.
+
+    Texts are `str` with one character for each byte.
+    """
     made = Answer()
     try:
         made.call = call_of([word.encode('utf-8') if isinstance(word, str) else word for word in words])
         if made.call.files:
             made.files = read_files(made.call, read)
             made.program = Program(made.files['program'].decode('latin-1'))
-            made.out = run_call(made.call, made.files, made.program, runs).encode('latin-1')
+            made.out = run_call(made.call, made.files, made.program, passes, runs).encode('latin-1')
         else:
-            made.out = generated(made.call).encode('latin-1')
+            made.out = generated(made.call, passes).encode('latin-1')
     except Refused as refused:
         made.status, made.err, made.refused = refused.status, (refused.line + '\n').encode('latin-1'), refused
     return made

@@ -4,7 +4,6 @@ from typing import FrozenSet, List, NamedTuple, Tuple
 
 from .json_files import Limits
 from .nodes import Code, Literal, Node, nodes_of
-from .passes import PASSES
 from .refusals import Fault, Refused
 
 Pattern = FrozenSet[Tuple[int, int]]  # fields and the values that they must have
@@ -95,7 +94,7 @@ class Layout:
     def text(self) -> str:
         """Returns the lines of the passes, of the counts, and of each table by stage and table."""
         ops, arrays = self.code.ops, self.code.core.arrays
-        lines = [f'pass {name} removed {gone}' for (name, _), gone in zip(PASSES, self.code.gone)]
+        lines = [f'pass {name} removed {gone}' for name, gone in self.code.gone]
         lines.append(f'ops {len(ops)} bits {self.code.bits()} nodes {len(self.nodes)}')
         for k, tables in enumerate(self.stages):
             for t, table in enumerate(tables):

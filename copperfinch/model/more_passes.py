@@ -1,10 +1,10 @@
 """Further passes, which bring code to fewer stages: `casts`, `sources`, `merge` and `lift` (crates/lucid_pass_more_spec/specs)."""
 from collections import defaultdict
 from dataclasses import replace
-from typing import Callable, DefaultDict, Dict, List, Set, Tuple
+from typing import DefaultDict, Dict, List, Set, Tuple
 
 from .nodes import Code, Literal, Op, Operand
-from .passes import PASSES, dead, only_writers
+from .passes import PASSES, Passes, dead, only_writers
 
 PURE = ('un', 'bin', 'cast', 'hash', 'move')
 
@@ -103,8 +103,8 @@ def merge(code: Code) -> List[Op]:
     return [merged(op) for op in code.ops]
 
 
-# The four passes with the further ones between and behind them.
+# The four with the further ones between and behind them, which no program runs yet: crates/lucid_pass_rewrites and lucid_pass_more have them.
 FOUR = dict(PASSES)
-MORE: List[Tuple[str, Callable[[Code], List[Op]]]] = [
+MORE: Passes = [
     ('fold', FOUR['fold']), ('casts', casts), ('copies', FOUR['copies']), ('sources', sources), ('dead', dead), ('direct', FOUR['direct']),
     ('dead', dead), ('merge', merge), ('dead', dead), ('lift', lift)]

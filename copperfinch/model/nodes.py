@@ -66,13 +66,13 @@ class Op:
 class Code:
     """The widths of the fields, how many of them are inputs (event, tick, switch and arguments), and the operations.
 
-    `gone` is how many operations each pass so far has removed.
+    `gone` has the name of each pass so far, and how many operations it has removed.
     """
     core: Core
     widths: List[int]
     inputs: int
     ops: List[Op] = field(default_factory=list)
-    gone: List[int] = field(default_factory=list)
+    gone: List[Tuple[str, int]] = field(default_factory=list)
 
     def bits(self) -> int:
         """The limits of a target, `bits`: a packet carries the inputs, and each field that an operation reads or writes."""

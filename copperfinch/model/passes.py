@@ -1,7 +1,7 @@
 """The four passes: `fold`, `copies`, `dead` and `direct` (crates/lucid_pass_spec/specs)."""
 from collections import Counter
 from dataclasses import replace
-from typing import Callable, Dict, List, Optional, Set, Tuple
+from typing import Callable, Dict, List, Optional, Sequence, Set, Tuple
 
 from . import core
 from .inline import check_counts
@@ -101,14 +101,15 @@ def direct(code: Code) -> List[Op]:
     return [op for op in ops if op.to not in tests or op.to in read]
 
 
-PASSES: List[Tuple[str, Callable[[Code], List[Op]]]] = [('fold', fold), ('copies', copies), ('dead', dead), ('direct', direct)]
+Passes = Sequence[Tuple[str, Callable[[Code], List[Op]]]]
+PASSES: Passes = [('fold', fold), ('copies', copies), ('dead', dead), ('direct', direct)]
 
 
-def compose(c: core.Core) -> Code:
-    """Returns what the passes make of the normal form of a program; the two counts come first."""
+def compose(c: core.Core, passes: Passes = PASSES) -> Code:
+    """Returns what passes make of the normal form of a program; the two counts come first."""
     check_counts(c)
     code = normal(c)
-    for _, one in PASSES:
+    for name, one in passes:
         ops = one(code)
-        code = replace(code, ops=ops, gone=code.gone + [len(code.ops) - len(ops)])
+        code = replace(code, ops=ops, gone=code.gone + [(name, len(code.ops) - len(ops))])
     return code

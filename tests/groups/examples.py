@@ -19,8 +19,8 @@ from typing import List, Sequence, Union
 from harness import EXAMPLES, TESTS, TOP, Ended, Group, call
 
 ENDINGS = ("check", "refused", "once", "run", "layout")
-# The cells of a row of the table that a measurement or the paper fills.
-FILLED = 3
+# The cells of a row of the table that a measurement fills.
+FILLED = 1
 
 
 @dataclass(frozen=True)
@@ -183,7 +183,7 @@ def table_of_the_page(group: Group) -> None:
         group.check(f"a measured row: {row[0]}", with_speed[:-FILLED] == sizes and has_speed == is_measured, with_speed)
         found = [cells for cells in page if cells[: len(sizes)] == sizes]
         # A cell of the page that was not measured is empty.
-        good = len(found) == 1 and re.fullmatch(f"({is_number})?", found[0][-FILLED]) is not None and found[0][1 - FILLED :] == row[1 - FILLED :]
+        good = len(found) == 1 and re.fullmatch(f"({is_number})?", found[0][-FILLED]) is not None
         group.check(f"a row of examples/README.md: {row[0]}", good, found or sizes)
 
 
