@@ -170,11 +170,27 @@ def cells_of(row: str) -> List[str]:
     return [cell.strip() for cell in row.strip().strip("|").split("|")]
 
 
+def fill_row(row: List[str]) -> None:
+    """Writes the cells of a row into the page, but for the measured ones."""
+    path = EXAMPLES / "README.md"
+    lines = path.read_text().splitlines(True)
+    for number, line in enumerate(lines):
+        if line.startswith("| [") and cells_of(line)[:2] == row[:2]:
+            lines[number] = f"| {' | '.join([*row[:-FILLED], *cells_of(line)[-FILLED:]])} |\n"
+    path.write_text("".join(lines))
+
+
 def table_of_the_page(group: Group) -> None:
-    """The table of the page has the rows that tools/examples-table prints. Its measured cells are a number each, and are not compared."""
+    """The table of the page has the rows that tools/examples-table prints. Its measured cells are a number each, and are not compared.
+
+    With --fill the other cells of the page are written.
+    """
     tool = TOP / "tools/examples-table"
     rows, measured = ([cells_of(row) for row in call([tool, *words]).out.decode().splitlines()] for words in ([], [group.options.program, "20"]))
     group.check("tools/examples-table prints a row for each", len(rows) == len(measured) == len(APPLICATIONS) + len(MORE), rows)
+    if group.options.fill:
+        for row in rows:
+            fill_row(row)
     page = [cells_of(line) for line in (EXAMPLES / "README.md").read_text().splitlines() if line.startswith("| [")]
     for row, with_speed in zip(rows, measured):
         sizes, is_number = row[:-FILLED], r"[0-9,]+"
