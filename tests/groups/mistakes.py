@@ -175,7 +175,7 @@ def check_long(group: Group) -> None:
         started = time.process_time()
         found = explain_all(["check", "p"], lambda _: text.encode())
         spent = time.process_time() - started
-        group.check(f"{name}: the first {MOST}", len(found) == MOST and spent < 6, (len(found), spent))
+        group.check(f"{name}: the first {MOST}", len(found) == MOST and spent < 12, (len(found), spent))
 
 
 def work(group: Group) -> None:

@@ -156,8 +156,9 @@ def one_line(group: Group, name: str, ended: Ended) -> None:
 
 def test_interrupted(group: Group) -> None:
     """An interrupt is one line and exit code 1."""
-    process = subprocess.Popen([TOP / "tools/explain", group.file("w.luc", RETURNS), group.file("w.json", '{"stages":32,"rows":1024,"arrays":64}'), "--nodes",
-                                "--lucid", group.options.program], stdin=subprocess.DEVNULL, stdout=subprocess.PIPE, stderr=subprocess.PIPE)
+    shape = SHAPES["8 matches of 16"]  # takes all its seconds, and little memory
+    files = [group.file(name, text) for name, text in shape.files(shape.size)]
+    process = subprocess.Popen([TOP / "tools/explain", *files, "--nodes", "--lucid", group.options.program], stdin=subprocess.DEVNULL, stdout=subprocess.PIPE, stderr=subprocess.PIPE)
     while not is_deep(process.pid):
         time.sleep(0.05)
     process.send_signal(signal.SIGINT)

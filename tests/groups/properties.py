@@ -106,4 +106,4 @@ def test_by_pytest(group: Group) -> None:
     words = [sys.executable, "-B", "-m", "pytest", "-q", "-p", "no:cacheprovider", "-n", "2", EXAMPLES / "properties/test_nat.py"]
     env = with_variables(LUCID=group.options.program, COPPERFINCH_FAILED=group.room, COPPERFINCH_RUNS=120)
     ended = call(words, cwd=group.room, env=env)
-    group.check("pytest -n 2 examples/properties/test_nat.py", ended.status == 0 and b"6 passed" in ended.out, ended.out.decode()[-800:])
+    group.check("pytest -n 2 examples/properties/test_nat.py", ended.status == 0 and b"6 passed" in ended.out, (ended.out + ended.err).decode()[-800:])

@@ -182,7 +182,7 @@ def test_interrupted(group: Group) -> None:
         time.sleep(5)
         group.check(f"{name}: it runs", child.poll() is None and len(members(child.pid)) >= 1 + len(processes), members(child.pid))
         os.killpg(child.pid, signal.SIGINT)
-        said = child.communicate(timeout=60)[0].decode()
+        said = child.communicate(timeout=300)[0].decode()
         end = time.monotonic() + 10
         while members(child.pid) and time.monotonic() < end:
             time.sleep(0.1)
